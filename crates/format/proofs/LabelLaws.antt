@@ -1,0 +1,91 @@
+-- Laws of the label step: the label's bound, once for all versions, and which dot a label is cut back to. Assumes nothing.
+use Prim.Native.Nat.{ℕ, zero, suc, _+_, _-_, _≤_, _<_}
+use mathlib.Core.Path.{_≡_, refl, sym, ap, _∙_}
+use mathlib.Core.List.{List, [], _∷_, _++_}
+use mathlib.Core.Bool.{Bool, true, false, _&&_}
+use native.Mathlib.Omega.{arith}
+use lib.ListN.{length, getD, take, drop, length-append, length-take}
+use lib.Seq.{getD-take, length-take-le}
+use lib.Dec.{eqb, ltb}
+use borrow.Author.Tests.{ltb-false, eqb-true, eq-eqb}
+use Rattle.format.specs.Bytes.{pick}
+use Rattle.format.specs.Label.{Cut, Kept, keeps, lacks, dots, dotFrom, keptToDot, keptOf, Labelled, tooShort, tooLong, labelled, appended, labelStep, labelLimit}
+use Rattle.format.proofs.Basics.{pick-case, both}
+
+-- ---- the bound
+
+abbrev pub ShortLabelled : Labelled → Type 0
+ShortLabelled tooShort = Unit
+ShortLabelled tooLong = Unit
+ShortLabelled (labelled l) = length l ≤ labelLimit
+
+short-appended : (x : Kept) (l added : List ℕ) → ShortLabelled (appended x l added)
+short-appended (keeps k) l added =
+    pick-case ShortLabelled _ _ _ (λ e. tt) λ e.
+    let z : k + length added ≤ labelLimit = ltb-false _ _ e in
+    simp (length-append, length-take) (omega arith)
+short-appended lacks l added = tt
+
+-- whatever the version and the item, a label that the step gives has at most 4,096 bytes
+pub label-bound : (l : List ℕ) (cut : Cut) (added : List ℕ) → ShortLabelled (labelStep l cut added)
+unfolding labelStep
+label-bound l cut added = short-appended (keptOf l cut) l added
+
+-- ---- the Nth dot from the end
+
+-- of k bytes and then s: j bytes stay, the last of them a dot of s, with n dots from it to the end
+pub record AtDot (n k : ℕ) (s : List ℕ) (j : ℕ) : Type 0 where
+  pub from : k < j
+  pub within : j ≤ k + length s
+  pub dot : getD s (j - (k + 1)) 0 ≡ 46
+  pub nth : dots (drop (j - (k + 1)) s) ≡ n
+
+abbrev pub KeptDot : ℕ → ℕ → List ℕ → Kept → Type 0
+KeptDot n k s (keeps j) = AtDot n k s j
+KeptDot n k s lacks = Unit
+
+dot-here : (n k b : ℕ) (s : List ℕ) → b ≡ 46 → dots s + 1 ≡ n → AtDot n k (b ∷ s) (k + 1)
+unfolding dots pick
+dot-here n k b s e d =
+    let z : k + 1 - (k + 1) ≡ 0 = omega arith in
+    record { from = omega arith; within = omega arith; dot = rw z e; nth = rw (z, eq-eqb b 46 e) d }
+
+dot-further : (n k b : ℕ) (s : List ℕ) (x : Kept) → KeptDot n (k + 1) s x → KeptDot n k (b ∷ s) x
+dot-further n k b s (keeps j) a =
+    let h = a .from in
+    let w = a .within in
+    let z : j - (k + 1) ≡ suc (j - (k + 1 + 1)) = omega arith in
+    record { from = omega arith; within = omega arith; dot = rw z (a .dot); nth = rw z (a .nth) }
+dot-further n k b s lacks a = tt
+
+pub dot-from : (n k : ℕ) (s : List ℕ) → KeptDot n k s (dotFrom n k s)
+unfolding dotFrom
+dot-from n k [] = tt
+dot-from n k (b ∷ s) =
+    let r = dot-further n k b s (dotFrom n (k + 1) s) (dot-from n (k + 1) s) in
+    pick-case (KeptDot n k (b ∷ s)) _ _ _ (λ e. (let p = both (eqb b 46) (eqb (dots s + 1) n) e in dot-here n k b s (eqb-true b 46 (p .0)) (eqb-true (dots s + 1) n (p .1)))) (λ e. r)
+
+-- what 01-0e leave: the bytes up to a dot that is not among the 16 dropped, with N dots from it to the last byte that was not dropped
+pub record AfterSixteen (l : List ℕ) (n j : ℕ) : Type 0 where
+  pub dropped : j + 16 ≤ length l
+  pub dot : getD l (j - 1) 0 ≡ 46
+  pub nth : dots (drop (j - 1) (take (length l - 16) l)) ≡ n
+
+abbrev pub KeptAfterSixteen : List ℕ → ℕ → Kept → Type 0
+KeptAfterSixteen l n (keeps j) = AfterSixteen l n j
+KeptAfterSixteen l n lacks = Unit
+
+after-sixteen : (l : List ℕ) (n : ℕ) (x : Kept) → 16 ≤ length l → KeptDot n 0 (take (length l - 16) l) x → KeptAfterSixteen l n x
+after-sixteen l n (keeps j) h a =
+    let m = length l - 16 in
+    let e : length (take m l) ≡ m = length-take-le m l (omega arith) in
+    let f = a .from in
+    let w = a .within in
+    let z : j - (0 + 1) ≡ j - 1 = omega arith in
+    let d : getD (take m l) (j - 1) 0 ≡ 46 = rw z at (a .dot) in
+    record { dropped = omega arith; dot = sym (getD-take m l (j - 1) 0 (omega arith)) ∙ d; nth = rw z at (a .nth) }
+after-sixteen l n lacks h a = tt
+
+pub kept-to-dot : (l : List ℕ) (n : ℕ) → KeptAfterSixteen l n (keptToDot l n)
+unfolding keptToDot
+kept-to-dot l n = pick-case (KeptAfterSixteen l n) _ _ _ (λ e. tt) λ e. after-sixteen l n (dotFrom n 0 (take (length l - 16) l)) (ltb-false _ _ e) (dot-from n 0 (take (length l - 16) l))

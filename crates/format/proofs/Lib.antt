@@ -1,0 +1,12 @@
+pub mod Basics
+pub mod Cases
+pub mod Edges
+pub mod HeaderLaws
+pub mod IterateLaws
+pub mod LabelLaws
+pub mod ReadingLaws
+pub mod RoundTrip
+pub mod Rows
+pub mod SheetLaws
+pub mod WritingLaws
+pub mod WrittenBytes

@@ -1,0 +1,691 @@
+-- Laws of sheets: the equation of reading records, and that the layout of well-formed records and reading them are each other's
+-- inverse. Assumes nothing.
+use Prim.Native.Nat.{ℕ, zero, suc, _+_, _*_, _/_, _%_, _-_, _≤_, _<_}
+use mathlib.Core.Path.{_≡_, refl, sym, ap, ap₂, _∙_}
+use mathlib.Core.List.{List, [], _∷_, _++_, append-assoc, append-nil}
+use mathlib.Core.Bool.{Bool, true, false, _&&_}
+use native.Mathlib.Nat.{le-refl}
+use native.Mathlib.Omega.{arith}
+use lib.ListN.{length, getD, take, drop, length-append, length-drop, take-append-drop}
+use lib.Seq.{take-add, drop-cons, drop-drop, getD-drop, take-at, drop-at, length-take-le}
+use lib.Dec.{eqb, ltb, leb}
+use borrow.Author.Tests.{eqb-true, ltb-true, leb-true, eq-eqb, ne-eqb, lt-ltb, le-leb, not-true}
+use Rattle.format.specs.Bytes.{pick, be16, be32, toBe16, toBe32}
+use Rattle.format.specs.Header.{Header, lineEnd, endsInReturn, titleLimit, timeLimit}
+use Rattle.format.specs.Label.{labelLimit}
+use Rattle.format.specs.Items.{pointOf, dimensionsOf, traverseOf}
+use Rattle.format.specs.State.{Record, leg, station, section, error}
+use Rattle.format.specs.Sheet.{good, refusal, Result, stop, also, pointBytes, dimensionBytes, traverseBytes, dateBytes, legBody, stationBody, sectionBody, errorBody, recordBody, layout, layoutAll, headerLayout, sheetOf, Entry, flawed, entry, labelFits, labelFrom, goodDate, dateFrom, legEntry, stationEntry, sectionEntry, errorEntry, bodyEntry, framed, entryOf, entryStep, recordsStep, recordsFrom, recordsOf, goodText, headerFrom, goodHeader, goodFront, frontHeader, behindFront, sheetResult, Bytes, GoodPoint, GoodTraverse, GoodDated, GoodStation, GoodSection, WellFormed, AllWellFormed, GoodHeader}
+use Rattle.format.specs.declared.Point.{Point}
+use Rattle.format.specs.declared.Dimensions.{Dimensions}
+use Rattle.format.specs.declared.Traverse.{Traverse}
+use Rattle.format.specs.declared.Dated.{Dated}
+use Rattle.format.specs.declared.Dated.the-variants.{Undated, Day, Range}
+use Rattle.format.proofs.Basics.{pick-case, pick-true, pick-false, both, and-true, be16-to, be32-to}
+use Rattle.format.proofs.IterateLaws.{iter-eq}
+
+-- a label that fits
+fits : (n k : ℕ) → labelFits n k ≡ true → (k ≤ n) × (n ≤ k + labelLimit)
+fits n k e = let f = both _ _ e in (leb-true k n (f .0), leb-true n (k + labelLimit) (f .1))
+
+-- a record that is all there
+frame : (s : List ℕ) → framed s ≡ true → (3 ≤ length s) × (1 ≤ be16 s) × (2 + be16 s ≤ length s)
+unfolding framed
+frame s e =
+    let f = both _ _ e in
+    let g = both _ _ (f .1) in
+    (leb-true _ _ (f .0), leb-true _ _ (g .0), leb-true _ _ (g .1))
+
+-- ---- the size of the record at the front
+
+pub record Size (s : List ℕ) (n : ℕ) : Type 0 where
+  pub least : 3 ≤ n
+  pub inside : n ≤ length s
+  pub whole : n ≡ 2 + be16 s
+  pub most : n ≤ 4130
+
+abbrev pub SizedEntry : List ℕ → Entry → Type 0
+SizedEntry s flawed = Unit
+SizedEntry s (entry n r) = Size s n
+
+module _ (s : List ℕ) (n : ℕ) (t : List ℕ) (least : 1 ≤ n) (inside : 2 + n ≤ length s) (whole : n ≡ be16 s) where
+  size : n ≤ 4128 → Size s (2 + n)
+  size h = record { least = omega arith; inside = inside; whole = omega arith; most = omega arith }
+
+  labelled-size : (k : ℕ) → k ≤ 32 → labelFits n k ≡ true → Size s (2 + n)
+  labelled-size k h e = let z = fits n k e in size (omega arith)
+
+  sized-leg : SizedEntry s (legEntry n t)
+  unfolding legEntry
+  sized-leg = pick-case (SizedEntry s) _ _ _ (λ e. labelled-size 32 (omega arith) (both _ _ e .0)) λ e. tt
+
+  sized-station : SizedEntry s (stationEntry n t)
+  unfolding stationEntry
+  sized-station = pick-case (SizedEntry s) _ _ _ (λ e. labelled-size 14 (omega arith) (both _ _ e .0)) λ e. tt
+
+  sized-section : SizedEntry s (sectionEntry n t)
+  unfolding sectionEntry
+  sized-section = pick-case (SizedEntry s) _ _ _ (λ e. labelled-size 18 (omega arith) (both _ _ e .0)) λ e. tt
+
+  sized-error : SizedEntry s (errorEntry n t)
+  unfolding errorEntry
+  sized-error = pick-case (SizedEntry s) _ _ _ (λ e. let z : n ≡ 21 = eqb-true _ _ e in size (omega arith)) λ e. tt
+
+  sized-body : SizedEntry s (bodyEntry n t)
+  unfolding bodyEntry
+  sized-body =
+      pick-case (SizedEntry s) _ _ _ (λ e. sized-leg) λ e.
+      pick-case (SizedEntry s) _ _ _ (λ e. sized-station) λ e.
+      pick-case (SizedEntry s) _ _ _ (λ e. sized-section) λ e.
+      pick-case (SizedEntry s) _ _ _ (λ e. sized-error) λ e. tt
+
+pub sized-entry : (s : List ℕ) → SizedEntry s (entryOf s)
+unfolding entryOf
+sized-entry s = pick-case (SizedEntry s) _ _ _ (λ e. let f = frame s e in sized-body s (be16 s) (drop 2 s) (f .1) (f .2) refl) λ e. tt
+
+pub entry-sized : (s : List ℕ) {k : ℕ} {r : Record} → entryOf s ≡ entry k r → Size s k
+entry-sized s e = rw e at (sized-entry s)
+
+-- ---- the equation of reading records
+
+entryStep-cong : (s : List ℕ) (it : Entry) → SizedEntry s it → (n : ℕ) (f g : ℕ → ℕ → Result) → ((k m : ℕ) → 0 < k → k ≤ length s → f k m ≡ g k m) → entryStep it n f ≡ entryStep it n g
+entryStep-cong s flawed z n f g h = refl
+entryStep-cong s (entry k r) z n f g h = ap (λ (x : Result). also r x) (h k (n + 1) (omega arith) (z .inside))
+
+recordsStep-cong : (at : ℕ) (s : List ℕ) (n : ℕ) (f g : ℕ → ℕ → Result) → ((k m : ℕ) → 0 < k → k ≤ length s → f k m ≡ g k m) → recordsStep at s n f ≡ recordsStep at s n g
+unfolding recordsStep
+recordsStep-cong at s n f g h = ap (λ (x : Result). pick (eqb (length s) 0) (stop good) x) (entryStep-cong s (entryOf s) (sized-entry s) n f g h)
+
+records-eq : (at : ℕ) (s : List ℕ) (n : ℕ) → recordsFrom at s n ≡ recordsStep at s n (λ k m. recordsFrom (at + k) (drop k s) m)
+unfolding recordsFrom
+records-eq at s n = iter-eq recordsStep (λ p. stop good) recordsStep-cong at s n
+
+pub records-none : (at n : ℕ) → recordsFrom at [] n ≡ stop good
+unfolding recordsStep pick
+records-none at n = records-eq at [] n
+
+pub records-more : (at : ℕ) (s : List ℕ) (n : ℕ) → 0 < length s → recordsFrom at s n ≡ entryStep (entryOf s) n (λ k m. recordsFrom (at + k) (drop k s) m)
+unfolding recordsStep
+records-more at s n h = records-eq at s n ∙ pick-false _ _ (ne-eqb (length s) 0 λ e. omega arith)
+
+-- ---- the lengths of layouts
+
+pub layout-leg : (flags style : ℕ) (date : Dated) (from to : Point) (label : List ℕ) → length (layout (leg flags style date from to label)) ≡ 2 + (32 + length label)
+unfolding layout toBe16 toBe32
+layout-leg flags style Undated from to label = omega arith
+layout-leg flags style (Day d) from to label = omega arith
+layout-leg flags style (Range d e) from to label = omega arith
+
+pub layout-station : (flags : ℕ) (p : Point) (label : List ℕ) → length (layout (station flags p label)) ≡ 2 + (14 + length label)
+unfolding layout toBe16 toBe32
+layout-station flags p label = omega arith
+
+pub layout-section : (last : ℕ) (d : Dimensions) (label : List ℕ) → length (layout (section last d label)) ≡ 2 + (18 + length label)
+unfolding layout toBe16 toBe32
+layout-section last d label = omega arith
+
+pub layout-error : (t : Traverse) → length (layout (error t)) ≡ 23
+unfolding layout toBe16 toBe32
+layout-error t = refl
+
+pub layout-length : (r : Record) → WellFormed r → length (layout r) ≤ 4130
+layout-length (leg flags style date from to label) w = omega (arith, layout-leg flags style date from to label)
+layout-length (station flags p label) w = omega (arith, layout-station flags p label)
+layout-length (section last d label) w = omega (arith, layout-section last d label)
+layout-length (error t) w = omega (arith, layout-error t)
+
+layout-is : (r : Record) → length (layout r) ≡ 2 + length (recordBody r)
+unfolding layout toBe16
+layout-is r = omega arith
+
+body-some : (r : Record) → 1 ≤ length (recordBody r)
+body-some (leg flags style date from to label) = omega arith
+body-some (station flags p label) = omega arith
+body-some (section last d label) = omega arith
+body-some (error t) = omega arith
+
+-- ---- one record, laid out and read
+
+module _ (label rest : List ℕ) (n : ℕ) where
+  label-back : (k : ℕ) → n ≡ k + length label → take (n - k) (label ++ rest) ≡ label
+  label-back k e = let z : n - k ≡ length label = omega arith in rw z (take-at label rest (length label) refl)
+
+  fits-back : (k : ℕ) → n ≡ k + length label → length label ≤ labelLimit → labelFits n k ≡ true
+  fits-back k e h = and-true (le-leb k n (omega arith)) (le-leb n (k + labelLimit) (omega arith))
+
+  leg-back : n ≡ 32 + length label → (flags style kind d e : ℕ) (from to : Point) → flags ≤ 7 → style ≤ 5 → goodDate kind d e ≡ true → d < 65536 → e < 65536 → GoodPoint from → GoodPoint to → length label ≤ labelLimit
+      → legEntry n (1 ∷ flags ∷ style ∷ kind ∷ (toBe16 d ++ (toBe16 e ++ (pointBytes toBe32 from ++ (pointBytes toBe32 to ++ (label ++ rest))))))
+      ≡ entry (2 + n) (leg flags style (dateFrom kind d e) from to label)
+  unfolding legEntry pick toBe16 toBe32
+  leg-back en flags style kind d e from to hf hs hd h1 h2 f g hl =
+      simp (fits-back 32 en hl, le-leb flags 7 hf, le-leb style 5 hs, be16-to, hd, be32-to, f .x-fits, f .y-fits, f .z-fits, g .x-fits, g .y-fits, g .z-fits, label-back 32 en)
+
+  station-back : n ≡ 14 + length label → (flags : ℕ) (p : Point) → GoodStation flags p label → stationEntry n (stationBody flags p label ++ rest) ≡ entry (2 + n) (station flags p label)
+  unfolding stationEntry pick toBe32
+  station-back en flags p w =
+      let g = w .place-fits in
+      simp (fits-back 14 en (w .label-fits), le-leb flags 127 (w .flags-fit), be32-to, g .x-fits, g .y-fits, g .z-fits, label-back 14 en)
+
+  section-back : n ≡ 18 + length label → (last : ℕ) (d : Dimensions) → GoodSection last d label → sectionEntry n (sectionBody last d label ++ rest) ≡ entry (2 + n) (section last d label)
+  unfolding sectionEntry pick toBe32
+  section-back en last d w =
+      let g = w .dimensions-fit in
+      simp (fits-back 18 en (w .label-fits), le-leb last 1 (w .last-fits), be32-to, g .left-fits, g .right-fits, g .up-fits, g .down-fits, label-back 18 en)
+
+error-back : (t : Traverse) (rest : List ℕ) → GoodTraverse t → errorEntry 21 (errorBody t ++ rest) ≡ entry 23 (error t)
+unfolding errorEntry pick toBe32
+error-back t rest g = simp (be32-to, g .legs-fit, g .total-fits, g .e-fits, g .h-fits, g .v-fits)
+
+body-back : (r : Record) → WellFormed r → (rest : List ℕ) (n : ℕ) → n ≡ length (recordBody r) → bodyEntry n (recordBody r ++ rest) ≡ entry (2 + n) r
+unfolding bodyEntry pick goodDate dateFrom toBe16 toBe32
+body-back (leg flags style Undated from to label) w rest n en =
+    leg-back label rest n (omega arith) flags style 0 0 0 from to (w .flags-fit) (w .style-fits) refl (omega arith) (omega arith) (w .from-fits) (w .to-fits) (w .label-fits)
+body-back (leg flags style (Day d) from to label) w rest n en =
+    leg-back label rest n (omega arith) flags style 1 d 0 from to (w .flags-fit) (w .style-fits) refl (w .date-fits) (omega arith) (w .from-fits) (w .to-fits) (w .label-fits)
+body-back (leg flags style (Range d e) from to label) w rest n en =
+    let h = w .date-fits in
+    leg-back label rest n (omega arith) flags style 2 d e from to (w .flags-fit) (w .style-fits) (lt-ltb d e (h .0)) (omega arith) (h .1) (w .from-fits) (w .to-fits) (w .label-fits)
+body-back (station flags p label) w rest n en = station-back label rest n (omega arith) flags p w
+body-back (section last d label) w rest n en = section-back label rest n (omega arith) last d w
+body-back (error t) w rest n en = rw en (error-back t rest w)
+
+-- what is laid out is all there
+is-framed : (s : List ℕ) → 1 ≤ be16 s → 2 + be16 s ≤ length s → framed s ≡ true
+unfolding framed
+is-framed s h1 h2 = and-true (le-leb 3 (length s) (omega arith)) (and-true (le-leb 1 (be16 s) h1) (le-leb (2 + be16 s) (length s) h2))
+
+entry-framed : (s : List ℕ) → 1 ≤ be16 s → 2 + be16 s ≤ length s → entryOf s ≡ bodyEntry (be16 s) (drop 2 s)
+unfolding entryOf
+entry-framed s h1 h2 = pick-true _ _ (is-framed s h1 h2)
+
+-- "A well-formed record keeps the sheet's layout": it is read back
+pub entry-layout : (r : Record) → WellFormed r → (rest : List ℕ) → entryOf (layout r ++ rest) ≡ entry (length (layout r)) r
+unfolding layout toBe16
+entry-layout r w rest =
+    let b = recordBody r in
+    let most = layout-length r w in
+    let some = body-some r in
+    let e : be16 (layout r ++ rest) ≡ length b = be16-to (length b) (b ++ rest) (omega arith) in
+    let l = length-append b rest in
+    entry-framed (layout r ++ rest) (omega arith) (omega arith) ∙ body-back r w rest (be16 (layout r ++ rest)) e ∙ ap (λ (n : ℕ). entry n r) (omega arith)
+
+-- ---- the other way: what is read is what is laid out
+
+-- what is left of bytes is bytes
+pub bytes-drop : (s : List ℕ) → Bytes s → (k : ℕ) → Bytes (drop k s)
+bytes-drop s b k i = rw getD-drop (b (k + i))
+
+module _ (s : List ℕ) (b : Bytes s) where
+  pub be16-fits : be16 s < 65536
+  unfolding be16
+  be16-fits = omega (arith, b 0, b 1)
+
+  pub be32-fits : be32 s < 4294967296
+  unfolding be32
+  be32-fits = omega (arith, b 0, b 1, b 2, b 3)
+
+-- the bytes of the number at the front are those that stand there
+to-be16 : (s : List ℕ) → Bytes s → (m : ℕ) → 2 ≤ length s → toBe16 (be16 s) ++ take m (drop 2 s) ≡ take (2 + m) s
+unfolding be16 toBe16
+to-be16 [] b m h = absurd (omega arith)
+to-be16 (x ∷ []) b m h = absurd (omega arith)
+to-be16 (x ∷ y ∷ s) b m h =
+    let hx : x < 256 = b 0 in
+    let hy : y < 256 = b 1 in
+    let ex : (x * 256 + y) / 256 % 256 ≡ x = omega arith in
+    let ey : (x * 256 + y) % 256 ≡ y = omega arith in
+    rw (take-add 2 m (x ∷ y ∷ s), ex, ey)
+
+to-be32 : (s : List ℕ) → Bytes s → (m : ℕ) → 4 ≤ length s → toBe32 (be32 s) ++ take m (drop 4 s) ≡ take (4 + m) s
+unfolding be32 toBe32
+to-be32 [] b m h = absurd (omega arith)
+to-be32 (x ∷ []) b m h = absurd (omega arith)
+to-be32 (x ∷ y ∷ []) b m h = absurd (omega arith)
+to-be32 (x ∷ y ∷ z ∷ []) b m h = absurd (omega arith)
+to-be32 (x ∷ y ∷ z ∷ w ∷ s) b m h =
+    let hx : x < 256 = b 0 in
+    let hy : y < 256 = b 1 in
+    let hz : z < 256 = b 2 in
+    let hw : w < 256 = b 3 in
+    let ex : (x * 16777216 + y * 65536 + z * 256 + w) / 16777216 % 256 ≡ x = omega arith in
+    let ey : (x * 16777216 + y * 65536 + z * 256 + w) / 65536 % 256 ≡ y = omega arith in
+    let ez : (x * 16777216 + y * 65536 + z * 256 + w) / 256 % 256 ≡ z = omega arith in
+    let ew : (x * 16777216 + y * 65536 + z * 256 + w) % 256 ≡ w = omega arith in
+    rw (take-add 4 m (x ∷ y ∷ z ∷ w ∷ s), ex, ey, ez, ew)
+
+-- the same of what stands k bytes on: a byte, a number, and numbers in a row
+module _ (t : List ℕ) (b : Bytes t) (k m : ℕ) where
+  byte-take : k + 1 ≤ length t → getD t k 0 ∷ take m (drop (k + 1) t) ≡ take (1 + m) (drop k t)
+  byte-take h = rw (take-add 1 m (drop k t), drop-drop 1 k t, drop-cons t k 0 (omega arith))
+
+  be16-take : k + 2 ≤ length t → toBe16 (be16 (drop k t)) ++ take m (drop (k + 2) t) ≡ take (2 + m) (drop k t)
+  be16-take h = rw (← (drop-drop 2 k t)) (to-be16 (drop k t) (bytes-drop t b k) m (simp length-drop (omega arith)))
+
+  be32-take : k + 4 ≤ length t → toBe32 (be32 (drop k t)) ++ take m (drop (k + 4) t) ≡ take (4 + m) (drop k t)
+  be32-take h = rw (← (drop-drop 4 k t)) (to-be32 (drop k t) (bytes-drop t b k) m (simp length-drop (omega arith)))
+
+module _ (u : List ℕ) (b : Bytes u) (m : ℕ) where
+  point-take : 12 ≤ length u → pointBytes toBe32 (pointOf be32 u) ++ take m (drop 12 u) ≡ take (12 + m) u
+  point-take h =
+      let z : 4 + (4 + (4 + m)) ≡ 12 + m = omega arith in
+      simp append-assoc (rw (be32-take u b 8 m (omega arith), be32-take u b 4 (4 + m) (omega arith), be32-take u b 0 (4 + (4 + m)) (omega arith), z))
+
+  dimensions-take : 16 ≤ length u → dimensionBytes toBe32 (dimensionsOf 4 be32 u) ++ take m (drop 16 u) ≡ take (16 + m) u
+  dimensions-take h =
+      let z : 4 + (4 + (4 + (4 + m))) ≡ 16 + m = omega arith in
+      simp append-assoc (rw (be32-take u b 12 m (omega arith), be32-take u b 8 (4 + m) (omega arith), be32-take u b 4 (4 + (4 + m)) (omega arith), be32-take u b 0 (4 + (4 + (4 + m))) (omega arith), z))
+
+  traverse-take : 20 ≤ length u → traverseBytes toBe32 (traverseOf be32 u) ++ take m (drop 20 u) ≡ take (20 + m) u
+  traverse-take h =
+      let z : 4 + (4 + (4 + (4 + (4 + m)))) ≡ 20 + m = omega arith in
+      simp append-assoc (rw (be32-take u b 16 m (omega arith), be32-take u b 12 (4 + m) (omega arith), be32-take u b 8 (4 + (4 + m)) (omega arith), be32-take u b 4 (4 + (4 + (4 + m))) (omega arith), be32-take u b 0 (4 + (4 + (4 + (4 + m)))) (omega arith), z))
+
+-- ---- a record read, by its kind
+
+-- a date is good and has the bytes that it was read from
+abbrev DateRead : ℕ → ℕ → ℕ → Dated → Type 0
+DateRead kind d e x = (dateBytes x ≡ kind ∷ (toBe16 d ++ toBe16 e)) × (d < 65536 → e < 65536 → GoodDated x)
+
+date-cases : (kind d e : ℕ) (a b : Bool) → eqb kind 0 ≡ a → eqb kind 1 ≡ b → pick a (eqb d 0 && eqb e 0) (pick b (eqb e 0) (eqb kind 2 && ltb d e)) ≡ true
+    → DateRead kind d e (pick a Undated (pick b (Day d) (Range d e)))
+unfolding pick
+date-cases kind d e true b ea eb q =
+    let f = both (eqb d 0) (eqb e 0) q in
+    (rw (eqb-true kind 0 ea, eqb-true d 0 (f .0), eqb-true e 0 (f .1)), λ hd he. tt)
+date-cases kind d e false true ea eb q = (rw (eqb-true kind 1 eb, eqb-true e 0 q), λ hd he. hd)
+date-cases kind d e false false ea eb q =
+    let f = both (eqb kind 2) (ltb d e) q in
+    (rw (eqb-true kind 2 (f .0)), λ hd he. (ltb-true d e (f .1), he))
+
+date-read : (kind d e : ℕ) → goodDate kind d e ≡ true → DateRead kind d e (dateFrom kind d e)
+unfolding goodDate dateFrom
+date-read kind d e q = date-cases kind d e (eqb kind 0) (eqb kind 1) refl refl q
+
+-- the bytes of a body t from the kind on, laid out again
+module _ (t : List ℕ) (b : Bytes t) (m : ℕ) where
+  point-from : (k : ℕ) → k + 12 ≤ length t → pointBytes toBe32 (pointOf be32 (drop k t)) ++ take m (drop (k + 12) t) ≡ take (12 + m) (drop k t)
+  point-from k h = rw (drop-drop 12 k t) at (point-take (drop k t) (bytes-drop t b k) m (simp length-drop (omega arith)))
+
+  dimensions-from : (k : ℕ) → k + 16 ≤ length t → dimensionBytes toBe32 (dimensionsOf 4 be32 (drop k t)) ++ take m (drop (k + 16) t) ≡ take (16 + m) (drop k t)
+  dimensions-from k h = rw (drop-drop 16 k t) at (dimensions-take (drop k t) (bytes-drop t b k) m (simp length-drop (omega arith)))
+
+  -- the kind and the byte after it
+  kind-take : (kind : ℕ) → 2 ≤ length t → getD t 0 0 ≡ kind → kind ∷ getD t 1 0 ∷ take m (drop 2 t) ≡ take (2 + m) t
+  kind-take kind h e =
+      let z : 1 + (1 + m) ≡ 2 + m = omega arith in
+      rw (← e, byte-take t b 1 m (omega arith), byte-take t b 0 (1 + m) (omega arith), z)
+
+module _ (t : List ℕ) (b : Bytes t) (n : ℕ) (inside : n ≤ length t) where
+  station-take : 14 ≤ n → getD t 0 0 ≡ 2 → stationBody (getD t 1 0) (pointOf be32 (drop 2 t)) (labelFrom n 14 t) ≡ take n t
+  station-take h e =
+      let z : 2 + (12 + (n - 14)) ≡ n = omega arith in
+      rw (point-from t b (n - 14) 2 (omega arith), kind-take t b (12 + (n - 14)) 2 (omega arith) e, z)
+
+  section-take : 18 ≤ n → getD t 0 0 ≡ 3 → sectionBody (getD t 1 0) (dimensionsOf 4 be32 (drop 2 t)) (labelFrom n 18 t) ≡ take n t
+  section-take h e =
+      let z : 2 + (16 + (n - 18)) ≡ n = omega arith in
+      rw (dimensions-from t b (n - 18) 2 (omega arith), kind-take t b (16 + (n - 18)) 3 (omega arith) e, z)
+
+  error-take : n ≡ 21 → getD t 0 0 ≡ 4 → errorBody (traverseOf be32 (drop 1 t)) ≡ take n t
+  error-take en e =
+      let q : traverseBytes toBe32 (traverseOf be32 (drop 1 t)) ≡ take 20 (drop 1 t) = sym (append-nil _) ∙ traverse-take (drop 1 t) (bytes-drop t b 1) 0 (simp length-drop (omega arith)) in
+      rw (q, ← e, byte-take t b 0 20 (omega arith), en)
+
+  leg-take : 32 ≤ n → getD t 0 0 ≡ 1 → goodDate (getD t 3 0) (be16 (drop 4 t)) (be16 (drop 6 t)) ≡ true
+      → legBody (getD t 1 0) (getD t 2 0) (dateFrom (getD t 3 0) (be16 (drop 4 t)) (be16 (drop 6 t))) (pointOf be32 (drop 8 t)) (pointOf be32 (drop 20 t)) (labelFrom n 32 t) ≡ take n t
+  leg-take h e d =
+      let k = n - 32 in
+      let z : 2 + (1 + (1 + (2 + (2 + (12 + (12 + k)))))) ≡ n = omega arith in
+      rw (
+        date-read (getD t 3 0) (be16 (drop 4 t)) (be16 (drop 6 t)) d .0,
+        append-assoc (toBe16 (be16 (drop 4 t))) (toBe16 (be16 (drop 6 t))) _,
+        point-from t b k 20 (omega arith),
+        point-from t b (12 + k) 8 (omega arith),
+        be16-take t b 6 (12 + (12 + k)) (omega arith),
+        be16-take t b 4 (2 + (12 + (12 + k))) (omega arith),
+        byte-take t b 3 (2 + (2 + (12 + (12 + k)))) (omega arith),
+        byte-take t b 2 (1 + (2 + (2 + (12 + (12 + k))))) (omega arith),
+        kind-take t b (1 + (1 + (2 + (2 + (12 + (12 + k)))))) 1 (omega arith) e,
+        z,
+      )
+
+  -- the label that is read is no longer than a label may be
+  label-short : (k : ℕ) → labelFits n k ≡ true → length (labelFrom n k t) ≤ labelLimit
+  label-short k e =
+      let z = fits n k e in
+      let l : length (labelFrom n k t) ≡ n - k = length-take-le (n - k) (drop k t) (simp length-drop (omega arith)) in
+      omega arith
+
+-- a body of n bytes, read as an entry
+abbrev BodyRead : ℕ → List ℕ → Entry → Type 0
+BodyRead n t flawed = Unit
+BodyRead n t (entry k r) = (k ≡ 2 + n) × (recordBody r ≡ take n t) × WellFormed r
+
+module _ (n : ℕ) (t : List ℕ) (b : Bytes t) (inside : n ≤ length t) where
+  word-fits : (k j : ℕ) → be32 (drop j (drop k t)) < 4294967296
+  word-fits k j = be32-fits (drop j (drop k t)) (bytes-drop (drop k t) (bytes-drop t b k) j)
+
+  point-fits : (k : ℕ) → GoodPoint (pointOf be32 (drop k t))
+  point-fits k = record { x-fits = word-fits k 0; y-fits = word-fits k 4; z-fits = word-fits k 8 }
+
+  leg-read : getD t 0 0 ≡ 1 → BodyRead n t (legEntry n t)
+  unfolding legEntry
+  leg-read e0 =
+      pick-case (BodyRead n t) _ _ _
+      (λ e.
+      let f = both (labelFits n 32) _ e in
+      let g = both (leb (getD t 1 0) 7) _ (f .1) in
+      let h = both (leb (getD t 2 0) 5) _ (g .1) in (
+        refl,
+        leg-take t b n inside (fits n 32 (f .0) .0) e0 (h .1),
+        record {
+          flags-fit = leb-true _ _ (g .0);
+          style-fits = leb-true _ _ (h .0);
+          date-fits = date-read _ _ _ (h .1) .1 (be16-fits _ (bytes-drop t b 4)) (be16-fits _ (bytes-drop t b 6));
+          from-fits = point-fits 8;
+          to-fits = point-fits 20;
+          label-fits = label-short t b n inside 32 (f .0);
+        },
+      ))
+      λ e. tt
+
+  station-read : getD t 0 0 ≡ 2 → BodyRead n t (stationEntry n t)
+  unfolding stationEntry
+  station-read e0 =
+      pick-case (BodyRead n t) _ _ _
+      (λ e.
+      let f = both (labelFits n 14) _ e in
+      (refl, station-take t b n inside (fits n 14 (f .0) .0) e0, record { flags-fit = leb-true _ _ (f .1); place-fits = point-fits 2; label-fits = label-short t b n inside 14 (f .0) }))
+      λ e. tt
+
+  section-read : getD t 0 0 ≡ 3 → BodyRead n t (sectionEntry n t)
+  unfolding sectionEntry
+  section-read e0 =
+      pick-case (BodyRead n t) _ _ _
+      (λ e.
+      let f = both (labelFits n 18) _ e in (
+        refl,
+        section-take t b n inside (fits n 18 (f .0) .0) e0,
+        record {
+          last-fits = leb-true _ _ (f .1);
+          dimensions-fit = record { left-fits = word-fits 2 0; right-fits = word-fits 2 4; up-fits = word-fits 2 8; down-fits = word-fits 2 12 };
+          label-fits = label-short t b n inside 18 (f .0);
+        },
+      ))
+      λ e. tt
+
+  error-read : getD t 0 0 ≡ 4 → BodyRead n t (errorEntry n t)
+  unfolding errorEntry
+  error-read e0 =
+      pick-case (BodyRead n t) _ _ _
+      (λ e. (refl, error-take t b n inside (eqb-true n 21 e) e0, record { legs-fit = word-fits 1 0; total-fits = word-fits 1 4; e-fits = word-fits 1 8; h-fits = word-fits 1 12; v-fits = word-fits 1 16 }))
+      λ e. tt
+
+  body-read : BodyRead n t (bodyEntry n t)
+  unfolding bodyEntry
+  body-read =
+      pick-case (BodyRead n t) _ _ _ (λ e. leg-read (eqb-true (getD t 0 0) 1 e)) λ e.
+      pick-case (BodyRead n t) _ _ _ (λ e. station-read (eqb-true (getD t 0 0) 2 e)) λ e.
+      pick-case (BodyRead n t) _ _ _ (λ e. section-read (eqb-true (getD t 0 0) 3 e)) λ e.
+      pick-case (BodyRead n t) _ _ _ (λ e. error-read (eqb-true (getD t 0 0) 4 e)) λ e. tt
+
+-- the record at the front of s: its bytes are its layout, and it is well-formed
+abbrev pub EntryRead : List ℕ → Entry → Type 0
+EntryRead s flawed = Unit
+EntryRead s (entry k r) = (take k s ≡ layout r) × (k ≡ length (layout r)) × WellFormed r
+
+framed-read : (s : List ℕ) → Bytes s → 2 + be16 s ≤ length s → (it : Entry) → BodyRead (be16 s) (drop 2 s) it → EntryRead s it
+unfolding layout
+framed-read s b h flawed x = tt
+framed-read s b h (entry k r) x =
+    let n = be16 s in
+    let l : length (take n (drop 2 s)) ≡ n = length-take-le n (drop 2 s) (simp length-drop (omega arith)) in
+    let lr : length (recordBody r) ≡ n = ap length (x .1) ∙ l in
+    let e : take k s ≡ layout r = rw (x .0, lr, x .1) (sym (to-be16 s b n (omega arith))) in
+    (e, x .0 ∙ rw (layout-is r, lr), x .2)
+
+pub read-entry : (s : List ℕ) → Bytes s → EntryRead s (entryOf s)
+unfolding entryOf
+read-entry s b =
+    pick-case (EntryRead s) _ _ _
+    (λ e. let f = frame s e in framed-read s b (f .2) (bodyEntry (be16 s) (drop 2 s)) (body-read (be16 s) (drop 2 s) (bytes-drop s b 2) (simp length-drop (omega arith))))
+    λ e. tt
+
+pub entry-read : (s : List ℕ) → Bytes s → {k : ℕ} {r : Record} → entryOf s ≡ entry k r → (take k s ≡ layout r) × (k ≡ length (layout r)) × WellFormed r
+entry-read s b e = rw e at (read-entry s b)
+
+-- ---- all the records of a list of bytes
+
+layout-some : (r : Record) → 3 ≤ length (layout r)
+layout-some r = omega (arith, layout-is r, body-some r)
+
+layout-from : (rs : List Record) → AllWellFormed rs → (at n : ℕ) → recordsFrom at (layoutAll rs) n ≡ record { records = rs; verdict = good }
+unfolding layoutAll
+layout-from [] w at n = records-none at n
+layout-from (r ∷ rs) w at n =
+    let k = length (layout r) in
+    let h : 0 < length (layout r ++ layoutAll rs) = omega (arith, layout-some r, length-append (layout r) (layoutAll rs)) in
+    records-more at (layout r ++ layoutAll rs) n h
+    ∙ rw (entry-layout r (w .0) (layoutAll rs), drop-at (layout r) (layoutAll rs) k refl, layout-from rs (w .1) (at + k) (n + 1))
+
+pub layout-records : (rs : List Record) → AllWellFormed rs → recordsOf (layoutAll rs) ≡ record { records = rs; verdict = good }
+unfolding recordsOf
+layout-records rs w = layout-from rs w 0 0
+
+-- what is read from s is well-formed, whatever the verdict; and s is its layout where the verdict is good
+pub record RecordsRead (s : List ℕ) (x : Result) : Type 0 where
+  pub formed : AllWellFormed (x .records)
+  pub laid : x .verdict ≡ good → layoutAll (x .records) ≡ s
+
+step-read : (s : List ℕ) (it : Entry) → EntryRead s it → (n : ℕ) (go : ℕ → ℕ → Result) → ((k m : ℕ) → 0 < k → RecordsRead (drop k s) (go k m)) → RecordsRead s (entryStep it n go)
+unfolding layoutAll
+step-read s flawed x n go h = record { formed = tt; laid = λ e. cc }
+step-read s (entry k r) x n go h =
+    let g = h k (n + 1) (omega (arith, x .1, layout-some r)) in
+    record { formed = (x .2, g .formed); laid = λ e. rw (← (x .0), g .laid e) (take-append-drop k s) }
+
+read-list : (at : ℕ) (s : List ℕ) (n : ℕ) → Bytes s → ((k m : ℕ) → 0 < k → 0 < length s → RecordsRead (drop k s) (recordsFrom (at + k) (drop k s) m)) → RecordsRead s (recordsFrom at s n)
+unfolding layoutAll
+read-list at [] n b h = rw (records-none at n) (record { formed = tt; laid = λ e. refl })
+read-list at (x ∷ s) n b h =
+    rw (records-more at (x ∷ s) n (omega arith))
+    (step-read (x ∷ s) (entryOf (x ∷ s)) (read-entry (x ∷ s) b) n _ λ k m hk. h k m hk (omega arith))
+
+read-from : (f at : ℕ) (s : List ℕ) (n : ℕ) → length s ≤ f → Bytes s → RecordsRead s (recordsFrom at s n)
+read-from zero at s n h b = read-list at s n b λ k m hk hs. absurd (omega arith)
+read-from (suc f) at s n h b = read-list at s n b λ k m hk hs. read-from f (at + k) (drop k s) m (simp length-drop (omega arith)) (bytes-drop s b k)
+
+pub records-read : (s : List ℕ) → Bytes s → RecordsRead s (recordsOf s)
+unfolding recordsOf
+records-read s b = read-from (length s) 0 s 0 (le-refl _) b
+
+pub records-formed : (s : List ℕ) → Bytes s → AllWellFormed (recordsOf s .records)
+records-formed s b = records-read s b .formed
+
+pub records-layout : (s : List ℕ) → Bytes s → (rs : List Record) → recordsOf s ≡ record { records = rs; verdict = good } → (layoutAll rs ≡ s) × AllWellFormed rs
+records-layout s b rs e = let x = rw e at (records-read s b) in (x .laid refl, x .formed)
+
+-- ---- a sheet: its version byte, its header, its records
+
+-- a text that keeps the header's rules
+pub record GoodText (limit : ℕ) (l : List ℕ) : Type 0 where
+  pub no-linefeed : lineEnd l ≡ length l
+  pub short : length l ≤ limit
+  pub no-return : endsInReturn l ≡ false
+
+pub text-good : (limit : ℕ) (l : List ℕ) → goodText limit l ≡ true → GoodText limit l
+unfolding goodText
+text-good limit l e =
+    let f = both (eqb (lineEnd l) (length l)) _ e in
+    let g = both (leb (length l) limit) _ (f .1) in
+    record { no-linefeed = eqb-true (lineEnd l) (length l) (f .0); short = leb-true (length l) limit (g .0); no-return = not-true (endsInReturn l) (g .1) }
+
+pub good-text : (limit : ℕ) (l : List ℕ) → GoodText limit l → goodText limit l ≡ true
+unfolding goodText
+good-text limit l g = and-true (eq-eqb (lineEnd l) (length l) (g .no-linefeed)) (and-true (le-leb (length l) limit (g .short)) (rw (g .no-return)))
+
+pub header-length : (h : Header) → length (headerLayout h) ≡ 6 + length (h .title) + length (h .time)
+unfolding headerLayout toBe16
+header-length h = omega (arith, length-append (h .title) (h .time))
+
+module _ (h : Header) (g : GoodHeader h) where
+  pub title-short : length (h .title) ≤ 4096
+  title-short = text-good titleLimit (h .title) (g .title-good) .short
+
+  pub time-short : length (h .time) ≤ 64
+  time-short = text-good timeLimit (h .time) (g .time-good) .short
+
+  pub header-most : length (headerLayout h) ≤ 4166
+  header-most = omega (arith, header-length h, title-short, time-short)
+
+  module _ (rest : List ℕ) where
+    -- the header record behind its length
+    abbrev body : List ℕ
+    body = 0 ∷ h .extended ∷ (toBe16 (length (h .title)) ++ (h .title ++ (h .time ++ rest)))
+
+    title-size : be16 (drop 2 body) ≡ length (h .title)
+    title-size = be16-to (length (h .title)) (h .title ++ (h .time ++ rest)) (omega (arith, title-short))
+
+    behind-title : drop (4 + length (h .title)) body ≡ h .time ++ rest
+    unfolding toBe16
+    behind-title = sym (drop-drop (length (h .title)) 4 body) ∙ drop-at (h .title) (h .time ++ rest) (length (h .title)) refl
+
+    header-back : (n : ℕ) → n ≡ 4 + length (h .title) + length (h .time) → headerFrom n body ≡ h
+    unfolding toBe16
+    header-back n e =
+        let z : n - (4 + length (h .title)) ≡ length (h .time) = omega arith in
+        let et : take (be16 (drop 2 body)) (drop 4 body) ≡ h .title = rw title-size (take-at (h .title) (h .time ++ rest) (length (h .title)) refl) in
+        let em : take (n - (4 + be16 (drop 2 body))) (drop (4 + be16 (drop 2 body)) body) ≡ h .time = rw (title-size, z, behind-title) (take-at (h .time) rest (length (h .time)) refl) in
+        λ i. record { extended = h .extended; title = et i; time = em i }
+
+    header-good : (n : ℕ) → n ≡ 4 + length (h .title) + length (h .time) → goodHeader n body ≡ true
+    unfolding goodHeader
+    header-good n e =
+        let et = ap (λ (x : Header). goodText titleLimit (x .title)) (header-back n e) ∙ g .title-good in
+        let em = ap (λ (x : Header). goodText timeLimit (x .time)) (header-back n e) ∙ g .time-good in
+        and-true (le-leb (h .extended) 1 (g .extended-fits)) (and-true (le-leb (4 + be16 (drop 2 body)) n (omega (arith, title-size))) (and-true et em))
+
+    abbrev front : List ℕ
+    front = 1 ∷ (headerLayout h ++ rest)
+
+    front-size : be16 (drop 1 front) ≡ 4 + length (h .title) + length (h .time)
+    unfolding headerLayout toBe16
+    front-size =
+        let l = length-append (h .title) (h .time) in
+        be16-to _ _ (omega (arith, title-short, time-short)) ∙ omega arith
+
+    front-body : drop 3 front ≡ body
+    unfolding headerLayout toBe16
+    front-body = rw (append-assoc (h .title) (h .time) rest)
+
+    front-back : frontHeader front ≡ h
+    unfolding frontHeader
+    front-back = rw front-body (header-back (be16 (drop 1 front)) front-size)
+
+    front-good : goodFront front ≡ true
+    unfolding goodFront
+    front-good =
+        let n = be16 (drop 1 front) in
+        let l = length-append (headerLayout h) rest in
+        let f : framed (drop 1 front) ≡ true = is-framed (drop 1 front) (omega (arith, front-size)) (omega (arith, front-size, header-length h)) in
+        let q : goodHeader n (drop 3 front) ≡ true = rw front-body (header-good n front-size) in
+        and-true f (and-true (le-leb 4 n (omega (arith, front-size))) q)
+
+    behind-back : behindFront front ≡ rest
+    unfolding behindFront
+    behind-back = drop-at (1 ∷ headerLayout h) rest (3 + be16 (drop 1 front)) (omega (arith, front-size, header-length h))
+
+pub sheet-records : (h : Header) → GoodHeader h → (rs : List Record) → AllWellFormed rs → (sheetResult (sheetOf h rs) ≡ record { records = rs; verdict = good }) × (frontHeader (sheetOf h rs) ≡ h)
+unfolding sheetResult sheetOf
+sheet-records h g rs w =
+    (pick-true _ _ (front-good h g (layoutAll rs)) ∙ rw (behind-back h g (layoutAll rs)) (layout-records rs w), front-back h g (layoutAll rs))
+
+-- what a good front says
+pub record FrontRead (sheet : List ℕ) : Type 0 where
+  pub laid : 1 ∷ (headerLayout (frontHeader sheet) ++ behindFront sheet) ≡ sheet
+  pub header : GoodHeader (frontHeader sheet)
+
+-- the header record of n bytes t
+module _ (t : List ℕ) (b : Bytes t) (n : ℕ) (inside : n ≤ length t) (least : 4 ≤ n) (q : goodHeader n t ≡ true) where
+  record HeaderRead : Type 0 where
+    kind : getD t 0 0 ≡ 0
+    extended : getD t 1 0 ≤ 1
+    title-inside : 4 + be16 (drop 2 t) ≤ n
+    title : goodText titleLimit (headerFrom n t .title) ≡ true
+    time : goodText timeLimit (headerFrom n t .time) ≡ true
+
+  header-parts : HeaderRead
+  unfolding goodHeader
+  header-parts =
+      let f = both (eqb (getD t 0 0) 0 && leb (getD t 1 0) 1) _ q in
+      let g = both (eqb (getD t 0 0) 0) _ (f .0) in
+      let h = both (leb (4 + be16 (drop 2 t)) n) _ (f .1) in
+      let i = both (goodText titleLimit (headerFrom n t .title)) _ (h .1) in
+      record { kind = eqb-true _ _ (g .0); extended = leb-true _ _ (g .1); title-inside = leb-true _ _ (h .0); title = i .0; time = i .1 }
+
+  texts-are : headerFrom n t .title ++ headerFrom n t .time ≡ take (n - 4) (drop 4 t)
+  texts-are =
+      let k = be16 (drop 2 t) in
+      let z : n - 4 ≡ k + (n - (4 + k)) = omega (arith, header-parts .title-inside) in
+      rw (z, take-add k (n - (4 + k)) (drop 4 t), drop-drop k 4 t)
+
+  title-length : length (headerFrom n t .title) ≡ be16 (drop 2 t)
+  title-length = length-take-le (be16 (drop 2 t)) (drop 4 t) (simp length-drop (omega (arith, header-parts .title-inside)))
+
+  header-bytes : 0 ∷ getD t 1 0 ∷ (toBe16 (length (headerFrom n t .title)) ++ (headerFrom n t .title ++ headerFrom n t .time)) ≡ take n t
+  header-bytes =
+      let z : 2 + (2 + (n - 4)) ≡ n = omega arith in
+      rw (title-length, texts-are, be16-take t b 2 (n - 4) (omega arith), kind-take t b (2 + (n - 4)) 0 (omega arith) (header-parts .kind), z)
+
+pub front-read : (sheet : List ℕ) → Bytes sheet → goodFront sheet ≡ true → FrontRead sheet
+unfolding goodFront frontHeader behindFront headerLayout
+front-read sheet b e =
+    let s = drop 1 sheet in
+    let n = be16 s in
+    let t = drop 3 sheet in
+    let c = both (eqb (getD sheet 0 0) 1) _ e in
+    let d = both (framed s) _ (c .1) in
+    let f = both (leb 4 n) _ (d .1) in
+    let one : getD sheet 0 0 ≡ 1 = eqb-true _ _ (c .0) in
+    let w = frame s (d .0) in
+    let least : 4 ≤ n = leb-true 4 n (f .0) in
+    let ls = length-drop 1 sheet in
+    let lt = length-drop 3 sheet in
+    let inside : n ≤ length t = omega arith in
+    let bt = bytes-drop sheet b 3 in
+    let hr = header-parts t bt n inside least (f .1) in
+    let body = header-bytes t bt n inside least (f .1) in
+    let l : length (take n t) ≡ n = length-take-le n t inside in
+    let es : toBe16 n ++ take n t ≡ take (2 + n) s = rw (drop-drop 2 1 sheet) at (to-be16 s (bytes-drop sheet b 1) n (omega arith)) in
+    let eh : headerLayout (frontHeader sheet) ≡ take (2 + n) s = ap (λ (x : List ℕ). toBe16 (length x) ++ x) body ∙ rw l es in
+    let z : 1 + (2 + n) ≡ 3 + n = omega arith in
+    let eb : drop (3 + n) sheet ≡ drop (2 + n) s = rw (← z) (sym (drop-drop (2 + n) 1 sheet)) in
+    let ec : sheet ≡ 1 ∷ s = drop-cons sheet 0 0 (omega arith) ∙ ap (λ (x : ℕ). x ∷ s) one in
+    record {
+      laid = ap₂ (λ (x y : List ℕ). 1 ∷ (x ++ y)) eh eb ∙ ap (λ (x : List ℕ). 1 ∷ x) (take-append-drop (2 + n) s) ∙ sym ec;
+      header = record { extended-fits = hr .extended; title-good = hr .title; time-good = hr .time };
+    }
+
+abbrev SheetRead : List ℕ → List Record → Result → Type 0
+SheetRead sheet rs x = x ≡ record { records = rs; verdict = good } → (sheetOf (frontHeader sheet) rs ≡ sheet) × GoodHeader (frontHeader sheet) × AllWellFormed rs
+
+pub bytes-behind : (sheet : List ℕ) → Bytes sheet → Bytes (behindFront sheet)
+unfolding behindFront
+bytes-behind sheet b = bytes-drop sheet b (3 + be16 (drop 1 sheet))
+
+pub records-sheet : (sheet : List ℕ) → Bytes sheet → (rs : List Record) → sheetResult sheet ≡ record { records = rs; verdict = good }
+    → (sheetOf (frontHeader sheet) rs ≡ sheet) × GoodHeader (frontHeader sheet) × AllWellFormed rs
+unfolding sheetResult sheetOf
+records-sheet sheet b rs =
+    pick-case (SheetRead sheet rs) (goodFront sheet) _ _
+    (λ e q.
+    let f = front-read sheet b e in
+    let x = records-layout (behindFront sheet) (bytes-behind sheet b) rs q in
+    (rw (x .0) (f .laid), f .header, x .1))
+    λ e q. let v : refusal 12 0 ≡ good = ap (λ (x : Result). x .verdict) q in absurd (let z : _≡_ {A = ℕ} 0 1 = cc in omega arith)
+
+-- the records of a sheet are well-formed, whatever the verdict
+pub sheet-formed : (sheet : List ℕ) → Bytes sheet → AllWellFormed (sheetResult sheet .records)
+unfolding sheetResult
+sheet-formed sheet b =
+    pick-case (λ (x : Result). AllWellFormed (x .records)) (goodFront sheet) _ _ (λ e. records-read (behindFront sheet) (bytes-behind sheet b) .formed) λ e. tt

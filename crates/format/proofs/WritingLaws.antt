@@ -1,0 +1,550 @@
+-- Laws of writing: any writer's codes of records in a row, and for v8 `codes-read`: from any state, reading the codes of a record makes
+-- exactly that record, leaves the state that writing leaves, and goes on at what follows. Assumes nothing.
+use Prim.Native.Nat.{ℕ, zero, suc, _+_, _-_, _*_, _/_, _%_, _≤_, _<_}
+use mathlib.Core.Path.{_≡_, refl, sym, ap, ap₂, _∙_, subst}
+use mathlib.Core.List.{List, [], _∷_, _++_, append-assoc, append-nil}
+use mathlib.Core.Bool.{Bool, true, false, _&&_, _||_, not}
+use native.Mathlib.Nat.{add-zero, add-assoc}
+use native.Mathlib.Omega.{arith}
+use lib.ListN.{length, getD, take, drop, length-append, length-take, length-drop, take-append-drop}
+use lib.Seq.{take-at, drop-at, take-append-seam, drop-append-seam, drop-append-add, drop-length}
+use lib.Dec.{eqb, ltb, leb}
+use borrow.Author.Tests.{ltb-true, ltb-false, leb-true, leb-false, eqb-true, eqb-false, lt-ltb, le-ltb, le-leb, lt-leb, eq-eqb, ne-eqb, not-false}
+use Rattle.format.specs.Bytes.{pick, same, le16, le32, toLe16, toLe32, widened}
+use Rattle.format.specs.Label.{Cut, back, Kept, keeps, lacks, keptOf, Labelled, labelled, appended, labelStep, labelLimit}
+use Rattle.format.specs.Items.{pointOf, dimensionsOf, traverseOf, Item, Style, Move, NoDate, Date, Error, Xsect, Station, Line, Decoded, faulty, whole, sized, Part, unfinished, part, lengthSize, lengthValue, longPart, newPart, withPart, behindCode, labelledItem, stationItem, lineItem, sectionItem, moveItem, errorItem, dayItem, spanItem, daysItem, newDateItem, newLowItem, newHighItem, itemOf}
+use Rattle.format.specs.State.{State, start, Record, leg, station, section, error, named, styled, datedBy, moved, Next, bad, end, on, made, dateOf, badDates, onLabel, legFrom, apply, nextOf}
+use Rattle.format.specs.Sheet.{Verdict, good, refusal, Result, stop, also, pointBytes, dimensionBytes, traverseBytes, GoodPoint, GoodDimensions, GoodTraverse, GoodDated, GoodLeg, GoodStation, GoodSection, WellFormed, AllWellFormed}
+use Rattle.format.specs.Reading.{next, ended, afterItem, run}
+use Rattle.format.specs.Writing.{codesAll, afterAll, encodeAll, common, lengthCodes, partCodes, labelCodes, keptBytes, sameDate, dateCodes, samePoint, standsAt, styleIf, dateIf, moveIf, lineCodes, stationCodes, fitsShort, allShort, sectionCodes, errorCodes, codes, after, closing, unsayable, styleVerdict}
+use Rattle.format.specs.declared.Point.{Point}
+use Rattle.format.specs.declared.Dimensions.{Dimensions}
+use Rattle.format.specs.declared.Traverse.{Traverse}
+use Rattle.format.specs.declared.Dated.{Dated}
+use Rattle.format.specs.declared.Dated.the-variants.{Undated, Day, Range}
+use Rattle.format.specs.declared.Position.{Position}
+use Rattle.format.specs.declared.Position.the-variants.{Unset, Stands}
+use Rattle.format.proofs.Basics.{pick-case, pick-true, pick-false, both, neither, and-true, or-false, same-true, same-refl, le16-to, le32-to, widened-low, widened-high}
+use Rattle.format.proofs.Rows.{le16-width, le32-width, point-back, traverse-back, wide-dimensions-back, short-dimensions-back}
+use Rattle.format.proofs.ReadingLaws.{run-eq}
+
+-- ---- any writer: records in a row
+
+module _ {S R : Type 0} (f : S → R → List ℕ) (g : S → R → S) where
+  pub codes-append : (xs ys : List R) (st : S) → codesAll f g st (xs ++ ys) ≡ codesAll f g st xs ++ codesAll f g (afterAll f g st xs) ys
+  unfolding codesAll afterAll
+  codes-append [] ys st = refl
+  codes-append (x ∷ xs) ys st = rw (codes-append xs ys (g st x), append-assoc)
+
+  pub after-append : (xs ys : List R) (st : S) → afterAll f g st (xs ++ ys) ≡ afterAll f g (afterAll f g st xs) ys
+  unfolding afterAll
+  after-append [] ys st = refl
+  after-append (x ∷ xs) ys st = after-append xs ys (g st x)
+
+  -- so two lists of records with a common front have files with a common front, and from where they leave the same state on, equal
+  -- records have equal bytes
+  pub encode-append : (close : S → List ℕ) (xs ys : List R) (st : S) → encodeAll f g close st (xs ++ ys) ≡ codesAll f g st xs ++ encodeAll f g close (afterAll f g st xs) ys
+  unfolding encodeAll
+  encode-append close xs ys st = rw (codes-append xs ys st, after-append xs ys st, append-assoc)
+
+-- ---- `common` and `keptBytes`
+
+pub common-le : (l m : List ℕ) → (common l m ≤ length l) × (common l m ≤ length m)
+unfolding common pick
+common-le [] m = (omega arith, omega arith)
+common-le (x ∷ l) [] = (omega arith, omega arith)
+common-le (x ∷ l) (y ∷ m) = go (eqb x y) (common-le l m)
+  where
+    go : (b : Bool) → (common l m ≤ length l) × (common l m ≤ length m) → (pick b (suc (common l m)) 0 ≤ suc (length l)) × (pick b (suc (common l m)) 0 ≤ suc (length m))
+    go true h = (omega arith, omega arith)
+    go false h = (omega arith, omega arith)
+
+pub common-take : (l m : List ℕ) → take (common l m) l ≡ take (common l m) m
+unfolding common pick
+common-take [] m = refl
+common-take (x ∷ l) [] = refl
+common-take (x ∷ l) (y ∷ m) = go (eqb x y) refl (common-take l m)
+  where
+    go : (b : Bool) → eqb x y ≡ b → take (common l m) l ≡ take (common l m) m → take (pick b (suc (common l m)) 0) (x ∷ l) ≡ take (pick b (suc (common l m)) 0) (y ∷ m)
+    go true e h = ap₂ (λ (a : ℕ) (t : List ℕ). a ∷ t) (eqb-true x y e) h
+    go false e h = refl
+
+-- k bytes that two labels share at the front
+pub record Shares (l m : List ℕ) (k : ℕ) : Type 0 where
+  pub first : k ≤ length l
+  pub second : k ≤ length m
+  pub equal : take k l ≡ take k m
+
+pub common-shares : (l m : List ℕ) → Shares l m (common l m)
+common-shares l m = record { first = common-le l m .0; second = common-le l m .1; equal = common-take l m }
+
+same-shares : (l m : List ℕ) (k : ℕ) → l ≡ m → k ≤ length l → Shares l m k
+same-shares l m k e h = record { first = h; second = let z = ap length e in omega arith; equal = rw e }
+
+pub kept-shares : (l m : List ℕ) → Shares l m (keptBytes l m)
+unfolding keptBytes
+kept-shares l m = pick-case (Shares l m) _ _ _ (λ e. same-shares l m _ (same-true l m e) (omega arith)) (λ e. common-shares l m)
+
+-- "a station or section with the same non-empty label drops and appends its last byte (D = A = 1)": 0x11 and that byte
+pub equal-label : (l : List ℕ) (b : ℕ) → labelCodes (l ++ (b ∷ [])) (l ++ (b ∷ [])) (keptBytes (l ++ (b ∷ [])) (l ++ (b ∷ []))) ≡ 17 ∷ b ∷ []
+unfolding labelCodes keptBytes partCodes pick
+equal-label l b =
+    let m = l ++ (b ∷ []) in
+    let n : length m ≡ length l + 1 = length-append l (b ∷ []) in
+    let k : length m - 1 ≡ length l = omega arith in
+    let d : length m - length l ≡ 1 = omega arith in
+    simp (same-refl m, k, d, drop-append-seam l (b ∷ []))
+
+-- ---- label parts
+
+length-size : (n : ℕ) (rest : List ℕ) → lengthSize (lengthCodes n ++ rest) ≡ length (lengthCodes n)
+unfolding lengthSize lengthCodes toLe32 pick
+length-size n rest = go (ltb n 255) refl
+  where
+    go : (b : Bool) → ltb n 255 ≡ b → lengthSize (pick b (n ∷ []) (255 ∷ toLe32 n) ++ rest) ≡ length (pick b (n ∷ []) (255 ∷ toLe32 n))
+    go true e = simp (e, le-ltb (suc (length rest)) 1 (omega arith))
+    go false e = simp (le-ltb (suc (suc (suc (suc (suc (length rest)))))) 1 (omega arith), le-ltb (suc (suc (suc (suc (suc (length rest)))))) 5 (omega arith))
+
+length-value : (n : ℕ) (rest : List ℕ) → n < 4294967296 → lengthValue (lengthCodes n ++ rest) ≡ n
+unfolding lengthValue lengthCodes pick
+length-value n rest h = go (ltb n 255) refl
+  where
+    go : (b : Bool) → ltb n 255 ≡ b → lengthValue (pick b (n ∷ []) (255 ∷ toLe32 n) ++ rest) ≡ n
+    go true e = simp e
+    go false e = le32-to n rest h
+
+pub length-codes : (n : ℕ) → (1 ≤ length (lengthCodes n)) × (length (lengthCodes n) ≤ 5)
+unfolding lengthCodes toLe32
+length-codes n = pick-case (λ (x : List ℕ). (1 ≤ length x) × (length x ≤ 5)) _ _ _ (λ e. (omega arith, omega arith)) (λ e. (omega arith, omega arith))
+
+long-read : (d a : ℕ) (rest : List ℕ) → d < 4294967296 → a < 4294967296
+    → longPart (0 ∷ (lengthCodes d ++ (lengthCodes a ++ rest))) ≡ part (length (0 ∷ (lengthCodes d ++ lengthCodes a))) d a
+unfolding longPart pick
+long-read d a rest hd ha =
+    let D = lengthCodes d in
+    let A = lengthCodes a in
+    let z : 1 + length D ≡ suc (length D) = omega arith in
+    let e : drop (1 + length D) (0 ∷ (D ++ (A ++ rest))) ≡ A ++ rest = rw z (drop-append-seam D (A ++ rest)) in
+    let n : 1 + length D + length A ≡ suc (length (D ++ A)) = simp length-append (omega arith) in
+    let x : length D ≡ 0 → ⊥ = λ q. omega (arith, length-codes d) in
+    let y : length A ≡ 0 → ⊥ = λ q. omega (arith, length-codes a) in
+    simp (length-size d (A ++ rest), e, length-size a rest, ne-eqb _ _ x, ne-eqb _ _ y, length-value d (A ++ rest) hd, length-value a rest ha, n)
+
+either-positive : (d a : ℕ) → (ltb 0 d || ltb 0 a) ≡ true → 0 < d + a
+either-positive d a e = go (ltb 0 d) refl e
+  where
+    go : (b : Bool) → ltb 0 d ≡ b → (b || ltb 0 a) ≡ true → 0 < d + a
+    go true q e = omega (arith, ltb-true 0 d q)
+    go false q e = omega (arith, ltb-true 0 a e)
+
+-- the numbers of a label part are read back
+pub part-read : (d a : ℕ) (rest : List ℕ) → d < 4294967296 → a < 4294967296 → newPart (partCodes d a ++ rest) ≡ part (length (partCodes d a)) d a
+unfolding newPart partCodes pick
+part-read d a rest hd ha = go ((leb d 15 && leb a 15) && (ltb 0 d || ltb 0 a)) refl
+  where
+    go : (b : Bool) → ((leb d 15 && leb a 15) && (ltb 0 d || ltb 0 a)) ≡ b
+        → newPart (pick b ((16 * d + a) ∷ []) (0 ∷ (lengthCodes d ++ lengthCodes a)) ++ rest) ≡ part (length (pick b ((16 * d + a) ∷ []) (0 ∷ (lengthCodes d ++ lengthCodes a)))) d a
+    go true e =
+        let p = both (leb d 15 && leb a 15) (ltb 0 d || ltb 0 a) e in
+        let q = both (leb d 15) (leb a 15) (p .0) in
+        let ha : a ≤ 15 = leb-true a 15 (q .1) in
+        let x : 16 * d + a ≡ 0 → ⊥ = λ r. omega (arith, either-positive d a (p .1)) in
+        let ed : (16 * d + a) / 16 ≡ d = omega arith in
+        let ea : (16 * d + a) % 16 ≡ a = omega arith in
+        simp (le-ltb (suc (length rest)) 1 (omega arith), ne-eqb _ _ x, ed, ea)
+    go false e =
+        rw (append-assoc (lengthCodes d) (lengthCodes a) rest, le-ltb (suc (length (lengthCodes d ++ (lengthCodes a ++ rest)))) 1 (omega arith))
+        (long-read d a rest hd ha)
+
+-- ---- an item with a label
+
+-- the label step undoes the label part
+pub label-read : (l m : List ℕ) (k : ℕ) → Shares l m k → length m ≤ labelLimit → labelStep l (back (length l - k)) (drop k m) ≡ labelled m
+unfolding labelStep pick
+label-read l m k s h =
+    let f = s .first in
+    let g = s .second in
+    let a : length l - k ≤ length l = omega arith in
+    let b : length l - (length l - k) ≡ k = omega arith in
+    let c : k + length (drop k m) ≡ length m = simp length-drop (omega arith) in
+    let e : take k l ++ drop k m ≡ m = ap (λ (x : List ℕ). x ++ drop k m) (s .equal) ∙ take-append-drop k m in
+    simp (le-ltb _ _ a, b, c, le-ltb labelLimit (length m) h, e)
+
+-- no label bytes and no change
+label-same : (l : List ℕ) → length l ≤ labelLimit → labelStep l (back 0) [] ≡ labelled l
+label-same l h =
+    let z : length l - length l ≡ 0 = omega arith in
+    rw (z, drop-length) at (label-read l l (length l) (record { first = omega arith; second = omega arith; equal = refl }) h)
+
+-- the label part of k bytes kept, then n bytes or more: what the item is made of
+labelled-read : (l m : List ℕ) (k : ℕ) (tail : List ℕ) (n : ℕ) (make : ℕ → List ℕ → List ℕ → Item) → length l ≤ labelLimit → length m ≤ labelLimit → n ≤ length tail
+    → labelledItem (newPart (labelCodes l m k ++ tail)) (labelCodes l m k ++ tail) n make ≡ whole (1 + (length (labelCodes l m k) + n)) (make (length l - k) (drop k m) tail)
+unfolding labelledItem labelCodes sized pick
+labelled-read l m k tail n make hl hm hn =
+    let D = length l - k in
+    let A = length m - k in
+    let P = partCodes D A in
+    let a : length (drop k m) ≡ A = length-drop k m in
+    let e0 : (P ++ drop k m) ++ tail ≡ P ++ (drop k m ++ tail) = append-assoc P (drop k m) tail in
+    let e1 : newPart (P ++ (drop k m ++ tail)) ≡ part (length P) D A = part-read D A (drop k m ++ tail) (omega arith) (omega arith) in
+    let e2 : drop (length P) (P ++ (drop k m ++ tail)) ≡ drop k m ++ tail = drop-append-seam P (drop k m ++ tail) in
+    let e3 : take A (drop k m ++ tail) ≡ drop k m = take-at (drop k m) tail A a in
+    let e4 : drop (length P + A) (P ++ (drop k m ++ tail)) ≡ tail = drop-append-add P (drop k m ++ tail) A ∙ drop-at (drop k m) tail A a in
+    let z : length P + A + n ≡ length (P ++ drop k m) + n = simp (length-append, a) in
+    let h : length (P ++ drop k m) + n ≤ length (P ++ (drop k m ++ tail)) = simp (length-append, a) (omega arith) in
+    rw (e0, e1) (simp (e2, e3, e4, z, le-ltb _ _ h))
+
+-- ---- which item a code of v8 is
+
+module _ (c : ℕ) (t : List ℕ) where
+  there : ltb (suc (length t)) 1 ≡ false
+  there = le-ltb (suc (length t)) 1 (omega arith)
+
+  code-station : 128 ≤ c → itemOf 8 (c ∷ t) ≡ stationItem (c - 128) (newPart t) t
+  unfolding itemOf newHighItem pick
+  code-station h =
+      simp (there, le-ltb c 48 (omega arith), le-ltb c 52 (omega arith), le-ltb c 64 (omega arith), le-ltb c 72 (omega arith), le-ltb c 96 (omega arith), le-ltb c 104 (omega arith), le-ltb c 128 (omega arith))
+
+  code-line : 64 ≤ c → c < 72 → itemOf 8 (c ∷ t) ≡ lineItem (c - 64) (newPart t) t
+  unfolding itemOf newHighItem pick
+  code-line h k = simp (there, le-ltb c 48 (omega arith), le-ltb c 52 (omega arith), le-ltb c 64 (omega arith), lt-ltb c 72 k)
+
+  code-same-line : 96 ≤ c → c < 104 → itemOf 8 (c ∷ t) ≡ lineItem (c - 96) (part 0 0 0) t
+  unfolding itemOf newHighItem pick
+  code-same-line h k =
+      simp (there, le-ltb c 48 (omega arith), le-ltb c 52 (omega arith), le-ltb c 64 (omega arith), le-ltb c 72 (omega arith), le-ltb c 96 (omega arith), lt-ltb c 104 k)
+
+  code-section : 48 ≤ c → c < 52 → itemOf 8 (c ∷ t) ≡ sectionItem c (newPart t) t
+  unfolding itemOf newHighItem pick
+  code-section h k = simp (there, le-ltb c 48 (omega arith), lt-ltb c 52 k)
+
+  code-style : c < 5 → itemOf 8 (c ∷ t) ≡ whole 1 (Style c)
+  unfolding itemOf newLowItem pick
+  code-style h = simp (there, lt-ltb c 48 (omega arith), lt-ltb c 5 h)
+
+-- ---- the items that writing makes, with what follows them
+
+module _ (l m : List ℕ) (k : ℕ) (hl : length l ≤ labelLimit) (hm : length m ≤ labelLimit) where
+  -- a code, the label part and n bytes of `fields`
+  abbrev item : ℕ → List ℕ → List ℕ
+  item c fields = c ∷ (labelCodes l m k ++ fields)
+
+  behind : (fields rest : List ℕ) (n : ℕ) (make : ℕ → List ℕ → List ℕ → Item) → length fields ≡ n
+      → labelledItem (newPart ((labelCodes l m k ++ fields) ++ rest)) ((labelCodes l m k ++ fields) ++ rest) n make ≡ whole (suc (length (labelCodes l m k ++ fields))) (make (length l - k) (drop k m) (fields ++ rest))
+  behind fields rest n make e =
+      let z : 1 + (length (labelCodes l m k) + n) ≡ suc (length (labelCodes l m k ++ fields)) = simp length-append (omega arith) in
+      rw append-assoc (labelled-read l m k (fields ++ rest) n make hl hm (simp length-append (omega arith)) ∙ rw z)
+
+  station-item : (flags : ℕ) (p : Point) (rest : List ℕ) → GoodPoint p
+      → itemOf 8 (item (128 + flags) (pointBytes toLe32 p) ++ rest) ≡ whole (length (item (128 + flags) (pointBytes toLe32 p))) (Station flags p (length l - k) (drop k m))
+  unfolding stationItem
+  station-item flags p rest g =
+      let z : 128 + flags - 128 ≡ flags = omega arith in
+      code-station (128 + flags) _ (omega arith)
+      ∙ behind (pointBytes toLe32 p) rest 12 _ (simp (length-append, le32-width))
+      ∙ rw (z, point-back p rest g)
+
+  line-item : (flags : ℕ) (p : Point) (rest : List ℕ) → flags ≤ 7 → GoodPoint p
+      → itemOf 8 (item (64 + flags) (pointBytes toLe32 p) ++ rest) ≡ whole (length (item (64 + flags) (pointBytes toLe32 p))) (Line flags p (length l - k) (drop k m))
+  unfolding lineItem
+  line-item flags p rest h g =
+      let z : 64 + flags - 64 ≡ flags = omega arith in
+      code-line (64 + flags) _ (omega arith) (omega arith)
+      ∙ behind (pointBytes toLe32 p) rest 12 _ (simp (length-append, le32-width))
+      ∙ rw (z, point-back p rest g)
+
+  short-section-item : (last : ℕ) (d : Dimensions) (rest : List ℕ) → last ≤ 1 → GoodDimensions d → allShort d ≡ true
+      → itemOf 8 (item (48 + last) (dimensionBytes toLe16 d) ++ rest) ≡ whole (length (item (48 + last) (dimensionBytes toLe16 d))) (Xsect last d (length l - k) (drop k m))
+  unfolding sectionItem
+  short-section-item last d rest h g e =
+      let z : (48 + last) % 2 ≡ last = omega arith in
+      code-section (48 + last) _ (omega arith) (omega arith)
+      ∙ pick-true _ _ (lt-ltb (48 + last) 50 (omega arith))
+      ∙ behind (dimensionBytes toLe16 d) rest 8 _ (simp (length-append, le16-width))
+      ∙ rw (z, short-dimensions-back d rest g e)
+
+  wide-section-item : (last : ℕ) (d : Dimensions) (rest : List ℕ) → last ≤ 1 → GoodDimensions d
+      → itemOf 8 (item (50 + last) (dimensionBytes toLe32 d) ++ rest) ≡ whole (length (item (50 + last) (dimensionBytes toLe32 d))) (Xsect last d (length l - k) (drop k m))
+  unfolding sectionItem
+  wide-section-item last d rest h g =
+      let z : (50 + last) % 2 ≡ last = omega arith in
+      code-section (50 + last) _ (omega arith) (omega arith)
+      ∙ pick-false _ _ (le-ltb (50 + last) 50 (omega arith))
+      ∙ behind (dimensionBytes toLe32 d) rest 16 _ (simp (length-append, le32-width))
+      ∙ rw (z, wide-dimensions-back d rest g)
+
+-- LINE with 0x20: no label bytes
+same-line-item : (flags : ℕ) (p : Point) (rest : List ℕ) → flags ≤ 7 → GoodPoint p
+    → itemOf 8 ((96 + flags) ∷ (pointBytes toLe32 p ++ rest)) ≡ whole (suc (length (pointBytes toLe32 p))) (Line flags p 0 [])
+unfolding lineItem labelledItem sized pick
+same-line-item flags p rest h g =
+    let z : 96 + flags - 96 ≡ flags = omega arith in
+    let k : 12 ≤ length (pointBytes toLe32 p ++ rest) = simp (length-append, le32-width) (omega arith) in
+    let n : suc (length (pointBytes toLe32 p)) ≡ 13 = simp (length-append, le32-width) in
+    code-same-line (96 + flags) (pointBytes toLe32 p ++ rest) (omega arith) (omega arith)
+    ∙ simp (z, le-ltb _ _ k, point-back p rest g, n)
+
+-- ---- reading goes on behind an item
+
+module _ (at : ℕ) (item rest : List ℕ) (st : State) where
+  pub run-on : (st′ : State) → next 8 (item ++ rest) st ≡ on (length item) st′ → run 8 at (item ++ rest) st ≡ run 8 (at + length item) rest st′
+  run-on st′ e = run-eq 8 at (item ++ rest) st ∙ rw (e, drop-append-seam item rest)
+
+  pub run-made : (r : Record) (st′ : State) → next 8 (item ++ rest) st ≡ made (length item) r st′
+      → run 8 at (item ++ rest) st ≡ also r (run 8 (at + length item) rest st′)
+  run-made r st′ e = run-eq 8 at (item ++ rest) st ∙ rw (e, drop-append-seam item rest)
+
+-- ---- the parts of a leg's codes
+
+-- a code that is written only where a part of the state differs from x: either way the state then has x
+module _ {X : Type 0} (now : State → X) (set : X → State → State) (again : (st : State) → set (now st) st ≡ st) where
+  written-if : (st : State) (x : X) (test : Bool) (code rest : List ℕ) (at : ℕ) → (test ≡ true → now st ≡ x)
+      → (test ≡ false → next 8 (code ++ rest) st ≡ on (length code) (set x st))
+      → run 8 at (pick test [] code ++ rest) st ≡ run 8 (at + length (pick test [] code)) rest (set x st)
+  unfolding pick
+  written-if st x true code rest at f g =
+      let z : at + 0 ≡ at = add-zero at in
+      ap (run 8 at rest) (sym (again st) ∙ ap (λ (y : X). set y st) (f refl)) ∙ rw z
+  written-if st x false code rest at f g = run-on at code rest st (set x st) (g refl)
+
+not-both-normal : (a b : ℕ) → (b ≡ a → ⊥) → (eqb a 0 && eqb b 0) ≡ false
+not-both-normal a b d = go (eqb a 0) (eqb b 0) refl refl
+  where
+    go : (x y : Bool) → eqb a 0 ≡ x → eqb b 0 ≡ y → (x && y) ≡ false
+    go true true p q = absurd (d (eqb-true b 0 q ∙ sym (eqb-true a 0 p)))
+    go true false p q = refl
+    go false y p q = refl
+
+style-next : (st : State) (style : ℕ) (rest : List ℕ) → style ≤ 5 → (eqb style 5 && not (eqb (st .style) 5)) ≡ false → eqb (st .style) style ≡ false
+    → next 8 (style ∷ rest) st ≡ on 1 (styled style st)
+unfolding next pick
+style-next st style rest h u e =
+    let d = eqb-false (st .style) style e in
+    let k : style ≡ 5 → ⊥ = λ q. (let u′ : not (eqb (st .style) 5) ≡ false = simp (eq-eqb style 5 q) at u in d (eqb-true (st .style) 5 (not-false (eqb (st .style) 5) u′) ∙ sym q)) in
+    simp (code-style style rest (omega arith), not-both-normal style (st .style) d)
+
+style-read : (st : State) (style : ℕ) (rest : List ℕ) (at : ℕ) → style ≤ 5 → (eqb style 5 && not (eqb (st .style) 5)) ≡ false
+    → run 8 at (styleIf st style ++ rest) st ≡ run 8 (at + length (styleIf st style)) rest (styled style st)
+unfolding styleIf
+style-read st style rest at h u =
+    written-if (λ s. s .style) styled (λ s. refl) st style _ (style ∷ []) rest at (eqb-true (st .style) style) (style-next st style rest h u)
+
+same-date : (d e : Dated) → sameDate d e ≡ true → d ≡ e
+unfolding sameDate
+same-date Undated Undated t = refl
+same-date Undated (Day d) t = cc
+same-date Undated (Range d e) t = cc
+same-date (Day c) Undated t = cc
+same-date (Day c) (Day d) t = ap Day (eqb-true c d t)
+same-date (Day c) (Range d e) t = cc
+same-date (Range b c) Undated t = cc
+same-date (Range b c) (Day d) t = cc
+same-date (Range b c) (Range d e) t = let p = both (eqb b d) (eqb c e) t in ap₂ Range (eqb-true b d (p .0)) (eqb-true c e (p .1))
+
+module _ (st : State) (rest : List ℕ) where
+  no-date-next : next 8 (16 ∷ rest) st ≡ on 1 (datedBy Undated st)
+  unfolding next itemOf newLowItem newDateItem pick
+  no-date-next = simp (there 16 rest)
+
+  day-next : (d : ℕ) → d < 65536 → next 8 (17 ∷ (toLe16 d ++ rest)) st ≡ on 3 (datedBy (Day d) st)
+  unfolding next itemOf newLowItem newDateItem dayItem sized badDates dateOf toLe16 pick
+  day-next d h =
+      let e : le16 (toLe16 d ++ rest) ≡ d = le16-to d rest h in
+      let k : 3 ≤ suc (suc (suc (length rest))) = omega arith in
+      simp (there 17 (0 ∷ 0 ∷ rest), le-ltb _ _ k, e, le-ltb d d (omega arith), le-ltb 65535 d (omega arith), eq-eqb d d refl)
+
+  span-next : (d e : ℕ) → d < e → e < 65536 → next 8 (18 ∷ ((toLe16 d ++ (e - d) ∷ []) ++ rest)) st ≡ on 4 (datedBy (Range d e) st)
+  unfolding next itemOf newLowItem newDateItem spanItem sized badDates dateOf toLe16 pick
+  span-next d e h0 h1 =
+      let f : le16 (toLe16 d ++ ((e - d) ∷ rest)) ≡ d = le16-to d ((e - d) ∷ rest) (omega arith) in
+      let k : 4 ≤ suc (suc (suc (suc (length rest)))) = omega arith in
+      let z : d + (e - d) ≡ e = omega arith in
+      let x : d ≡ e → ⊥ = λ q. omega arith in
+      simp (there 18 (0 ∷ 0 ∷ 0 ∷ rest), le-ltb _ _ k, f, z, le-ltb e d (omega arith), le-ltb 65535 e (omega arith), ne-eqb d e x)
+
+  days-next : (d e : ℕ) → d < e → e < 65536 → next 8 (19 ∷ ((toLe16 d ++ toLe16 e) ++ rest)) st ≡ on 5 (datedBy (Range d e) st)
+  unfolding next itemOf newLowItem newDateItem daysItem sized badDates dateOf toLe16 pick
+  days-next d e h0 h1 =
+      let f : le16 (toLe16 d ++ (toLe16 e ++ rest)) ≡ d = le16-to d (toLe16 e ++ rest) (omega arith) in
+      let g : le16 (toLe16 e ++ rest) ≡ e = le16-to e rest h1 in
+      let k : 5 ≤ suc (suc (suc (suc (suc (length rest))))) = omega arith in
+      let x : d ≡ e → ⊥ = λ q. omega arith in
+      simp (there 19 (0 ∷ 0 ∷ 0 ∷ 0 ∷ rest), le-ltb _ _ k, f, g, le-ltb e d (omega arith), le-ltb 65535 e (omega arith), ne-eqb d e x)
+
+  -- the codes of a date are read back as that date
+  date-next : (date : Dated) → GoodDated date → next 8 (dateCodes date ++ rest) st ≡ on (length (dateCodes date)) (datedBy date st)
+  unfolding toLe16
+  date-next Undated g = no-date-next
+  date-next (Day d) g = day-next d g
+  date-next (Range d e) g =
+      pick-case (λ (x : List ℕ). next 8 (x ++ rest) st ≡ on (length x) (datedBy (Range d e) st)) _ _ _ (λ q. span-next d e (g .0) (g .1)) (λ q. days-next d e (g .0) (g .1))
+
+  move-next : (p : Point) → GoodPoint p → next 8 (15 ∷ (pointBytes toLe32 p ++ rest)) st ≡ on 13 (moved p st)
+  unfolding next itemOf newLowItem moveItem sized pick
+  move-next p g =
+      let e : pointOf le32 (pointBytes toLe32 p ++ rest) ≡ p = point-back p rest g in
+      let k : 13 ≤ suc (length (pointBytes toLe32 p ++ rest)) = simp (length-append, le32-width) (omega arith) in
+      simp (there 15 (pointBytes toLe32 p ++ rest), le-ltb _ _ k, e)
+
+  error-next : (t : Traverse) → GoodTraverse t → next 8 (31 ∷ (traverseBytes toLe32 t ++ rest)) st ≡ made 21 (error t) st
+  unfolding next itemOf newLowItem errorItem sized pick
+  error-next t g =
+      let e : traverseOf le32 (traverseBytes toLe32 t ++ rest) ≡ t = traverse-back t rest g in
+      let k : 21 ≤ suc (length (traverseBytes toLe32 t ++ rest)) = simp (length-append, le32-width) (omega arith) in
+      simp (there 31 (traverseBytes toLe32 t ++ rest), le-ltb _ _ k, e)
+
+date-read : (st : State) (date : Dated) (rest : List ℕ) (at : ℕ) → GoodDated date
+    → run 8 at (dateIf st date ++ rest) st ≡ run 8 (at + length (dateIf st date)) rest (datedBy date st)
+unfolding dateIf
+date-read st date rest at g =
+    written-if (λ s. s .date) datedBy (λ s. refl) st date _ (dateCodes date) rest at (same-date (st .date) date) (λ e. date-next st rest date g)
+
+same-point : (p q : Point) → samePoint p q ≡ true → p ≡ q
+unfolding samePoint
+same-point p q t =
+    let a = both (eqb (p .x) (q .x)) _ t in
+    let b = both (eqb (p .y) (q .y)) (eqb (p .z) (q .z)) (a .1) in
+    λ i. record { x = eqb-true (p .x) (q .x) (a .0) i; y = eqb-true (p .y) (q .y) (b .0) i; z = eqb-true (p .z) (q .z) (b .1) i }
+
+stands-at : (q : Position) (p : Point) → standsAt q p ≡ true → q ≡ Stands p
+stands-at Unset p t = cc
+stands-at (Stands q) p t = ap Stands (same-point q p t)
+
+-- the state with another position
+abbrev placed : Position → State → State
+placed q st = record { label = st .label; style = st .style; date = st .date; position = q }
+
+move-read : (st : State) (from : Point) (rest : List ℕ) (at : ℕ) → GoodPoint from
+    → run 8 at (moveIf st from ++ rest) st ≡ run 8 (at + length (moveIf st from)) rest (moved from st)
+unfolding moveIf
+move-read st from rest at g =
+    let n : length (15 ∷ pointBytes toLe32 from) ≡ 13 = simp (length-append, le32-width) in
+    written-if (λ s. s .position) placed (λ s. refl) st (Stands from) _ (15 ∷ pointBytes toLe32 from) rest at (stands-at (st .position) from)
+    (λ e. rw n (move-next st rest from g))
+
+-- ---- the records
+
+module _ (st : State) (rest : List ℕ) (at : ℕ) (hl : length (st .label) ≤ labelLimit) where
+  abbrev Reads : List ℕ → Record → State → Type 0
+  Reads bytes r st′ = run 8 at (bytes ++ rest) st ≡ also r (run 8 (at + length bytes) rest st′)
+
+  station-read : (flags : ℕ) (p : Point) (label : List ℕ) → GoodStation flags p label → Reads (stationCodes st flags p label) (station flags p label) (named label st)
+  unfolding stationCodes next
+  station-read flags p label g =
+      let k = keptBytes (st .label) label in
+      let c = stationCodes st flags p label in
+      let e : next 8 (c ++ rest) st ≡ made (length c) (station flags p label) (named label st) =
+      rw (station-item (st .label) label k hl (g .label-fits) flags p rest (g .place-fits), label-read (st .label) label k (kept-shares (st .label) label) (g .label-fits)) in
+      run-made at c rest st (station flags p label) (named label st) e
+
+  section-read : (last : ℕ) (d : Dimensions) (label : List ℕ) → GoodSection last d label → Reads (sectionCodes st last d label) (section last d label) (named label st)
+  unfolding sectionCodes next
+  section-read last d label g =
+      let k = keptBytes (st .label) label in
+      let name = labelCodes (st .label) label k in
+      let e = label-read (st .label) label k (kept-shares (st .label) label) (g .label-fits) in
+      let r = section last d label in
+      let a = (48 + last) ∷ (name ++ dimensionBytes toLe16 d) in
+      let b = (50 + last) ∷ (name ++ dimensionBytes toLe32 d) in
+      let ea : allShort d ≡ true → next 8 (a ++ rest) st ≡ made (length a) r (named label st) =
+      λ q. rw (short-section-item (st .label) label k hl (g .label-fits) last d rest (g .last-fits) (g .dimensions-fit) q, e) in
+      let eb : next 8 (b ++ rest) st ≡ made (length b) r (named label st) =
+      rw (wide-section-item (st .label) label k hl (g .label-fits) last d rest (g .last-fits) (g .dimensions-fit), e) in
+      pick-case (λ (x : List ℕ). Reads x r (named label st)) (allShort d) a b (λ q. run-made at a rest st r (named label st) (ea q)) (λ q. run-made at b rest st r (named label st) eb)
+
+  error-read : (t : Traverse) → GoodTraverse t → Reads (errorCodes t) (error t) st
+  unfolding errorCodes
+  error-read t g =
+      let c : List ℕ = 31 ∷ traverseBytes toLe32 t in
+      let n : length c ≡ 21 = simp (length-append, le32-width) in
+      run-made at c rest st (error t) st (rw n (error-next st rest t g))
+
+  -- LINE, where the position is the leg's "from"
+  line-read : (flags : ℕ) (from to : Point) (label : List ℕ) → flags ≤ 7 → GoodPoint to → length label ≤ labelLimit → st .position ≡ Stands from
+      → Reads (lineCodes st flags to label) (leg flags (st .style) (st .date) from to label) (moved to (named label st))
+  unfolding lineCodes next
+  line-read flags from to label hf g hm hp =
+      let l = st .label in
+      let k = common l label in
+      let r = leg flags (st .style) (st .date) from to label in
+      let a = (96 + flags) ∷ pointBytes toLe32 to in
+      let b = (64 + flags) ∷ (labelCodes l label k ++ pointBytes toLe32 to) in
+      let eb : next 8 (b ++ rest) st ≡ made (length b) r (moved to (named label st)) =
+      rw (line-item l label k hl hm flags to rest hf g, label-read l label k (common-shares l label) hm, hp) in
+      let ea : same l label ≡ true → next 8 (a ++ rest) st ≡ made (length a) r (moved to (named label st)) =
+      λ q. rw (same-line-item flags to rest hf g, label-same l hl, hp) (rw (same-true l label q)) in
+      pick-case (λ (x : List ℕ). Reads x r (moved to (named label st))) (same l label) a b (λ q. run-made at a rest st r (moved to (named label st)) (ea q)) (λ q. run-made at b rest st r (moved to (named label st)) eb)
+
+leg-read : (st : State) (flags style : ℕ) (date : Dated) (from to : Point) (label : List ℕ) → length (st .label) ≤ labelLimit → GoodLeg flags style date from to label
+    → (eqb style 5 && not (eqb (st .style) 5)) ≡ false → (at : ℕ) (rest : List ℕ)
+    → run 8 at (codes st (leg flags style date from to label) ++ rest) st
+    ≡ also (leg flags style date from to label) (run 8 (at + length (codes st (leg flags style date from to label))) rest (after st (leg flags style date from to label)))
+unfolding dateIf moveIf lineCodes
+leg-read st flags style date from to label hl g u at rest =
+    let S = styleIf st style in
+    let D = dateIf st date in
+    let M = moveIf st from in
+    let L = lineCodes st flags to label in
+    let styled-st = styled style st in
+    let dated-st = datedBy date styled-st in
+    let moved-st = moved from dated-st in
+    let e : (S ++ (D ++ (M ++ L))) ++ rest ≡ S ++ (D ++ (M ++ (L ++ rest))) = simp append-assoc in
+    let n : at + length S + length D + length M + length L ≡ at + length (S ++ (D ++ (M ++ L))) = simp (length-append, add-assoc) in
+    ap (λ (x : List ℕ). run 8 at x st) e
+    ∙ style-read st style (D ++ (M ++ (L ++ rest))) at (g .style-fits) u
+    ∙ date-read styled-st date (M ++ (L ++ rest)) (at + length S) (g .date-fits)
+    ∙ move-read dated-st from (L ++ rest) (at + length S + length D) (g .from-fits)
+    ∙ line-read moved-st rest (at + length S + length D + length M) hl flags from to label (g .flags-fit) (g .to-fits) (g .label-fits) refl
+    ∙ ap (λ (p : ℕ). also (leg flags style date from to label) (run 8 p rest (after st (leg flags style date from to label)))) n
+
+-- ---- codes-read: reading the codes of a record from any state makes exactly that record, leaves the state that writing leaves, and goes
+-- on at what follows
+
+pub codes-read : (st : State) (r : Record) → length (st .label) ≤ labelLimit → WellFormed r → unsayable st r ≡ false → (at : ℕ) (rest : List ℕ)
+    → run 8 at (codes st r ++ rest) st ≡ also r (run 8 (at + length (codes st r)) rest (after st r))
+codes-read st (leg flags style date from to label) hl g u at rest = leg-read st flags style date from to label hl g u at rest
+codes-read st (station flags p label) hl g u at rest = station-read st rest at hl flags p label g
+codes-read st (section last d label) hl g u at rest = section-read st rest at hl last d label g
+codes-read st (error t) hl g u at rest = error-read st rest at hl t g
+
+-- ---- the closing codes end the file, and so reading gives back the records that were written
+
+end-read : (st : State) (at : ℕ) → st .style ≡ 0 → run 8 at (0 ∷ []) st ≡ stop good
+unfolding next itemOf newLowItem ended pick
+end-read st at e = run-eq 8 at (0 ∷ []) st ∙ rw e
+
+-- the first 00 says normal, the second ends
+normal-end-read : (st : State) (at : ℕ) → eqb (st .style) 0 ≡ false → run 8 at (0 ∷ 0 ∷ []) st ≡ stop good
+unfolding next itemOf newLowItem pick
+normal-end-read st at q = run-eq 8 at (0 ∷ 0 ∷ []) st ∙ rw q (end-read (styled 0 st) (at + 1) refl)
+
+pub closing-read : (st : State) (at : ℕ) → run 8 at (closing st) st ≡ stop good
+unfolding closing
+closing-read st at =
+    pick-case (λ (x : List ℕ). run 8 at x st ≡ stop good) _ _ _ (λ q. end-read st at (eqb-true (st .style) 0 q)) (λ q. normal-end-read st at q)
+
+after-short : (st : State) (r : Record) → length (st .label) ≤ labelLimit → WellFormed r → length (after st r .label) ≤ labelLimit
+after-short st (leg flags style date from to label) h g = g .label-fits
+after-short st (station flags p label) h g = g .label-fits
+after-short st (section last d label) h g = g .label-fits
+after-short st (error t) h g = h
+
+-- a record that 13 does not name, and those after it
+sayable : (n : ℕ) (st : State) (r : Record) (rs : List Record) → styleVerdict n st (r ∷ rs) ≡ good → (unsayable st r ≡ false) × (styleVerdict (n + 1) (after st r) rs ≡ good)
+unfolding styleVerdict pick
+sayable n st r rs e = go (unsayable st r) refl e
+  where
+    go : (b : Bool) → unsayable st r ≡ b → pick b (refusal 13 n) (styleVerdict (n + 1) (after st r) rs) ≡ good → (unsayable st r ≡ false) × (styleVerdict (n + 1) (after st r) rs ≡ good)
+    go true q e = absurd (let z : _≡_ {A = ℕ} 0 1 = cc in omega arith)
+    go false q e = (q, e)
+
+-- from any state: the records written, with the closing codes, are read back
+pub encode-read : (rs : List Record) (n : ℕ) (st : State) → length (st .label) ≤ labelLimit → AllWellFormed rs → styleVerdict n st rs ≡ good → (at : ℕ)
+    → run 8 at (encodeAll codes after closing st rs) st ≡ record { records = rs; verdict = good }
+unfolding encodeAll codesAll afterAll
+encode-read [] n st h w e at = closing-read st at
+encode-read (r ∷ rs) n st h w e at =
+    let s = sayable n st r rs e in
+    ap (λ (x : List ℕ). run 8 at x st) (append-assoc (codes st r) (codesAll codes after (after st r) rs) (closing (afterAll codes after (after st r) rs)))
+    ∙ codes-read st r h (w .0) (s .0) at _
+    ∙ ap (also r) (encode-read rs (n + 1) (after st r) (after-short st r h (w .0)) (w .1) (s .1) _)

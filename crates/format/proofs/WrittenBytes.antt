@@ -1,0 +1,166 @@
+-- What is written is bytes: each number of a good sheet's file is below 256. Assumes nothing.
+use Prim.Native.Nat.{ℕ, zero, suc, _+_, _-_, _*_, _/_, _%_, _≤_, _<_}
+use mathlib.Core.Path.{_≡_, refl, sym, ap, _∙_}
+use mathlib.Core.List.{List, [], _∷_, _++_}
+use mathlib.Core.Bool.{Bool, true, false, _&&_, _||_}
+use native.Mathlib.Omega.{arith}
+use lib.ListN.{length, getD, take, drop}
+use lib.Seq.{getD-drop}
+use lib.Dec.{eqb, ltb, leb}
+use borrow.Author.Tests.{ltb-true, leb-true}
+use Rattle.format.specs.Bytes.{pick, toLe16, toLe32}
+use Rattle.format.specs.Header.{Header, magic}
+use Rattle.format.specs.Label.{labelLimit}
+use Rattle.format.specs.State.{State, start, Record, leg, station, section, error}
+use Rattle.format.specs.Sheet.{pointBytes, dimensionBytes, traverseBytes, Bytes, GoodDated, GoodHeader, WellFormed, AllWellFormed}
+use Rattle.format.specs.Writing.{codesAll, afterAll, encodeAll, lengthCodes, partCodes, labelCodes, keptBytes, common, dateCodes, styleIf, dateIf, moveIf, lineCodes, stationCodes, sectionCodes, errorCodes, codes, after, closing, headerCodes, fileOf}
+use Rattle.format.specs.declared.Point.{Point}
+use Rattle.format.specs.declared.Dimensions.{Dimensions}
+use Rattle.format.specs.declared.Traverse.{Traverse}
+use Rattle.format.specs.declared.Dated.{Dated}
+use Rattle.format.specs.declared.Dated.the-variants.{Undated, Day, Range}
+use Rattle.format.proofs.Basics.{pick-case, both}
+
+-- ---- lists of bytes; the record lets the lists themselves be found
+
+pub record All (s : List ℕ) : Type 0 where
+  pub below : Bytes s
+
+pub bytes-nil : All []
+bytes-nil = record { below = λ i. omega arith }
+
+cons-below : (b : ℕ) (s : List ℕ) → b < 256 → Bytes s → Bytes (b ∷ s)
+cons-below b s h f zero = h
+cons-below b s h f (suc i) = f i
+
+pub bytes-cons : (b : ℕ) (s : List ℕ) → b < 256 → All s → All (b ∷ s)
+bytes-cons b s h f = record { below = cons-below b s h (f .below) }
+
+append-below : (s t : List ℕ) → Bytes s → Bytes t → Bytes (s ++ t)
+append-below [] t f g i = g i
+append-below (b ∷ s) t f g zero = f 0
+append-below (b ∷ s) t f g (suc i) = append-below s t (λ j. f (suc j)) g i
+
+pub bytes-append : (s t : List ℕ) → All s → All t → All (s ++ t)
+bytes-append s t f g = record { below = append-below s t (f .below) (g .below) }
+
+pub bytes-drop : (k : ℕ) (s : List ℕ) → All s → All (drop k s)
+bytes-drop k s f = record { below = λ i. rw (getD-drop k s i 0) (f .below (k + i)) }
+
+le16-bytes : (n : ℕ) → All (toLe16 n)
+unfolding toLe16
+le16-bytes n = bytes-cons _ _ (omega arith) (bytes-cons _ _ (omega arith) bytes-nil)
+
+le32-bytes : (n : ℕ) → All (toLe32 n)
+unfolding toLe32
+le32-bytes n = bytes-cons _ _ (omega arith) (bytes-cons _ _ (omega arith) (bytes-cons _ _ (omega arith) (bytes-cons _ _ (omega arith) bytes-nil)))
+
+module _ (to : ℕ → List ℕ) (f : (n : ℕ) → All (to n)) where
+  point-bytes : (p : Point) → All (pointBytes to p)
+  point-bytes p = bytes-append _ _ (f (p .x)) (bytes-append _ _ (f (p .y)) (f (p .z)))
+
+  dimensions-bytes : (d : Dimensions) → All (dimensionBytes to d)
+  dimensions-bytes d = bytes-append _ _ (f (d .left)) (bytes-append _ _ (f (d .right)) (bytes-append _ _ (f (d .up)) (f (d .down))))
+
+  traverse-bytes : (t : Traverse) → All (traverseBytes to t)
+  traverse-bytes t = bytes-append _ _ (f (t .legs)) (bytes-append _ _ (f (t .total)) (bytes-append _ _ (f (t .e)) (bytes-append _ _ (f (t .h)) (f (t .v)))))
+
+-- ---- label parts and dates
+
+length-bytes : (n : ℕ) → All (lengthCodes n)
+unfolding lengthCodes
+length-bytes n =
+    pick-case All _ _ _ (λ e. (let h : n < 255 = ltb-true _ _ e in bytes-cons n [] (omega arith) bytes-nil)) (λ e. bytes-cons 255 _ (omega arith) (le32-bytes n))
+
+part-bytes : (d a : ℕ) → All (partCodes d a)
+unfolding partCodes
+part-bytes d a =
+    pick-case All _ _ _
+    (λ e.
+    let p = both (leb d 15) (leb a 15) (both (leb d 15 && leb a 15) (ltb 0 d || ltb 0 a) e .0) in
+    let h : d ≤ 15 = leb-true _ _ (p .0) in
+    let k : a ≤ 15 = leb-true _ _ (p .1) in
+    bytes-cons (16 * d + a) [] (omega arith) bytes-nil)
+    (λ e. bytes-cons 0 _ (omega arith) (bytes-append _ _ (length-bytes d) (length-bytes a)))
+
+label-bytes : (l m : List ℕ) (k : ℕ) → All m → All (labelCodes l m k)
+unfolding labelCodes
+label-bytes l m k f = bytes-append _ _ (part-bytes (length l - k) (length m - k)) (bytes-drop k m f)
+
+date-bytes : (date : Dated) → GoodDated date → All (dateCodes date)
+date-bytes Undated g = bytes-cons 16 [] (omega arith) bytes-nil
+date-bytes (Day d) g = bytes-cons 17 _ (omega arith) (le16-bytes d)
+date-bytes (Range d e) g =
+    pick-case All _ _ _
+    (λ q. (let h : e - d ≤ 255 = leb-true _ _ q in bytes-cons 18 _ (omega arith) (bytes-append _ _ (le16-bytes d) (bytes-cons (e - d) [] (omega arith) bytes-nil))))
+    (λ q. bytes-cons 19 _ (omega arith) (bytes-append _ _ (le16-bytes d) (le16-bytes e)))
+
+-- ---- records
+
+abbrev pub LabelBytes : Record → Type 0
+LabelBytes (leg flags style date from to label) = All label
+LabelBytes (station flags p label) = All label
+LabelBytes (section last d label) = All label
+LabelBytes (error t) = Unit
+
+abbrev pub AllLabelBytes : List Record → Type 0
+AllLabelBytes [] = Unit
+AllLabelBytes (r ∷ rs) = LabelBytes r × AllLabelBytes rs
+
+if-bytes : (test : Bool) (code : List ℕ) → All code → All (pick test [] code)
+if-bytes test code f = pick-case All _ _ _ (λ e. bytes-nil) (λ e. f)
+
+pub codes-bytes : (st : State) (r : Record) → WellFormed r → LabelBytes r → All (codes st r)
+unfolding styleIf dateIf moveIf lineCodes stationCodes sectionCodes errorCodes
+codes-bytes st (leg flags style date from to label) g f =
+    let h = g .style-fits in
+    let k = g .flags-fit in
+    let p = point-bytes toLe32 le32-bytes in
+    bytes-append _ _ (if-bytes _ _ (bytes-cons style [] (omega arith) bytes-nil))
+    (bytes-append _ _ (if-bytes _ _ (date-bytes date (g .date-fits)))
+    (bytes-append _ _ (if-bytes _ _ (bytes-cons 15 _ (omega arith) (p from)))
+    (pick-case All _ _ _ (λ e. bytes-cons (96 + flags) _ (omega arith) (p to))
+    (λ e. bytes-cons (64 + flags) _ (omega arith) (bytes-append _ _ (label-bytes (st .label) label _ f) (p to))))))
+codes-bytes st (station flags p label) g f =
+    let k = g .flags-fit in
+    bytes-cons (128 + flags) _ (omega arith) (bytes-append _ _ (label-bytes (st .label) label _ f) (point-bytes toLe32 le32-bytes p))
+codes-bytes st (section last d label) g f =
+    let k = g .last-fits in
+    pick-case All _ _ _
+    (λ e. bytes-cons (48 + last) _ (omega arith) (bytes-append _ _ (label-bytes (st .label) label _ f) (dimensions-bytes toLe16 le16-bytes d)))
+    (λ e. bytes-cons (50 + last) _ (omega arith) (bytes-append _ _ (label-bytes (st .label) label _ f) (dimensions-bytes toLe32 le32-bytes d)))
+codes-bytes st (error t) g f = bytes-cons 31 _ (omega arith) (traverse-bytes toLe32 le32-bytes t)
+
+closing-bytes : (st : State) → All (closing st)
+unfolding closing
+closing-bytes st = pick-case All _ _ _ (λ e. bytes-cons 0 [] (omega arith) bytes-nil) (λ e. bytes-cons 0 _ (omega arith) (bytes-cons 0 [] (omega arith) bytes-nil))
+
+all-bytes : (rs : List Record) (st : State) → AllWellFormed rs → AllLabelBytes rs → All (codesAll codes after st rs)
+unfolding codesAll
+all-bytes [] st w f = bytes-nil
+all-bytes (r ∷ rs) st w f = bytes-append _ _ (codes-bytes st r (w .0) (f .0)) (all-bytes rs (after st r) (w .1) (f .1))
+
+-- whether every number is below 256
+allBytes : List ℕ → Bool
+allBytes [] = true
+allBytes (b ∷ s) = ltb b 256 && allBytes s
+
+computed-bytes : (s : List ℕ) → allBytes s ≡ true → All s
+unfolding allBytes
+computed-bytes [] e = bytes-nil
+computed-bytes (b ∷ s) e = let p = both (ltb b 256) (allBytes s) e in bytes-cons b s (ltb-true _ _ (p .0)) (computed-bytes s (p .1))
+
+magic-bytes : All magic
+unfolding magic allBytes
+magic-bytes = computed-bytes magic refl
+
+-- a good header and records whose texts are bytes give a file of bytes
+pub file-bytes : (h : Header) (rs : List Record) → GoodHeader h → All (h .title) → All (h .time) → AllWellFormed rs → AllLabelBytes rs → All (fileOf h rs)
+unfolding fileOf headerCodes encodeAll
+file-bytes h rs g ft fm w f =
+    let x = g .extended-fits in
+    bytes-append _ _
+    (bytes-append magic _ magic-bytes
+    (bytes-cons 118 _ (omega arith) (bytes-cons 56 _ (omega arith) (bytes-cons 10 _ (omega arith)
+    (bytes-append _ _ ft (bytes-cons 10 _ (omega arith) (bytes-append _ _ fm (bytes-cons 10 _ (omega arith) (bytes-cons (h .extended * 128) [] (omega arith) bytes-nil)))))))))
+    (bytes-append _ _ (all-bytes rs start w f) (closing-bytes _))

@@ -1,0 +1,47 @@
+-- "For every answer that is an enum, a definition gives this paper's number and values for each case of the enum." Assumes nothing.
+use Prim.Native.Nat.{ℕ}
+use Rattle.format.specs.Header.{Opening, shut, opened}
+use Rattle.format.specs.Reading.{Outcome, accepted, refused}
+use Rattle.format.specs.Stepping.{StepOutcome, wrote, nothing, ends, refuses}
+use Rattle.format.specs.Times.{Comparison, first, second, equal, firstRefused, secondRefused}
+use Rattle.format.specs.declared.Answer.{Answer}
+use Rattle.format.specs.declared.Answer.the-variants.{Done, Refused}
+use Rattle.format.specs.declared.Opened.{Opened}
+use Rattle.format.specs.declared.Opened.the-variants.{At, Refused as OpenRefused}
+use Rattle.format.specs.declared.Stepped.{Stepped}
+use Rattle.format.specs.declared.Stepped.the-variants.{Record, Nothing, End, Refused as StepRefused}
+use Rattle.format.specs.declared.Later.{Later}
+use Rattle.format.specs.declared.Later.the-variants.{First, Second, Same, FirstRefused, SecondRefused}
+
+-- "answers bytes, records and file version"; a refusal has a number and a place
+abbrev pub answerOf : Answer → Outcome
+answerOf (Done bytes records version) = accepted bytes records version
+answerOf (Refused number place) = refused number place
+
+-- what opening a step reader answers: "the version and the first item's place"
+pub data OpenOutcome : Type 0 where
+  begun : ℕ → ℕ → OpenOutcome
+  unopened : ℕ → ℕ → OpenOutcome
+
+abbrev pub openOutcome : Opening → OpenOutcome
+openOutcome (shut n p) = unopened n p
+openOutcome (opened version place h) = begun version place
+
+abbrev pub openedOf : Opened → OpenOutcome
+openedOf (At version place) = begun version place
+openedOf (OpenRefused number place) = unopened number place
+
+-- "its record in a lent buffer, no record, the end, or the refusal"
+abbrev pub steppedOf : Stepped → StepOutcome
+steppedOf (Record bytes) = wrote bytes
+steppedOf Nothing = nothing
+steppedOf End = ends
+steppedOf (StepRefused number place) = refuses number place
+
+-- "first, second or same"; "a refusal names the file"
+abbrev pub laterOf : Later → Comparison
+laterOf First = first
+laterOf Second = second
+laterOf Same = equal
+laterOf (FirstRefused number place) = firstRefused number place
+laterOf (SecondRefused number place) = secondRefused number place

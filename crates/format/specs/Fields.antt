@@ -1,0 +1,13 @@
+-- A record as the code holds it: its fields, and its label beside them. Assumes nothing.
+use Prim.Native.Nat.{ℕ}
+use mathlib.Core.List.{List}
+use Rattle.format.specs.State.{Record, leg, station, section, error}
+use Rattle.format.specs.declared.Fields.{Fields}
+use Rattle.format.specs.declared.Fields.the-variants.{Leg, Station, Section, Error}
+
+-- the record of fields and a label; a traverse error has no label
+abbrev pub recordOf : Fields → List ℕ → Record
+recordOf (Leg flags style date from to) label = leg flags style date from to label
+recordOf (Station flags place) label = station flags place label
+recordOf (Section last size) label = section last size label
+recordOf (Error traverse) label = error traverse

@@ -1,0 +1,14 @@
+pub mod Bytes
+pub mod Header
+pub mod Label
+pub mod Items
+pub mod State
+pub mod Iterate
+pub mod Sheet
+pub mod Reading
+pub mod Writing
+pub mod Editing
+pub mod Stepping
+pub mod Times
+pub mod Answers
+pub mod Fields

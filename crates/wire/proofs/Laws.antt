@@ -1,0 +1,150 @@
+-- Laws of lists that code over slices shares: a turn of `copy`, what is laid over the front of a list, what is laid in from an index on,
+-- and a turn of a comparison and of a search for a linefeed. Assumes nothing.
+use mathlib.Core.Path.{_≡_, refl, sym, ap, ap₂, _∙_}
+use mathlib.Core.List.{List, [], _∷_, _++_, append-assoc, append-nil}
+use mathlib.Core.Bool.{Bool, true, false}
+use Prim.Native.Nat.{ℕ, zero, suc, _+_, _-_, _≤_, _<_}
+use native.Mathlib.Nat.{le-of-lt, add-zero, zero-add, add-assoc}
+use native.Mathlib.Numerals.{add-one}
+use native.Mathlib.Omega.{arith}
+use borrow.Rule.Slice.PartAt.{part-to-end}
+use borrow.Author.Tests.{eq-eqb, ne-eqb, lt-ltb, le-ltb}
+use lib.ListN.{length, take, drop, getD, set, length-append, length-take, length-drop, take-append-drop, drop-of-length-le}
+use lib.Seq.{drop-drop, take-at, drop-at, drop-length, drop-cons, take-suc, append-snoc, set-at, length-take-le}
+use Rattle.format.specs.Bytes.{pick, over, same}
+use Rattle.format.proofs.Basics.{pick-case, same-true}
+use Rattle.format.specs.Header.{lineEnd}
+use Rattle.format.specs.Writing.{common}
+use Rattle.wire.specs.Laid.{laid, laidIf}
+
+-- ---- `copy` and `over`
+
+pub copy-step : (s d : List ℕ) (i : ℕ) → i < length s → i < length d → set (take i s ++ drop i d) i (getD s i 0) ≡ take (i + 1) s ++ drop (i + 1) d
+copy-step s d i hs hd =
+    rw (add-one i, drop-cons d i 0, take-suc s i 0, append-snoc)
+    (set-at (take i s) (getD d i 0) (drop (suc i) d) (getD s i 0) i (length-take-le i s (le-of-lt hs)))
+
+pub length-over : (s b : List ℕ) → length s ≤ length b → length (over s b) ≡ length b
+unfolding over
+length-over s b h = simp (length-append, length-drop) (omega arith)
+
+-- ---- `laid`
+
+pub laid-nil : (d : List ℕ) (k : ℕ) → laid d k [] ≡ d
+unfolding laid
+laid-nil d k = rw (add-zero, take-append-drop)
+
+pub laid-zero : (d s : List ℕ) → laid d 0 s ≡ over s d
+unfolding laid over
+laid-zero d s = rw zero-add
+
+module _ (d s : List ℕ) (k : ℕ) (h : k ≤ length d) where
+  head-length : length (take k d ++ s) ≡ k + length s
+  head-length = simp (length-append, length-take-le k d h)
+
+  pub take-laid : take (k + length s) (laid d k s) ≡ take k d ++ s
+  unfolding laid
+  take-laid = rw (← append-assoc (take k d) s (drop (k + length s) d)) (take-at (take k d ++ s) (drop (k + length s) d) (k + length s) head-length)
+
+  pub drop-laid : drop (k + length s) (laid d k s) ≡ drop (k + length s) d
+  unfolding laid
+  drop-laid = rw (← append-assoc (take k d) s (drop (k + length s) d)) (drop-at (take k d ++ s) (drop (k + length s) d) (k + length s) head-length)
+
+  -- what comes back of a part from k on, over which s was laid
+  pub laid-part : (n : ℕ) → n ≡ length d → take k d ++ (over s (take (n - k) (drop k d)) ++ drop (n - k) (drop k d)) ≡ laid d k s
+  unfolding laid over
+  laid-part n e =
+      rw (e, part-to-end, drop-drop (length s) k d, ← length-drop k d, drop-length (drop k d), append-nil)
+
+pub length-laid : (d s : List ℕ) (k : ℕ) → k + length s ≤ length d → length (laid d k s) ≡ length d
+unfolding laid
+length-laid d s k h = simp (length-append, length-take, length-drop) (omega arith)
+
+-- one thing laid after another is both laid together
+pub laid-next : (d s t : List ℕ) (k : ℕ) → k ≤ length d → laid (laid d k s) (k + length s) t ≡ laid d k (s ++ t)
+unfolding laid
+laid-next d s t k h =
+    ap₂ (λ (x y : List ℕ). x ++ (t ++ y)) (take-laid d s k h)
+    (sym (drop-drop (length t) (k + length s) (laid d k s)) ∙ ap (drop (length t)) (drop-laid d s k h) ∙ drop-drop (length t) (k + length s) d)
+    ∙ simp (append-assoc, length-append, add-assoc)
+
+-- ---- `laidIf`
+
+module _ (d s : List ℕ) (k : ℕ) where
+  pub laid-none : length d < k + length s → laidIf d k s ≡ d
+  unfolding laidIf pick
+  laid-none h = simp (lt-ltb _ _ h)
+
+  pub laid-some : k + length s ≤ length d → laidIf d k s ≡ laid d k s
+  unfolding laidIf pick
+  laid-some h = simp (le-ltb _ _ h)
+
+-- ---- `same`
+
+pub same-false : (s t : List ℕ) → (s ≡ t → ⊥) → same s t ≡ false
+same-false s t h = go (same s t) refl
+  where
+    go : (b : Bool) → same s t ≡ b → b ≡ false
+    go true e = absurd (h (same-true s t e))
+    go false e = refl
+
+-- past a byte that both have
+pub same-past : (s t : List ℕ) (i : ℕ) → i < length s → i < length t → getD s i 0 ≡ getD t i 0 → same (drop i s) (drop i t) ≡ same (drop (i + 1) s) (drop (i + 1) t)
+unfolding same pick
+same-past s t i hs ht e = rw (add-one i, drop-cons s i 0, drop-cons t i 0, eq-eqb _ _ e)
+
+pub same-other : (s t : List ℕ) (i : ℕ) → (getD s i 0 ≡ getD t i 0 → ⊥) → same s t ≡ false
+same-other s t i h = same-false s t (λ e. h (ap (λ (l : List ℕ). getD l i 0) e))
+
+-- ---- `common`
+
+pub common-past : (s t : List ℕ) (i : ℕ) → i < length s → i < length t → getD s i 0 ≡ getD t i 0 → common (drop i s) (drop i t) ≡ 1 + common (drop (i + 1) s) (drop (i + 1) t)
+unfolding common pick
+common-past s t i hs ht e = rw (add-one i, drop-cons s i 0, drop-cons t i 0, eq-eqb _ _ e) (omega arith)
+
+pub common-here : (s t : List ℕ) (i : ℕ) → i < length s → i < length t → (getD s i 0 ≡ getD t i 0 → ⊥) → common (drop i s) (drop i t) ≡ 0
+unfolding common pick
+common-here s t i hs ht e = rw (drop-cons s i 0, drop-cons t i 0, ne-eqb _ _ e)
+
+pub common-first : (s t : List ℕ) → length s ≡ 0 → common s t ≡ 0
+unfolding common
+common-first [] t h = refl
+common-first (x ∷ s) t h = absurd (omega arith)
+
+pub common-second : (s t : List ℕ) → length t ≡ 0 → common s t ≡ 0
+unfolding common
+common-second [] t h = refl
+common-second (x ∷ s) [] h = refl
+common-second (x ∷ s) (y ∷ t) h = absurd (omega arith)
+
+-- no more bytes are common than either has
+pub common-within : (s t : List ℕ) → (common s t ≤ length s) × (common s t ≤ length t)
+unfolding common
+common-within [] t = (omega arith, omega arith)
+common-within (x ∷ s) [] = (omega arith, omega arith)
+common-within (x ∷ s) (y ∷ t) =
+    let r = common-within s t in
+    pick-case (λ (n : ℕ). (n ≤ suc (length s)) × (n ≤ suc (length t))) _ _ _ (λ e. (omega arith, omega arith)) (λ e. (omega arith, omega arith))
+
+-- ---- `lineEnd`
+
+pub line-past : (s : List ℕ) (i : ℕ) → i < length s → (getD s i 0 ≡ 10 → ⊥) → lineEnd (drop i s) ≡ 1 + lineEnd (drop (i + 1) s)
+unfolding lineEnd pick
+line-past s i h e = rw (add-one i, drop-cons s i 0, ne-eqb _ _ e) (omega arith)
+
+pub line-here : (s : List ℕ) (i : ℕ) → i < length s → getD s i 0 ≡ 10 → lineEnd (drop i s) ≡ 0
+unfolding lineEnd pick
+line-here s i h e = rw (drop-cons s i 0, eq-eqb _ _ e)
+
+pub line-none : (s : List ℕ) → length s ≡ 0 → lineEnd s ≡ 0
+unfolding lineEnd
+line-none [] h = refl
+line-none (x ∷ s) h = absurd (omega arith)
+
+-- a line ends within
+pub line-within : (s : List ℕ) → lineEnd s ≤ length s
+unfolding lineEnd
+line-within [] = omega arith
+line-within (b ∷ s) =
+    let r = line-within s in
+    pick-case (λ (n : ℕ). n ≤ suc (length s)) _ _ _ (λ e. omega arith) (λ e. omega arith)

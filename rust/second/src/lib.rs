@@ -1,0 +1,83 @@
+//! Survex 3d files, v3 to v8: reading to a sheet, stepping, writing v8,
+//! editing v8 and comparing time lines.
+//!
+//! An independent second implementation of document 01, written from that
+//! document and the two published format pages. It allocates only in `edit`.
+
+mod edit;
+mod header;
+mod item;
+mod later;
+mod read;
+mod record;
+mod sheet;
+mod state;
+mod step;
+mod write;
+
+pub use edit::edit;
+pub use later::{compare, seconds, Later};
+pub use read::read;
+pub use step::{open, Opened, Step, Stepper};
+pub use write::write;
+
+/// "file read or written over 16,777,216 bytes"
+pub(crate) const LONGEST_FILE: usize = 16_777_216;
+pub(crate) const LONGEST_LABEL: usize = 4096;
+pub(crate) const LONGEST_TITLE: usize = 4096;
+pub(crate) const LONGEST_TIME: usize = 64;
+
+/// The style before any style code: "not said".
+pub(crate) const NOT_SAID: u8 = 5;
+pub(crate) const NORMAL: u8 = 0;
+
+/// The answer of reading, writing, converting and editing.
+///
+/// `Done` counts the bytes written to the lent buffer and the records (the
+/// header left out), and names the version of the file read or written.
+#[derive(Clone, Copy, PartialEq, Eq, Debug)]
+pub enum Answer {
+    Done { bytes: usize, records: usize, version: u8 },
+    Refused { number: u8, place: usize },
+}
+
+/// A number from "Numbers for no". Inside it takes a whole word: a single byte
+/// would share a word with parts of an item and slow the reader down.
+pub(crate) type Number = usize;
+
+/// A number, with its place.
+#[derive(Clone, Copy, PartialEq, Eq, Debug)]
+pub(crate) struct Refusal {
+    pub number: Number,
+    pub place: usize,
+}
+
+/// Shorthand, since a refusal is given in many places.
+pub(crate) fn no(number: Number, place: usize) -> Refusal {
+    Refusal { number, place }
+}
+
+impl From<Refusal> for Answer {
+    fn from(Refusal { number, place }: Refusal) -> Answer {
+        Answer::Refused { number: number as u8, place }
+    }
+}
+
+/// Copies 4-byte numbers, turning little-endian to big-endian or back.
+#[inline]
+pub(crate) fn turn<const N: usize>(numbers: &[u8; N], turned: &mut [u8; N]) {
+    for (to, from) in turned.as_chunks_mut::<4>().0.iter_mut().zip(numbers.as_chunks::<4>().0) {
+        *to = u32::from_le_bytes(*from).to_be_bytes();
+    }
+}
+
+/// Reads `file` (v3 to v8) to the lent `sheet`, then writes it as v8 to `out`.
+///
+/// "after a writer's refusal the sheet stands and the file buffer is
+/// untouched"; after a reader's refusal both are untouched.
+pub fn convert(file: &[u8], sheet: &mut [u8], out: &mut [u8]) -> Answer {
+    match read(file, sheet) {
+        Answer::Done { bytes, .. } => write(&sheet[..bytes], out),
+        refused => refused,
+    }
+}

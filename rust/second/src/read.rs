@@ -1,0 +1,129 @@
+//! Reading a file to a sheet, in two passes: the first judges everything and
+//! measures the sheet, the second writes it.
+
+use crate::header::{header, Header};
+use crate::item::{next, Item};
+use crate::record;
+use crate::state::State;
+use crate::{no, Answer, Refusal};
+
+/// Reads `file` (v3 to v8) to the front of `sheet`.
+///
+/// Refusals come as "16, 1, 2, 3, the v8 byte, then items in order; in an item
+/// 4, 5, 6, 7, 9, 8; then 10, then 11" and leave `sheet` untouched.
+pub fn read(file: &[u8], sheet: &mut [u8]) -> Answer {
+    match read_judged(file, sheet) {
+        Ok(answer) => answer,
+        Err(refusal) => refusal.into(),
+    }
+}
+
+fn read_judged(file: &[u8], sheet: &mut [u8]) -> Result<Answer, Refusal> {
+    let head = header(file)?;
+    // v8 and the older versions have loops of their own. Only the older ones
+    // look for dots, and so must know the label's bytes while measuring.
+    if head.version == 8 {
+        two_passes::<false>(8, file, &head, sheet)
+    } else {
+        two_passes::<true>(head.version, file, &head, sheet)
+    }
+}
+
+#[inline(always)]
+fn two_passes<const DOTS: bool>(
+    version: u8,
+    file: &[u8],
+    head: &Header,
+    sheet: &mut [u8],
+) -> Result<Answer, Refusal> {
+    let (bytes, records) = measure::<DOTS>(version, file, head)?;
+    if sheet.len() < bytes {
+        return Err(no(11, bytes));
+    }
+    let start = put_header(head, sheet);
+    fill(version, file, head.items, &mut sheet[start..bytes]);
+    Ok(Answer::Done { bytes, records, version })
+}
+
+/// The first pass: the sheet's bytes and records.
+#[inline(always)]
+fn measure<const DOTS: bool>(
+    version: u8,
+    file: &[u8],
+    head: &Header,
+) -> Result<(usize, usize), Refusal> {
+    let mut bytes = header_size(head);
+    let mut records = 0;
+    walk::<DOTS>(version, file, head.items, |item, state| {
+        if let Some(size) = record::size(item, state.label().len()) {
+            bytes += size;
+            records += 1;
+        }
+    })?;
+    Ok((bytes, records))
+}
+
+/// The second pass, into a part that fits exactly.
+#[inline(always)]
+fn fill(version: u8, file: &[u8], items: usize, part: &mut [u8]) {
+    let mut at = 0;
+    let walked = walk::<true>(version, file, items, |item, state| {
+        at += record::put(item, state, &mut part[at..]);
+    });
+    debug_assert!(walked.is_ok(), "the first pass judged this file");
+}
+
+/// Goes through all items, the first at `items`, and shows each with the state
+/// it finds, its own label already in place.
+#[inline(always)]
+fn walk<'a, const KEEP: bool>(
+    version: u8,
+    file: &'a [u8],
+    items: usize,
+    mut each: impl FnMut(&Item<'a>, &State<'a>),
+) -> Result<(), Refusal> {
+    let mut state = State::new();
+    let mut rest = &file[items..];
+    loop {
+        // With nothing left this is the file length, as "no end" wants it.
+        let place = file.len() - rest.len();
+        let (item, after) = next(version, rest).map_err(|number| no(number, place))?;
+        rest = after;
+        if state.ends(&item) {
+            return nothing_after(file, rest);
+        }
+        let length = state.judge(&item).map_err(|number| no(number, place))?;
+        state.relabel::<KEEP>(&item, length);
+        each(&item, &state);
+        state.apply(&item);
+    }
+}
+
+/// 10: "bytes after the end", at the "first of them".
+pub(crate) fn nothing_after(file: &[u8], rest: &[u8]) -> Result<(), Refusal> {
+    if rest.is_empty() {
+        Ok(())
+    } else {
+        Err(no(10, file.len() - rest.len()))
+    }
+}
+
+/// The version byte and the header record with its length bytes.
+fn header_size(head: &Header) -> usize {
+    1 + 2 + 4 + head.title.len() + head.time.len()
+}
+
+/// Writes the version byte and the header record, and answers their length.
+fn put_header(head: &Header, sheet: &mut [u8]) -> usize {
+    let size = header_size(head);
+    let title_end = 7 + head.title.len();
+    sheet[0] = 1;
+    // At most 4,164 and 4,096, so the casts keep them.
+    sheet[1..3].copy_from_slice(&((size - 3) as u16).to_be_bytes());
+    sheet[3] = 0;
+    sheet[4] = u8::from(head.extended);
+    sheet[5..7].copy_from_slice(&(head.title.len() as u16).to_be_bytes());
+    sheet[7..title_end].copy_from_slice(head.title);
+    sheet[title_end..size].copy_from_slice(head.time);
+    size
+}

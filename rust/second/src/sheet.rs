@@ -1,0 +1,107 @@
+//! The sheet's layout: its header and records taken apart and judged.
+
+use crate::state::Date;
+use crate::{LONGEST_LABEL, LONGEST_TIME, LONGEST_TITLE, NOT_SAID};
+
+pub(crate) struct SheetHeader<'a> {
+    pub extended: bool,
+    pub title: &'a [u8],
+    pub time: &'a [u8],
+}
+
+/// A well-formed record; numbers are big-endian, as the sheet has them.
+#[derive(Clone, Copy)]
+pub(crate) enum Record<'a> {
+    Leg { flags: u8, style: u8, date: Date, from: &'a [u8; 12], to: &'a [u8; 12], label: &'a [u8] },
+    Station { flags: u8, at: &'a [u8; 12], label: &'a [u8] },
+    Section { last: u8, sides: &'a [u8; 16], label: &'a [u8] },
+    Error(&'a [u8; 20]),
+}
+
+/// The header and what follows it, or nothing if the version byte or the
+/// header breaks the layout.
+pub(crate) fn header(sheet: &[u8]) -> Option<(SheetHeader<'_>, &[u8])> {
+    let (&[version], rest) = sheet.split_first_chunk()?;
+    let (body, rest) = body(rest)?;
+    let (&[kind, extended, high, low], text) = body.split_first_chunk()?;
+    let length = u16::from_be_bytes([high, low]);
+    let (title, time) = text.split_at_checked(usize::from(length))?;
+    let good = version == 1
+        && kind == 0
+        && extended <= 1
+        && is_line(title, LONGEST_TITLE)
+        && is_line(time, LONGEST_TIME);
+    good.then_some((SheetHeader { extended: extended == 1, title, time }, rest))
+}
+
+/// "Title and time line keep the header's rules and hold no linefeed."
+fn is_line(text: &[u8], longest: usize) -> bool {
+    text.len() <= longest && text.last() != Some(&b'\r') && !text.contains(&b'\n')
+}
+
+/// "a big-endian u16 length, then that many bytes"
+#[inline(always)]
+fn body(rest: &[u8]) -> Option<(&[u8], &[u8])> {
+    let (length, rest) = rest.split_first_chunk()?;
+    rest.split_at_checked(usize::from(u16::from_be_bytes(*length)))
+}
+
+/// Takes the first record, or nothing if it is not well-formed. A header is
+/// none here: it stands "first and once".
+#[inline(always)]
+pub(crate) fn record(rest: &[u8]) -> Option<(Record<'_>, &[u8])> {
+    let (body, rest) = body(rest)?;
+    let record = match *body.first()? {
+        1 => leg(body)?,
+        2 => station(body)?,
+        3 => section(body)?,
+        4 => error(body)?,
+        _ => return None,
+    };
+    Some((record, rest))
+}
+
+#[inline(always)]
+fn leg(body: &[u8]) -> Option<Record<'_>> {
+    let (&[_, flags, style, kind, a, b, c, d], rest) = body.split_first_chunk()?;
+    let (from, rest) = rest.split_first_chunk()?;
+    let (to, label) = rest.split_first_chunk()?;
+    let date = [kind, a, b, c, d];
+    let good = flags <= 0x07 && style <= NOT_SAID && is_date(date) && label.len() <= LONGEST_LABEL;
+    good.then_some(Record::Leg { flags, style, date, from, to, label })
+}
+
+/// "Unused days are 0; a range has day < last day."
+#[inline(always)]
+fn is_date([kind, a, b, c, d]: Date) -> bool {
+    let day = u16::from_be_bytes([a, b]);
+    let last = u16::from_be_bytes([c, d]);
+    match kind {
+        0 => day == 0 && last == 0,
+        1 => last == 0,
+        2 => day < last,
+        _ => false,
+    }
+}
+
+#[inline(always)]
+fn station(body: &[u8]) -> Option<Record<'_>> {
+    let (&[_, flags], rest) = body.split_first_chunk()?;
+    let (at, label) = rest.split_first_chunk()?;
+    let good = flags <= 0x7f && label.len() <= LONGEST_LABEL;
+    good.then_some(Record::Station { flags, at, label })
+}
+
+#[inline(always)]
+fn section(body: &[u8]) -> Option<Record<'_>> {
+    let (&[_, last], rest) = body.split_first_chunk()?;
+    let (sides, label) = rest.split_first_chunk()?;
+    let good = last <= 1 && label.len() <= LONGEST_LABEL;
+    good.then_some(Record::Section { last, sides, label })
+}
+
+#[inline(always)]
+fn error(body: &[u8]) -> Option<Record<'_>> {
+    let (_, five) = body.split_first()?;
+    Some(Record::Error(five.try_into().ok()?))
+}

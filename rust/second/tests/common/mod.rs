@@ -1,0 +1,218 @@
+//! Files and sheets for the tests, and calls that watch every lent byte.
+#![allow(dead_code)]
+
+use second::*;
+
+pub const FILLER: u8 = 0xa5;
+
+/// A file: header with this title and time line, then the items. In v8 the
+/// byte is 00.
+pub fn file(version: u8, title: &[u8], time: &[u8], items: &[u8]) -> Vec<u8> {
+    let mut file = b"Survex 3D Image File\nv".to_vec();
+    file.push(b'0' + version);
+    file.push(b'\n');
+    file.extend([title, b"\n", time, b"\n"].concat());
+    if version == 8 {
+        file.push(0);
+    }
+    file.extend(items);
+    file
+}
+
+/// A v8 file with the header of case 1; its items begin at 30.
+pub fn v8(items: &[u8]) -> Vec<u8> {
+    file(8, b"A", b"@0", items)
+}
+
+/// An older file with the header of case 3; its items begin at 28.
+pub fn old(version: u8, items: &[u8]) -> Vec<u8> {
+    file(version, b"A", b"T", items)
+}
+
+pub fn refused(number: u8, place: usize) -> Answer {
+    Answer::Refused { number, place }
+}
+
+pub fn framed(body: &[u8]) -> Vec<u8> {
+    [&(body.len() as u16).to_be_bytes()[..], body].concat()
+}
+
+fn be(numbers: &[i32]) -> Vec<u8> {
+    numbers.iter().flat_map(|number| number.to_be_bytes()).collect()
+}
+
+pub fn le(numbers: &[i32]) -> Vec<u8> {
+    numbers.iter().flat_map(|number| number.to_le_bytes()).collect()
+}
+
+#[derive(Clone, Copy, PartialEq, Eq, Debug)]
+pub enum Date {
+    None,
+    Day(u16),
+    Range(u16, u16),
+}
+
+#[derive(Clone, PartialEq, Eq, Debug)]
+pub enum Rec {
+    Leg { flags: u8, style: u8, date: Date, from: [i32; 3], to: [i32; 3], label: Vec<u8> },
+    Station { flags: u8, at: [i32; 3], label: Vec<u8> },
+    Section { last: u8, sides: [i32; 4], label: Vec<u8> },
+    Error([i32; 5]),
+}
+
+impl Rec {
+    /// The record in the sheet, with its length bytes.
+    pub fn bytes(&self) -> Vec<u8> {
+        match self {
+            Rec::Leg { flags, style, date, from, to, label } => {
+                let (kind, day, last) = match *date {
+                    Date::None => (0, 0, 0),
+                    Date::Day(day) => (1, day, 0),
+                    Date::Range(day, last) => (2, day, last),
+                };
+                let days = [day.to_be_bytes(), last.to_be_bytes()].concat();
+                framed(&[&[1, *flags, *style, kind], &days[..], &be(from), &be(to), label].concat())
+            }
+            Rec::Station { flags, at, label } => {
+                framed(&[&[2, *flags], &be(at)[..], label].concat())
+            }
+            Rec::Section { last, sides, label } => {
+                framed(&[&[3, *last], &be(sides)[..], label].concat())
+            }
+            Rec::Error(five) => framed(&[&[4], &be(five)[..]].concat()),
+        }
+    }
+}
+
+pub fn leg(style: u8, date: Date, from: [i32; 3], to: [i32; 3], label: &[u8]) -> Rec {
+    Rec::Leg { flags: 0, style, date, from, to, label: label.to_vec() }
+}
+
+pub fn station(label: &[u8]) -> Rec {
+    Rec::Station { flags: 0, at: [0; 3], label: label.to_vec() }
+}
+
+pub fn section(sides: [i32; 4], label: &[u8]) -> Rec {
+    Rec::Section { last: 0, sides, label: label.to_vec() }
+}
+
+pub fn joined(records: &[Rec]) -> Vec<u8> {
+    records.iter().flat_map(Rec::bytes).collect()
+}
+
+pub fn sheet_with(extended: u8, title: &[u8], time: &[u8], records: &[Rec]) -> Vec<u8> {
+    let length = (title.len() as u16).to_be_bytes();
+    let head = framed(&[&[0, extended], &length[..], title, time].concat());
+    [&[1], &head[..], &joined(records)].concat()
+}
+
+/// A sheet with the header of case 1.
+pub fn sheet(records: &[Rec]) -> Vec<u8> {
+    sheet_with(0, b"A", b"@0", records)
+}
+
+/// Calls with buffers too small, exact and too large, and watches that
+/// refusals leave them untouched and success leaves the rest.
+pub fn watched(call: impl Fn(&mut [u8]) -> Answer) -> Result<(Vec<u8>, usize, u8), (u8, usize)> {
+    let needed = match call(&mut []) {
+        Answer::Refused { number: 11, place } => place,
+        Answer::Refused { number, place } => {
+            let mut buffer = vec![FILLER; 200];
+            assert_eq!(call(&mut buffer), refused(number, place));
+            assert!(buffer.iter().all(|&byte| byte == FILLER));
+            return Err((number, place));
+        }
+        done => panic!("no bytes are enough for nothing: {done:?}"),
+    };
+    let mut buffer = vec![FILLER; needed - 1];
+    assert_eq!(call(&mut buffer), refused(11, needed));
+    assert!(buffer.iter().all(|&byte| byte == FILLER));
+    let mut buffer = vec![FILLER; needed + 9];
+    let Answer::Done { bytes, records, version } = call(&mut buffer) else { panic!("refused") };
+    assert_eq!(bytes, needed);
+    assert!(buffer[bytes..].iter().all(|&byte| byte == FILLER));
+    let mut exact = vec![FILLER; needed];
+    assert_eq!(call(&mut exact), Answer::Done { bytes, records, version });
+    assert_eq!(exact, buffer[..bytes]);
+    Ok((exact, records, version))
+}
+
+pub fn read_all(file: &[u8]) -> Result<(Vec<u8>, usize, u8), (u8, usize)> {
+    let read = watched(|sheet| read(file, sheet));
+    assert_eq!(
+        stepped(file),
+        read.clone().map(|(sheet, records, version)| {
+            (
+                sheet[3 + usize::from(u16::from_be_bytes([sheet[1], sheet[2]]))..].to_vec(),
+                records,
+                version,
+            )
+        })
+    );
+    read
+}
+
+pub fn write_all(sheet: &[u8]) -> Result<Vec<u8>, (u8, usize)> {
+    let (file, _, version) = watched(|file| write(sheet, file))?;
+    assert_eq!(version, 8);
+    Ok(file)
+}
+
+/// Steps to the end, watching every step: the records after the header, their
+/// count and the version.
+pub fn stepped(file: &[u8]) -> Result<(Vec<u8>, usize, u8), (u8, usize)> {
+    let (mut stepper, opened) = open(file);
+    let (mut all, mut records) = (Vec::new(), 0);
+    loop {
+        let mut buffer = vec![FILLER; 4140];
+        let small = stepper.step(&mut []);
+        let step = match small {
+            Step::Refused { number: 11, place } => {
+                assert_eq!(stepper.step(&mut buffer[..place - 1]), small);
+                assert!(buffer.iter().all(|&byte| byte == FILLER));
+                let step = stepper.step(&mut buffer);
+                assert_eq!(step, Step::Record { bytes: place });
+                step
+            }
+            step => step,
+        };
+        match step {
+            Step::Record { bytes } => {
+                assert!(buffer[bytes..].iter().all(|&byte| byte == FILLER));
+                all.extend_from_slice(&buffer[..bytes]);
+                records += 1;
+            }
+            Step::Nothing => {}
+            Step::End | Step::Refused { .. } => {
+                assert_eq!(stepper.step(&mut buffer), step);
+                assert_eq!(stepper.step(&mut []), step);
+                assert!(buffer.iter().all(|&byte| byte == FILLER));
+                return match (step, opened) {
+                    (Step::End, Opened::At { version, .. }) => Ok((all, records, version)),
+                    (Step::Refused { number, place }, _) => Err((number, place)),
+                    _ => panic!("an end after a refused opening"),
+                };
+            }
+        }
+    }
+}
+
+/// A small seeded generator (xorshift).
+pub struct Rng(pub u64);
+
+impl Rng {
+    pub fn next(&mut self) -> u64 {
+        self.0 ^= self.0 << 13;
+        self.0 ^= self.0 >> 7;
+        self.0 ^= self.0 << 17;
+        self.0.wrapping_mul(0x2545_f491_4f6c_dd1d) >> 16
+    }
+
+    pub fn below(&mut self, bound: usize) -> usize {
+        (self.next() % bound as u64) as usize
+    }
+
+    pub fn chance(&mut self, one_in: usize) -> bool {
+        self.below(one_in) == 0
+    }
+}
