@@ -1,5 +1,7 @@
 -- `good_line` meets its contract, test by test. Assumes nothing.
+use mathlib.Core.Path.{ap, _∙_}
 use native.Mathlib.Omega.{arith}
+use Rattle.header.specs.declared.TextLine.the-variants.{Ends}
 use Rattle.header.proofs.Lines.{line-unended, line-long, line-empty, line-returned, line-ends}
 use borrow.Author.Needs.{needs}
 use Rattle.header.proofs.good_line.Statement.{statement}
@@ -37,7 +39,7 @@ returns-4 c =
 returns-5 : tie.Need-returns-5
 returns-5 c =
     let x = c .before .before .before .before .before .before .before .args in
-    rw (c .before .before .before .before .before .line-end .ensures) (line-ends (x .limit) (x .s .now) (omega arith) (omega arith) (omega arith) (rw (c .before .before .before .before .before .line-end .ensures) at (c .if4 .left)))
+    ap Ends (c .before .before .before .before .before .line-end .ensures) ∙ line-ends (x .limit) (x .s .now) (omega arith) (omega arith) (omega arith) (rw (c .before .before .before .before .before .line-end .ensures) at (c .if4 .left))
 
 pub good-line-spec : {M : Type 1} → statement M
 good-line-spec =
