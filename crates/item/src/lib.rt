@@ -1,0 +1,1012 @@
+// One item of a file: what its bytes say, and what it does to the state. The item's
+// bytes are read where they lie, and the label is lent, so nothing is copied but the
+// bytes that the label gains.
+use format::Dated;
+use format::Dimensions;
+use format::Point;
+use format::Position;
+use format::Traverse;
+use label::Cut;
+use label::Relabelled;
+use label::label_step;
+use wire::get_le16;
+use wire::get_le32;
+use wire::index;
+use wire::wide;
+ghost use mathlib.Core.Path.{_≡_};
+ghost use mathlib.Core.List.{List, []};
+ghost use Prim.Native.Nat.{ℕ, _+_, _≤_, _<_};
+ghost use lib.ListN.{length, take, drop, getD};
+ghost use Rattle.format.specs.Bytes.{pick, le16, le32, widened};
+ghost use Rattle.format.specs.Items.{part, sectionItem, pointOf, dimensionsOf, traverseOf, oldPart, lengthSize, lengthValue, longPart, newPart, moveItem, errorItem, dayItem, spanItem, daysItem, dayOfSeconds, secondsItem, twoSecondsItem, oldDateItem, v7DateItem, oldMiddleItem, oldLowItem, oldHighItem, newDateItem, newLowItem, newHighItem, itemOf};
+ghost use Rattle.format.specs.Items.{Stop, Style, Date};
+ghost use Rattle.format.specs.State.{dateOf, apply, legFrom};
+ghost use Rattle.format.specs.Reading.{next};
+ghost use Rattle.item.specs.Parts.{partSeen, Small, partAt, finished, tailOf, makeOf, Bodies, labelledBy, kindItem, SaysBy, Says};
+ghost use Rattle.item.specs.Seen.{Reads, stateOf, Does, Tells, madeOf};
+
+// Style, date and position: the state but for the label.
+pub struct Setting {
+    pub style: u8,
+    pub date: Dated,
+    pub position: Position,
+}
+
+// A record's fields but for its label.
+pub enum Fields {
+    Leg {
+        flags: u8,
+        style: u8,
+        date: Dated,
+        from: Point,
+        to: Point,
+    },
+    Station {
+        flags: u8,
+        place: Point,
+    },
+    Section {
+        last: u8,
+        size: Dimensions,
+    },
+    Error {
+        traverse: Traverse,
+    },
+}
+
+// What an item comes to: a refusal; the end; its size and the label's new length,
+// with the setting after it; the same with a record.
+pub enum Step {
+    Bad {
+        number: u8,
+    },
+    End,
+    On {
+        size: usize,
+        len: usize,
+        setting: Setting,
+    },
+    Made {
+        size: usize,
+        len: usize,
+        setting: Setting,
+        fields: Fields,
+    },
+}
+
+// The numbers of a label part: unfinished; or their size, D and A.
+enum Part {
+    Unfinished,
+    Numbers {
+        size: usize,
+        drop: usize,
+        add: usize,
+    },
+}
+
+// What follows a label part: i16 or i32 dimensions, or a place.
+enum Tail {
+    Short { last: u8 },
+    Long { last: u8 },
+    Station { flags: u8 },
+    Line { flags: u8 },
+}
+
+// What a code says in a version. A bare line has no label part.
+enum Kind {
+    Reserved,
+    Stop,
+    Shorten { cut: Cut },
+    Style { style: u8 },
+    Move,
+    NoDate,
+    Day,
+    Span,
+    Days,
+    Seconds,
+    TwoSeconds,
+    Error,
+    Labelled { bare: bool, tail: Tail },
+}
+
+// What an item with a label is besides it; `Only` changes the label and no more.
+enum Body {
+    Only,
+    Section { last: u8, size: Dimensions },
+    Station { flags: u8, place: Point },
+    Line { flags: u8, place: Point },
+}
+
+// An item; the bytes that its label gains are count bytes of it, from `from` on.
+enum Item {
+    Faulty {
+        number: u8,
+    },
+    Stop,
+    Style {
+        style: u8,
+    },
+    Move {
+        place: Point,
+    },
+    NoDate,
+    Date {
+        size: usize,
+        first: u32,
+        last: u32,
+    },
+    Error {
+        traverse: Traverse,
+    },
+    Relabel {
+        size: usize,
+        cut: Cut,
+        from: usize,
+        count: usize,
+        body: Body,
+    },
+}
+
+// ---- numbers that follow one another
+
+// The number as a length.
+fn long(x: u32) -> usize
+    ensures { λ r. ⌜ (r ≡ x) × (r < 4294967296) ⌝ }
+{
+    x as usize
+}
+
+// An i16's bit pattern as that of the same number in an i32.
+fn get_short(s: &[u8]) -> u32
+    requires { ⌜ 2 ≤ length (now s) ⌝ }
+    ensures { λ r. ⌜ r ≡ widened (le16 (now (s .entry))) ⌝ }
+{
+    let n = get_le16(s);
+    if n < 32768 {
+        return n;
+    }
+    n + 4294901760
+}
+
+// x y z
+fn get_point(s: &[u8]) -> Point
+    requires { ⌜ 12 ≤ length (now s) ⌝ }
+    ensures { λ r. ⌜ r ≡ pointOf le32 (now (s .entry)) ⌝ }
+{
+    let x = get_le32(s);
+    let y = get_le32(&s[4..]);
+    let z = get_le32(&s[8..]);
+    Point { x, y, z }
+}
+
+// L R U D as i16
+fn short_dimensions(s: &[u8]) -> Dimensions
+    requires { ⌜ 8 ≤ length (now s) ⌝ }
+    ensures { λ r. ⌜ r ≡ dimensionsOf 2 (λ u. widened (le16 u)) (now (s .entry)) ⌝ }
+{
+    let left = get_short(s);
+    let right = get_short(&s[2..]);
+    let up = get_short(&s[4..]);
+    let down = get_short(&s[6..]);
+    Dimensions {
+        left,
+        right,
+        up,
+        down,
+    }
+}
+
+// L R U D as i32
+fn long_dimensions(s: &[u8]) -> Dimensions
+    requires { ⌜ 16 ≤ length (now s) ⌝ }
+    ensures { λ r. ⌜ r ≡ dimensionsOf 4 le32 (now (s .entry)) ⌝ }
+{
+    let left = get_le32(s);
+    let right = get_le32(&s[4..]);
+    let up = get_le32(&s[8..]);
+    let down = get_le32(&s[12..]);
+    Dimensions {
+        left,
+        right,
+        up,
+        down,
+    }
+}
+
+// legs, length, E, H, V
+fn get_traverse(s: &[u8]) -> Traverse
+    requires { ⌜ 20 ≤ length (now s) ⌝ }
+    ensures { λ r. ⌜ r ≡ traverseOf le32 (now (s .entry)) ⌝ }
+{
+    let legs = get_le32(s);
+    let total = get_le32(&s[4..]);
+    let e = get_le32(&s[8..]);
+    let h = get_le32(&s[12..]);
+    let v = get_le32(&s[16..]);
+    Traverse {
+        legs,
+        total,
+        e,
+        h,
+        v,
+    }
+}
+
+// ---- label parts; t is what follows the code
+
+// The numbers of a label part, v3 to v7.
+fn old_part(t: &[u8]) -> Part
+    ensures { λ r. ⌜ (partSeen r ≡ oldPart (now (t .entry))) × Small r ⌝ }
+{
+    if t.len() < 1 {
+        return Part::Unfinished;
+    }
+    let b = index(t[0]);
+    if b < 254 {
+        return Part::Numbers {
+            size: 1,
+            drop: 0,
+            add: b,
+        };
+    }
+    if b == 254 {
+        if t.len() < 3 {
+            return Part::Unfinished;
+        }
+        let n = long(get_le16(&t[1..]));
+        return Part::Numbers {
+            size: 3,
+            drop: 0,
+            add: n + 254,
+        };
+    }
+    if t.len() < 5 {
+        return Part::Unfinished;
+    }
+    let n = long(get_le32(&t[1..]));
+    Part::Numbers {
+        size: 5,
+        drop: 0,
+        add: n,
+    }
+}
+
+// The size of the number at the front of t, v8; 0 where it is unfinished.
+fn length_size(t: &[u8]) -> usize
+    ensures { λ r. ⌜ (r ≡ lengthSize (now (t .entry))) × (r ≤ length (now (t .entry))) × (r ≤ 5) ⌝ }
+{
+    if t.len() < 1 {
+        return 0;
+    }
+    if t[0] < 255 {
+        return 1;
+    }
+    if t.len() < 5 {
+        return 0;
+    }
+    5
+}
+
+// Its value.
+fn length_value(t: &[u8]) -> usize
+    requires { ⌜ 0 < lengthSize (now t) ⌝ }
+    ensures { λ r. ⌜ (r ≡ lengthValue (now (t .entry))) × (r < 4294967296) ⌝ }
+{
+    let b = index(t[0]);
+    if b < 255 {
+        return b;
+    }
+    long(get_le32(&t[1..]))
+}
+
+// The numbers of a label part that begins with 00, v8.
+fn long_part(t: &[u8]) -> Part
+    requires { ⌜ 1 ≤ length (now t) ⌝ }
+    ensures { λ r. ⌜ (partSeen r ≡ longPart (now (t .entry))) × Small r ⌝ }
+{
+    let first = &t[1..];
+    let d = length_size(first);
+    if d == 0 {
+        return Part::Unfinished;
+    }
+    let second = &first[d..];
+    let a = length_size(second);
+    if a == 0 {
+        return Part::Unfinished;
+    }
+    let drop = length_value(first);
+    let add = length_value(second);
+    Part::Numbers {
+        size: 1 + d + a,
+        drop,
+        add,
+    }
+}
+
+// The numbers of a label part, v8.
+fn new_part(t: &[u8]) -> Part
+    ensures { λ r. ⌜ (partSeen r ≡ newPart (now (t .entry))) × Small r ⌝ }
+{
+    if t.len() < 1 {
+        return Part::Unfinished;
+    }
+    let b = index(t[0]);
+    if b == 0 {
+        return long_part(t);
+    }
+    Part::Numbers {
+        size: 1,
+        drop: b / 16,
+        add: b % 16,
+    }
+}
+
+// The numbers of a label part of the version; a bare item has none.
+fn part_of(version: u8, bare: bool, t: &[u8]) -> Part
+    ensures { λ r. ⌜ (partSeen r ≡ pick bare (part 0 0 0) (partAt version (now (t .entry)))) × Small r ⌝ }
+{
+    if bare {
+        return Part::Numbers {
+            size: 0,
+            drop: 0,
+            add: 0,
+        };
+    }
+    if version < 8 {
+        return old_part(t);
+    }
+    new_part(t)
+}
+
+// The part, where its numbers, its bytes and n more are all there.
+fn whole_part(p: Part, t: &[u8], n: usize) -> Part
+    requires { ⌜ Small p × (n ≤ 16) ⌝ }
+    ensures { λ r. ⌜ partSeen r ≡ finished (partSeen p) (now (t .entry)) n ⌝ }
+{
+    match p {
+        Part::Unfinished => Part::Unfinished,
+        Part::Numbers { size, drop, add } => {
+            if t.len() < size + add + n {
+                return Part::Unfinished;
+            }
+            Part::Numbers { size, drop, add }
+        }
+    }
+}
+
+// ---- codes
+
+// v3 to v7, 00-1f
+fn old_low(code: u8) -> Kind
+    ensures { λ r. ⌜ Says r (λ p s. oldLowItem code s) ⌝ }
+{
+    if code == 0 {
+        return Kind::Stop;
+    }
+    if code < 15 {
+        return Kind::Shorten {
+            cut: Cut::ToDot { dots: index(code) },
+        };
+    }
+    if code == 15 {
+        return Kind::Move;
+    }
+    Kind::Shorten {
+        cut: Cut::Trim {
+            bytes: index(code - 15),
+        },
+    }
+}
+
+// v4 to v6, 20-21
+fn old_date(code: u8) -> Kind
+    ensures { λ r. ⌜ Says r (λ p s. oldDateItem code s) ⌝ }
+{
+    if code == 32 {
+        return Kind::Seconds;
+    }
+    if code == 33 {
+        return Kind::TwoSeconds;
+    }
+    Kind::Reserved
+}
+
+// v7, 20 / 21 / 23 / 24
+fn v7_date(code: u8) -> Kind
+    ensures { λ r. ⌜ Says r (λ p s. v7DateItem code s) ⌝ }
+{
+    if code == 32 {
+        return Kind::Day;
+    }
+    if code == 33 {
+        return Kind::Span;
+    }
+    if code == 35 {
+        return Kind::Days;
+    }
+    if code == 36 {
+        return Kind::NoDate;
+    }
+    Kind::Reserved
+}
+
+// v3 to v7, 20-2f
+fn old_middle(version: u8, code: u8) -> Kind
+    ensures { λ r. ⌜ Says r (λ p s. oldMiddleItem version code s) ⌝ }
+{
+    if code == 34 {
+        if version < 6 {
+            return Kind::Reserved;
+        }
+        return Kind::Error;
+    }
+    if version < 4 {
+        return Kind::Reserved;
+    }
+    if version < 7 {
+        return old_date(code);
+    }
+    v7_date(code)
+}
+
+// 30-33
+fn section(code: u8) -> Kind
+    ensures { λ r. ⌜ Says r (λ p s. sectionItem code (p (drop 1 s)) (drop 1 s)) ⌝ }
+{
+    let last = code % 2;
+    if code < 50 {
+        return Kind::Labelled {
+            bare: false,
+            tail: Tail::Short { last },
+        };
+    }
+    Kind::Labelled {
+        bare: false,
+        tail: Tail::Long { last },
+    }
+}
+
+// v3 to v7, 30-ff
+fn old_high(version: u8, code: u8) -> Kind
+    ensures { λ r. ⌜ SaysBy oldPart r (λ s. oldHighItem version code (drop 1 s)) ⌝ }
+{
+    if code < 52 {
+        if version < 5 {
+            return Kind::Reserved;
+        }
+        return section(code);
+    }
+    if code < 64 {
+        return Kind::Reserved;
+    }
+    if code < 96 {
+        return Kind::Labelled {
+            bare: false,
+            tail: Tail::Station { flags: code - 64 },
+        };
+    }
+    if code < 128 {
+        return Kind::Reserved;
+    }
+    if code < 136 {
+        return Kind::Labelled {
+            bare: false,
+            tail: Tail::Line { flags: code - 128 },
+        };
+    }
+    Kind::Reserved
+}
+
+// v8, 10-13
+fn new_date(code: u8) -> Kind
+    ensures { λ r. ⌜ Says r (λ p s. newDateItem code s) ⌝ }
+{
+    if code == 16 {
+        return Kind::NoDate;
+    }
+    if code == 17 {
+        return Kind::Day;
+    }
+    if code == 18 {
+        return Kind::Span;
+    }
+    Kind::Days
+}
+
+// v8, 00-2f
+fn new_low(code: u8) -> Kind
+    ensures { λ r. ⌜ Says r (λ p s. newLowItem code s) ⌝ }
+{
+    if code < 5 {
+        return Kind::Style { style: code };
+    }
+    if code < 15 {
+        return Kind::Reserved;
+    }
+    if code == 15 {
+        return Kind::Move;
+    }
+    if code < 20 {
+        return new_date(code);
+    }
+    if code == 31 {
+        return Kind::Error;
+    }
+    Kind::Reserved
+}
+
+// v8, 30-ff
+fn new_high(code: u8) -> Kind
+    ensures { λ r. ⌜ SaysBy newPart r (λ s. newHighItem code (drop 1 s)) ⌝ }
+{
+    if code < 52 {
+        return section(code);
+    }
+    if code < 64 {
+        return Kind::Reserved;
+    }
+    if code < 72 {
+        return Kind::Labelled {
+            bare: false,
+            tail: Tail::Line { flags: code - 64 },
+        };
+    }
+    if code < 96 {
+        return Kind::Reserved;
+    }
+    if code < 104 {
+        return Kind::Labelled {
+            bare: true,
+            tail: Tail::Line { flags: code - 96 },
+        };
+    }
+    if code < 128 {
+        return Kind::Reserved;
+    }
+    Kind::Labelled {
+        bare: false,
+        tail: Tail::Station { flags: code - 128 },
+    }
+}
+
+// What a code says in a version.
+fn kind_of(version: u8, code: u8) -> Kind
+    ensures { λ r. ⌜ ((s : List ℕ) → 1 ≤ length s → getD s 0 0 ≡ code → kindItem r (partAt version) s ≡ itemOf version s) ⌝ }
+{
+    if version < 8 {
+        if code < 32 {
+            return old_low(code);
+        }
+        if code < 48 {
+            return old_middle(version, code);
+        }
+        return old_high(version, code);
+    }
+    if code < 48 {
+        return new_low(code);
+    }
+    new_high(code)
+}
+
+// ---- items with a label; s begins with the code
+
+// How many bytes follow the label.
+fn tail_size(tail: Tail) -> usize
+    ensures { λ r. ⌜ (r ≡ tailOf tail) × (r ≤ 16) ⌝ }
+{
+    match tail {
+        Tail::Short { last: _ } => 8,
+        Tail::Long { last: _ } => 16,
+        Tail::Station { flags: _ } => 12,
+        Tail::Line { flags: _ } => 12,
+    }
+}
+
+// What they say.
+fn body_at(tail: Tail, rest: &[u8]) -> Body
+    requires { ⌜ tailOf tail ≤ length (now rest) ⌝ }
+    ensures { λ r. ⌜ Bodies r (λ d added. makeOf tail d added (now (rest .entry))) ⌝ }
+{
+    match tail {
+        Tail::Short { last } => Body::Section {
+            last,
+            size: short_dimensions(rest),
+        },
+        Tail::Long { last } => Body::Section {
+            last,
+            size: long_dimensions(rest),
+        },
+        Tail::Station { flags } => Body::Station {
+            flags,
+            place: get_point(rest),
+        },
+        Tail::Line { flags } => Body::Line {
+            flags,
+            place: get_point(rest),
+        },
+    }
+}
+
+fn labelled_item(version: u8, bare: bool, tail: Tail, s: &[u8]) -> Item
+    requires { ⌜ 1 ≤ length (now s) ⌝ }
+    ensures { λ r. ⌜ Reads r (now (s .entry)) (labelledBy bare tail (partAt version) (drop 1 (now (s .entry)))) ⌝ }
+{
+    let t = &s[1..];
+    let n = tail_size(tail);
+    let p = part_of(version, bare, t);
+    let q = whole_part(p, t, n);
+    match q {
+        Part::Unfinished => Item::Faulty { number: 5 },
+        Part::Numbers { size, drop, add } => {
+            let named = size + add;
+            let rest = 1 + named;
+            let body = body_at(tail, &s[rest..]);
+            Item::Relabel {
+                size: 1 + (named + n),
+                cut: Cut::Back { bytes: drop },
+                from: 1 + size,
+                count: add,
+                body,
+            }
+        }
+    }
+}
+
+// ---- items without a label; s begins with the code
+
+fn move_item(s: &[u8]) -> Item
+    ensures { λ r. ⌜ Reads r (now (s .entry)) (moveItem (now (s .entry))) ⌝ }
+{
+    if s.len() < 13 {
+        return Item::Faulty { number: 5 };
+    }
+    let place = get_point(&s[1..]);
+    Item::Move { place }
+}
+
+fn error_item(s: &[u8]) -> Item
+    ensures { λ r. ⌜ Reads r (now (s .entry)) (errorItem (now (s .entry))) ⌝ }
+{
+    if s.len() < 21 {
+        return Item::Faulty { number: 5 };
+    }
+    let traverse = get_traverse(&s[1..]);
+    Item::Error { traverse }
+}
+
+fn day_item(s: &[u8]) -> Item
+    ensures { λ r. ⌜ Reads r (now (s .entry)) (dayItem (now (s .entry))) ⌝ }
+{
+    if s.len() < 3 {
+        return Item::Faulty { number: 5 };
+    }
+    let day = get_le16(&s[1..]);
+    Item::Date {
+        size: 3,
+        first: day,
+        last: day,
+    }
+}
+
+fn span_item(s: &[u8]) -> Item
+    ensures { λ r. ⌜ Reads r (now (s .entry)) (spanItem (now (s .entry))) ⌝ }
+{
+    if s.len() < 4 {
+        return Item::Faulty { number: 5 };
+    }
+    let first = get_le16(&s[1..]);
+    let span = wide(s[3]);
+    Item::Date {
+        size: 4,
+        first,
+        last: first + span,
+    }
+}
+
+fn days_item(s: &[u8]) -> Item
+    ensures { λ r. ⌜ Reads r (now (s .entry)) (daysItem (now (s .entry))) ⌝ }
+{
+    if s.len() < 5 {
+        return Item::Faulty { number: 5 };
+    }
+    let first = get_le16(&s[1..]);
+    let last = get_le16(&s[3..]);
+    Item::Date {
+        size: 5,
+        first,
+        last,
+    }
+}
+
+fn day_of_seconds(n: u32) -> u32
+    ensures { λ r. ⌜ r ≡ dayOfSeconds n ⌝ }
+{
+    n / 86400 + 25567
+}
+
+fn seconds_item(s: &[u8]) -> Item
+    ensures { λ r. ⌜ Reads r (now (s .entry)) (secondsItem (now (s .entry))) ⌝ }
+{
+    if s.len() < 5 {
+        return Item::Faulty { number: 5 };
+    }
+    let day = day_of_seconds(get_le32(&s[1..]));
+    Item::Date {
+        size: 5,
+        first: day,
+        last: day,
+    }
+}
+
+fn two_seconds_item(s: &[u8]) -> Item
+    ensures { λ r. ⌜ Reads r (now (s .entry)) (twoSecondsItem (now (s .entry))) ⌝ }
+{
+    if s.len() < 9 {
+        return Item::Faulty { number: 5 };
+    }
+    let first = day_of_seconds(get_le32(&s[1..]));
+    let last = day_of_seconds(get_le32(&s[5..]));
+    Item::Date {
+        size: 9,
+        first,
+        last,
+    }
+}
+
+// The item at the front of s, in a file of the version.
+fn decode(version: u8, s: &[u8]) -> Item
+    ensures { λ r. ⌜ Reads r (now (s .entry)) (itemOf version (now (s .entry))) ⌝ }
+{
+    if s.len() < 1 {
+        return Item::Faulty { number: 5 };
+    }
+    let kind = kind_of(version, s[0]);
+    match kind {
+        Kind::Reserved => Item::Faulty { number: 4 },
+        Kind::Stop => Item::Stop,
+        Kind::Shorten { cut } => Item::Relabel {
+            size: 1,
+            cut,
+            from: 0,
+            count: 0,
+            body: Body::Only,
+        },
+        Kind::Style { style } => Item::Style { style },
+        Kind::Move => move_item(s),
+        Kind::NoDate => Item::NoDate,
+        Kind::Day => day_item(s),
+        Kind::Span => span_item(s),
+        Kind::Days => days_item(s),
+        Kind::Seconds => seconds_item(s),
+        Kind::TwoSeconds => two_seconds_item(s),
+        Kind::Error => error_item(s),
+        Kind::Labelled { bare, tail } => labelled_item(version, bare, tail, s),
+    }
+}
+
+// ---- what an item does to the state
+
+fn styled(style: u8, setting: Setting) -> Setting
+    ensures { λ r. ⌜ r ≡ record { style = style; date = setting .date; position = setting .position } ⌝ }
+{
+    let date = setting.date;
+    let position = setting.position;
+    Setting {
+        style,
+        date,
+        position,
+    }
+}
+
+fn dated_by(date: Dated, setting: Setting) -> Setting
+    ensures { λ r. ⌜ r ≡ record { style = setting .style; date = date; position = setting .position } ⌝ }
+{
+    let style = setting.style;
+    let position = setting.position;
+    Setting {
+        style,
+        date,
+        position,
+    }
+}
+
+fn moved(place: Point, setting: Setting) -> Setting
+    ensures { λ r. ⌜ r ≡ record { style = setting .style; date = setting .date; position = Position.Stands place } ⌝ }
+{
+    let style = setting.style;
+    let date = setting.date;
+    let position = Position::Stands { point: place };
+    Setting {
+        style,
+        date,
+        position,
+    }
+}
+
+// The date of a first and a last day; equal days are a single day.
+fn date_of(first: u32, last: u32) -> Dated
+    requires { ⌜ (first ≤ last) × (last ≤ 65535) ⌝ }
+    ensures { λ r. ⌜ r ≡ dateOf first last ⌝ }
+{
+    if first == last {
+        return Dated::Day { day: first as u16 };
+    }
+    Dated::Range {
+        first: first as u16,
+        last: last as u16,
+    }
+}
+
+// v3 to v7, 00: the end where the label is empty; else it is emptied.
+fn stop_step(len: usize, setting: Setting) -> Step
+    requires { ⌜ len ≤ 4096 ⌝ }
+    ensures { λ r. ⌜ Does r (λ b. apply (stateOf setting (take len b)) 1 Stop) ⌝ }
+{
+    if len == 0 {
+        return Step::End;
+    }
+    Step::On {
+        size: 1,
+        len: 0,
+        setting,
+    }
+}
+
+// v8, 00-04: 00 is the end where the style is normal already.
+fn style_step(style: u8, len: usize, setting: Setting) -> Step
+    requires { ⌜ len ≤ 4096 ⌝ }
+    ensures { λ r. ⌜ Does r (λ b. apply (stateOf setting (take len b)) 1 (Style style)) ⌝ }
+{
+    let now = setting.style;
+    let after = styled(style, setting);
+    if style != 0 {
+        return Step::On {
+            size: 1,
+            len,
+            setting: after,
+        };
+    }
+    if now == 0 {
+        return Step::End;
+    }
+    Step::On {
+        size: 1,
+        len,
+        setting: after,
+    }
+}
+
+// Dates: 9 where the last day is before the first, or a day is over 65535.
+fn date_step(size: usize, first: u32, last: u32, len: usize, setting: Setting) -> Step
+    requires { ⌜ len ≤ 4096 ⌝ }
+    ensures { λ r. ⌜ Does r (λ b. apply (stateOf setting (take len b)) size (Date first last)) ⌝ }
+{
+    if last < first {
+        return Step::Bad { number: 9 };
+    }
+    if 65535 < last {
+        return Step::Bad { number: 9 };
+    }
+    let date = date_of(first, last);
+    let after = dated_by(date, setting);
+    Step::On {
+        size,
+        len,
+        setting: after,
+    }
+}
+
+// A leg from the position; 8 where there is none.
+fn leg_step(flags: u8, to: Point, size: usize, len: usize, setting: Setting) -> Step
+    requires { ⌜ len ≤ 4096 ⌝ }
+    ensures { λ r. ⌜ Does r (λ b. legFrom (setting .position) size (stateOf setting []) flags to (take len b)) ⌝ }
+{
+    let position = setting.position;
+    match position {
+        Position::Unset => Step::Bad { number: 8 },
+        Position::Stands { point } => {
+            let style = setting.style;
+            let date = setting.date;
+            let after = moved(to, setting);
+            Step::Made {
+                size,
+                len,
+                setting: after,
+                fields: Fields::Leg {
+                    flags,
+                    style,
+                    date,
+                    from: point,
+                    to,
+                },
+            }
+        }
+    }
+}
+
+// What an item with a label comes to once the label has its len bytes.
+fn body_step(body: Body, size: usize, len: usize, setting: Setting) -> Step
+    requires { ⌜ len ≤ 4096 ⌝ }
+    ensures { λ r. ⌜ Does r (λ b. madeOf body (stateOf setting []) size (take len b)) ⌝ }
+{
+    match body {
+        Body::Only => Step::On { size, len, setting },
+        Body::Section {
+            last,
+            size: dimensions,
+        } => Step::Made {
+            size,
+            len,
+            setting,
+            fields: Fields::Section {
+                last,
+                size: dimensions,
+            },
+        },
+        Body::Station { flags, place } => Step::Made {
+            size,
+            len,
+            setting,
+            fields: Fields::Station { flags, place },
+        },
+        Body::Line { flags, place } => leg_step(flags, place, size, len, setting),
+    }
+}
+
+// The item at the front of s, in a file of the version, after the label of len bytes
+// and the setting: its answer, and the label's bytes after it.
+pub fn take_item(
+    version: u8,
+    s: &[u8],
+    bytes: &mut [u8; 4096],
+    len: usize,
+    setting: Setting,
+) -> Step
+    requires { ⌜ (len ≤ 4096) × (length (now bytes) ≡ 4096) ⌝ }
+    ensures { λ r. ⌜ Tells r (now (bytes .exit)) (next version (now (s .entry)) (stateOf setting (take len (now (bytes .entry))))) ⌝ }
+{
+    let it = decode(version, s);
+    match it {
+        Item::Faulty { number } => Step::Bad { number },
+        Item::Stop => stop_step(len, setting),
+        Item::Style { style } => style_step(style, len, setting),
+        Item::Move { place } => {
+            let after = moved(place, setting);
+            Step::On {
+                size: 13,
+                len,
+                setting: after,
+            }
+        }
+        Item::NoDate => {
+            let after = dated_by(Dated::Undated, setting);
+            Step::On {
+                size: 1,
+                len,
+                setting: after,
+            }
+        }
+        Item::Date { size, first, last } => date_step(size, first, last, len, setting),
+        Item::Error { traverse } => Step::Made {
+            size: 21,
+            len,
+            setting,
+            fields: Fields::Error { traverse },
+        },
+        Item::Relabel {
+            size,
+            cut,
+            from,
+            count,
+            body,
+        } => {
+            let to = from + count;
+            let label = label_step(bytes, len, cut, &s[from..to]);
+            match label {
+                Relabelled::TooShort => Step::Bad { number: 6 },
+                Relabelled::TooLong => Step::Bad { number: 7 },
+                Relabelled::Fits { len: new_len } => body_step(body, size, new_len, setting),
+            }
+        }
+    }
+}

@@ -1,0 +1,172 @@
+// Reading a whole file into a sheet: a first pass judges every item and measures the
+// sheet, a second lays the records in. One loop serves both.
+ghost use mathlib.Core.Path.{_≡_};
+ghost use mathlib.Core.List.{List, []};
+ghost use Prim.Native.Nat.{ℕ, _+_, _^_, _≤_, _<_};
+ghost use lib.ListN.{length, take};
+ghost use Rattle.format.specs.Reading.{next, itemsOf, readOutcome, readBuffer};
+ghost use Rattle.format.specs.Answers.{answerOf};
+ghost use Rattle.item.specs.Seen.{stateOf, Tells};
+ghost use Rattle.read.specs.Pass.{laidBy, lay, passOf, Starts, Opens, ReadsTo};
+use format::{Answer, Dated, Position};
+use header::Head;
+use item::{Setting, Step};
+
+// What a pass over the items comes to: a refusal; or the sheet's bytes and records.
+pub enum Passed {
+    Refused { number: u8, place: usize },
+    Done { bytes: usize, records: usize },
+}
+
+// Style, date and position at the start of a file.
+fn start() -> Setting
+    ensures { λ r. ⌜ Starts r ⌝ }
+{
+    Setting {
+        style: 5,
+        date: Dated::Undated,
+        position: Position::Unset,
+    }
+}
+
+// The item at the front of s, in the state of a setting and a label; its record, where
+// it makes one, is laid into the sheet from `out` on.
+fn lay_item(
+    version: u8,
+    s: &[u8],
+    bytes: &mut [u8; 4096],
+    len: usize,
+    setting: Setting,
+    sheet: &mut [u8],
+    out: usize,
+) -> Step
+    requires { ⌜ (len ≤ 4096) × (length (now bytes) ≡ 4096) × (out < 2 ^ 62) ⌝ }
+    ensures told { λ r. ⌜ Tells r (now (bytes .exit)) (next version (now (s .entry)) (stateOf setting (take len (now (bytes .entry))))) ⌝ }
+    ensures sheet { λ _. ⌜ now (sheet .exit) ≡ laidBy (next version (now (s .entry)) (stateOf setting (take len (now (bytes .entry))))) (now (sheet .entry)) out ⌝ }
+{
+    let it = item::take_item(version, s, bytes, len, setting);
+    let Step::Made {
+        size: _,
+        len: m,
+        setting: _,
+        fields,
+    } = it
+    else {
+        return it;
+    };
+    record::lay_record(sheet, out, fields, bytes, m);
+    it
+}
+
+// A pass over the items from `place` on: the answer for a sheet with room enough, and
+// each record laid in where there is room, the first of them at `front`.
+fn pass(file: &[u8], version: u8, place: usize, sheet: &mut [u8], front: usize) -> Passed
+    requires { ⌜ (length (now file) ≤ 16777216) × (place ≤ length (now file)) × (front ≤ 4167) ⌝ }
+    ensures answer { λ r. ⌜ r ≡ passOf front 0 (itemsOf version place (now (file .entry))) ⌝ }
+    ensures sheet { λ _. ⌜ now (sheet .exit) ≡ lay (now (sheet .entry)) front (itemsOf version place (now (file .entry)) .records) ⌝ }
+{
+    let mut at = place;
+    let mut out = front;
+    let mut records: usize = 0;
+    let mut label = label::blank();
+    let mut setting = start();
+    loop {
+        let rest = &file[at..];
+        let old = label.len;
+        let it = lay_item(version, rest, &mut label.bytes, old, setting, sheet, out);
+        match it {
+            Step::Bad { number } => {
+                return Passed::Refused { number, place: at };
+            }
+            Step::End => {
+                if 1 < rest.len() {
+                    return Passed::Refused {
+                        number: 10,
+                        place: at + 1,
+                    };
+                }
+                return Passed::Done {
+                    bytes: out,
+                    records,
+                };
+            }
+            Step::On {
+                size,
+                len,
+                setting: after,
+            } => {
+                label.len = len;
+                setting = after;
+                at += size;
+            }
+            Step::Made {
+                size,
+                len,
+                setting: after,
+                fields,
+            } => {
+                label.len = len;
+                setting = after;
+                out += record::record_size(fields, len);
+                records += 1;
+                at += size;
+            }
+        }
+    }
+}
+
+// Reads the items of a file that was opened, in two passes: 11 comes last.
+fn read_items(
+    file: &[u8],
+    sheet: &mut [u8],
+    version: u8,
+    place: usize,
+    extended: u8,
+    title: usize,
+    time: usize,
+) -> Answer
+    requires { ⌜ Opens (now file) version place extended title time ⌝ }
+    ensures { λ r. ⌜ ReadsTo (now (file .entry)) (now (sheet .entry)) r (now (sheet .exit)) ⌝ }
+{
+    let front = 7 + title + time;
+    let measured = pass(file, version, place, &mut sheet[..0], front);
+    match measured {
+        Passed::Refused { number, place: at } => Answer::Refused { number, place: at },
+        Passed::Done { bytes, records } => {
+            if sheet.len() < bytes {
+                return Answer::Refused {
+                    number: 11,
+                    place: bytes,
+                };
+            }
+            let ends = 24 + title;
+            let from = ends + 1;
+            let stops = from + time;
+            record::put_front(sheet, extended, &file[24..ends], &file[from..stops]);
+            pass(file, version, place, sheet, front);
+            Answer::Done {
+                bytes,
+                records,
+                version,
+            }
+        }
+    }
+}
+
+// Reads a file into the lent sheet.
+pub fn read(file: &[u8], sheet: &mut [u8]) -> Answer
+    ensures answer { λ r. ⌜ answerOf r ≡ readOutcome (now (file .entry)) (length (now (sheet .entry))) ⌝ }
+    ensures sheet { λ _. ⌜ now (sheet .exit) ≡ readBuffer (now (file .entry)) (now (sheet .entry)) ⌝ }
+{
+    let head = header::opening(file);
+    match head {
+        Head::Shut { number, place } => Answer::Refused { number, place },
+        Head::Whole {
+            version,
+            place,
+            extended,
+            title,
+            time,
+        } => read_items(file, sheet, version, place, extended, title, time),
+    }
+}

@@ -1,0 +1,97 @@
+-- A record's bytes: its size, its head and its label, and what two copies one after the other leave. Assumes nothing.
+use Prim.Native.Nat.{ℕ, suc, _+_, _-_, _≤_, _<_}
+use mathlib.Core.Path.{_≡_, refl, sym, ap, _∙_}
+use mathlib.Core.List.{List, [], _∷_, _++_, append-assoc}
+use native.Mathlib.Omega.{arith}
+use lib.ListN.{length, take, drop, length-append}
+use Rattle.format.specs.Bytes.{over, toBe16, toBe32}
+use Rattle.format.specs.Sheet.{pointBytes, dimensionBytes, traverseBytes, dateBytes, legBody, stationBody, sectionBody, layout, headerLayout}
+use Rattle.format.specs.State.{leg, station, section, error}
+use Rattle.format.specs.Fields.{recordOf}
+use Rattle.format.specs.declared.Point.{Point}
+use Rattle.format.specs.declared.Dimensions.{Dimensions}
+use Rattle.format.specs.declared.Traverse.{Traverse}
+use Rattle.format.specs.declared.Dated.{Dated}
+use Rattle.format.specs.declared.Fields.{Fields}
+use Rattle.format.specs.declared.Fields.the-variants.{Leg, Station, Section, Error}
+use Rattle.format.proofs.SheetLaws.{layout-leg, layout-station, layout-section, layout-error}
+use Rattle.wire.specs.Laid.{laid, laidIf}
+use Rattle.wire.proofs.Laws.{length-over, laid-zero, laid-part, laid-next, laid-none, laid-some}
+use Rattle.record.specs.Size.{recordSize}
+
+pub size-is : (f : Fields) (l : List ℕ) → length (layout (recordOf f l)) ≡ recordSize f (length l)
+size-is (Leg flags style date from to) l = layout-leg flags style date from to l ∙ omega arith
+size-is (Station flags p) l = layout-station flags p l ∙ omega arith
+size-is (Section last d) l = layout-section last d l ∙ omega arith
+size-is (Error t) l = layout-error t
+
+-- ---- a layout is a head and the label
+
+-- the length that stands before a body
+body-length : (body : List ℕ) (k : ℕ) → length (toBe16 (length body) ++ body) ≡ 2 + k → k ≡ length body
+unfolding toBe16
+body-length body k e = omega arith
+
+pub leg-parts : (flags style : ℕ) (date : Dated) (kind day last : ℕ) (from to : Point) (l : List ℕ) → dateBytes date ≡ kind ∷ (toBe16 day ++ toBe16 last)
+    → (toBe16 (32 + length l) ++ (1 ∷ flags ∷ style ∷ kind ∷ (toBe16 day ++ (toBe16 last ++ (pointBytes toBe32 from ++ pointBytes toBe32 to))))) ++ l ≡ layout (leg flags style date from to l)
+unfolding layout
+leg-parts flags style date kind day last from to l e =
+    let b = legBody flags style date from to l in
+    let n = body-length b (32 + length l) (layout-leg flags style date from to l) in
+    rw (← n, e) (simp append-assoc)
+
+pub station-parts : (flags : ℕ) (p : Point) (l : List ℕ) → (toBe16 (14 + length l) ++ (2 ∷ flags ∷ pointBytes toBe32 p)) ++ l ≡ layout (station flags p l)
+unfolding layout
+station-parts flags p l = rw (← body-length (stationBody flags p l) (14 + length l) (layout-station flags p l)) (simp append-assoc)
+
+pub section-parts : (last : ℕ) (d : Dimensions) (l : List ℕ) → (toBe16 (18 + length l) ++ (3 ∷ last ∷ dimensionBytes toBe32 d)) ++ l ≡ layout (section last d l)
+unfolding layout
+section-parts last d l = rw (← body-length (sectionBody last d l) (18 + length l) (layout-section last d l)) (simp append-assoc)
+
+pub error-parts : (t : Traverse) → toBe16 21 ++ (4 ∷ traverseBytes toBe32 t) ≡ layout (error t)
+unfolding layout toBe16 toBe32
+error-parts t = refl
+
+-- ---- a head laid over the front, and a label after it
+
+pub parts-laid : (S Y Z head name : List ℕ) (k : ℕ) → length head ≡ k → k + length name ≤ length S → Y ≡ over head S → Z ≡ over name (take (length Y - k) (drop k Y))
+    → take k Y ++ (Z ++ drop (length Y - k) (drop k Y)) ≡ over (head ++ name) S
+parts-laid S Y Z head name k hk hr eY eZ =
+    let ly : length Y ≡ length S = ap length eY ∙ length-over head S (omega arith) in
+    let z : k ≡ 0 + length head = omega arith in
+    rw eZ (laid-part Y name k (omega arith) (length Y) refl)
+    ∙ ap (λ (y : List ℕ). laid y k name) (eY ∙ sym (laid-zero S head))
+    ∙ ap (λ (n : ℕ). laid (laid S 0 head) n name) z
+    ∙ laid-next S head name 0 (omega arith)
+    ∙ laid-zero S (head ++ name)
+
+-- ---- a record laid in where it fits
+
+module _ (d : List ℕ) (k : ℕ) (s : List ℕ) where
+  pub lay-none : length d < k + length s → d ≡ laidIf d k s
+  lay-none h = sym (laid-none d s k h)
+
+  pub lay-some : k + length s ≤ length d → (y : List ℕ) → y ≡ over s (take (length d - k) (drop k d)) → take k d ++ (y ++ drop (length d - k) (drop k d)) ≡ laidIf d k s
+  lay-some h y ey = rw ey (laid-part d s k (omega arith) (length d) refl) ∙ sym (laid-some d s k h)
+
+-- ---- the front of a sheet
+
+-- three copies one after the other
+pub front-laid : (S head title time : List ℕ) → length head + length title + length time ≤ length S
+    → laid (laid (over head S) (length head) title) (length head + length title) time ≡ over (head ++ (title ++ time)) S
+front-laid S head title time h =
+    let z : length head ≡ 0 + length head = omega arith in
+    let y : length head + length title ≡ 0 + length (head ++ title) = simp length-append (omega arith) in
+    ap (λ (x : List ℕ). laid (laid x (length head) title) (length head + length title) time) (sym (laid-zero S head))
+    ∙ ap (λ (n : ℕ). laid (laid (laid S 0 head) n title) (length head + length title) time) z
+    ∙ ap (λ (x : List ℕ). laid x (length head + length title) time) (laid-next S head title 0 (omega arith))
+    ∙ ap (λ (n : ℕ). laid (laid S 0 (head ++ title)) n time) y
+    ∙ laid-next S (head ++ title) time 0 (omega arith)
+    ∙ laid-zero S ((head ++ title) ++ time)
+    ∙ ap (λ (x : List ℕ). over x S) (append-assoc head title time)
+
+pub front-parts : (extended : ℕ) (title time : List ℕ) → (1 ∷ (toBe16 (4 + length title + length time) ++ (0 ∷ extended ∷ toBe16 (length title)))) ++ (title ++ time) ≡ 1 ∷ headerLayout (record { extended = extended; title = title; time = time })
+unfolding headerLayout toBe16
+front-parts extended title time =
+    let n : suc (suc (suc (suc (length (title ++ time))))) ≡ 4 + length title + length time = simp length-append (omega arith) in
+    rw n

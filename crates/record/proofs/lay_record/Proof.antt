@@ -1,0 +1,62 @@
+-- `record::lay_record` meets its contract. Assumes nothing.
+use native.Mathlib.Omega.{arith}
+use mathlib.Core.Path.{_≡_, _∙_, sym}
+use lib.ListN.{length, take}
+use lib.Seq.{length-take-le}
+use Rattle.format.specs.Sheet.{layout}
+use Rattle.format.specs.Fields.{recordOf}
+use Rattle.record.proofs.Laws.{size-is, lay-none, lay-some}
+use borrow.Author.Needs.{needs}
+use Rattle.record.proofs.lay_record.Statement.{statement}
+use Rattle.record.proofs.lay_record.Tie as tie
+
+-- the record's size, from what `record_size` says of it
+sized : (y : tie.After-record-size) → length (layout (recordOf (y .before .before .args .fields) (take (y .before .before .args .len) (y .before .before .args .bytes .now)))) ≡ y .record-size .result
+sized y =
+    let a = y .before .before in
+    let t : length (take (a .args .len) (a .args .bytes .now)) ≡ a .args .len = length-take-le (a .args .len) (a .args .bytes .now) (omega (arith, a .pre)) in
+    size-is (a .args .fields) (take (a .args .len) (a .args .bytes .now)) ∙ rw t (sym (y .record-size .ensures .0))
+
+record-size-requires : tie.Need-record-size-requires
+record-size-requires c κs = search needs
+
+add-if1 : tie.Need-add-if1
+add-if1 c = search needs
+
+returns : tie.Need-returns
+returns c =
+    let a = c .before .before .before in
+    lay-none _ _ _ (omega (arith, sized (c .before), c .if1 .taken))
+
+sub-put-record : tie.Need-sub-put-record
+sub-put-record c = search needs
+
+part-put-record-start : tie.Need-part-put-record-start
+part-put-record-start c = search needs
+
+part-put-record-end : tie.Need-part-put-record-end
+part-put-record-end c = search needs
+
+put-record-requires : tie.Need-put-record-requires
+put-record-requires c κs = search needs
+
+same-length : tie.Need-same-length
+same-length c = search needs
+
+returns-2 : tie.Need-returns-2
+returns-2 c =
+    lay-some _ _ _ (omega (arith, sized (c .before .before .before .before .before), c .before .before .before .before .if1 .left)) _ (c .before .before .put-record .ensures)
+
+pub lay-record-spec : {M : Type 1} → statement M
+lay-record-spec =
+    tie.close
+    (tie.spec
+    record-size-requires
+    add-if1
+    returns
+    sub-put-record
+    part-put-record-start
+    part-put-record-end
+    put-record-requires
+    same-length
+    returns-2)

@@ -1,0 +1,56 @@
+-- `record::put_parts` meets its contract. Assumes nothing.
+use native.Mathlib.Omega.{arith}
+use mathlib.Core.Path.{_≡_, refl, sym}
+use lib.ListN.{length, take, length-take, length-drop}
+use lib.Seq.{length-take-le}
+use Rattle.record.proofs.Laws.{parts-laid}
+use borrow.Author.Needs.{needs}
+use Rattle.record.proofs.put_parts.Statement.{statement}
+use Rattle.record.proofs.put_parts.Tie as tie
+
+copy-requires : tie.Need-copy-requires
+copy-requires c κs = search needs
+
+slice-aggregate-copy : tie.Need-slice-aggregate-copy
+slice-aggregate-copy c =
+    let a = c .before .before .before .before .before .before .before .before in
+    sym (length-take-le (a .args .len) (a .args .bytes .now) (omega (arith, a .pre)))
+
+sub-copy : tie.Need-sub-copy
+sub-copy c = search needs
+
+part-copy-start : tie.Need-part-copy-start
+part-copy-start c = search needs
+
+part-copy-end : tie.Need-part-copy-end
+part-copy-end c = search needs
+
+copy-requires-2 : tie.Need-copy-requires-2
+copy-requires-2 c κs =
+    let a = c .before .before .before .before .before .before .before .before .before in
+    simp (length-take, length-drop) (omega (arith, c .before .before .before .before .copy .kept .1 .0, a .pre))
+
+same-length : tie.Need-same-length
+same-length c = search needs
+
+returns : tie.Need-returns
+returns c =
+    let a = c .before .before .before .before .before .before .before .before .before .before .before .before in
+    let d = c .before .before .before .before .before .before .before in
+    let n = a .args .len in
+    let b = a .args .bytes .now in
+    let t : length (take n b) ≡ n = length-take-le n b (omega (arith, a .pre)) in
+    parts-laid (a .args .out .now) (d .copy .last .1 .0) (c .before .before .copy2 .last .1 .0) (a .args .head .now) (take n b) (length (a .args .head .now)) refl (omega (arith, a .pre)) (d .copy .ensures) (c .before .before .copy2 .ensures)
+
+pub put-parts-spec : {M : Type 1} → statement M
+put-parts-spec =
+    tie.close
+    (tie.spec
+    copy-requires
+    slice-aggregate-copy
+    sub-copy
+    part-copy-start
+    part-copy-end
+    copy-requires-2
+    same-length
+    returns)

@@ -1,0 +1,282 @@
+// The records of a sheet, laid out in bytes.
+ghost use mathlib.Core.Path.{_≡_};
+ghost use mathlib.Core.List.{List, [], _∷_, _++_};
+ghost use Prim.Native.Nat.{ℕ, _+_, _^_, _≤_, _<_};
+ghost use lib.ListN.{length, take};
+ghost use Rattle.format.specs.Bytes.{over, toBe16, toBe32};
+ghost use Rattle.format.specs.Sheet.{pointBytes, dimensionBytes, traverseBytes, dateBytes, layout, headerLayout};
+ghost use Rattle.format.specs.Fields.{recordOf};
+ghost use Rattle.wire.specs.Laid.{laid, laidIf};
+ghost use Rattle.record.specs.Size.{recordSize};
+use format::{Dated, Dimensions, Fields, Point, Traverse};
+
+// A date as a sheet has it: kind, day and last day.
+pub struct Days {
+    pub kind: u8,
+    pub day: u16,
+    pub last: u16,
+}
+
+fn days_of(date: Dated) -> Days
+    ensures { λ r. ⌜ dateBytes date ≡ r .kind ∷ (toBe16 (r .day) ++ toBe16 (r .last)) ⌝ }
+{
+    match date {
+        Dated::Undated => Days {
+            kind: 0,
+            day: 0,
+            last: 0,
+        },
+        Dated::Day { day } => Days {
+            kind: 1,
+            day,
+            last: 0,
+        },
+        Dated::Range { first, last } => Days {
+            kind: 2,
+            day: first,
+            last,
+        },
+    }
+}
+
+// The length bytes and the fields of a leg whose label has len bytes.
+fn leg_head(len: usize, flags: u8, style: u8, days: Days, from: Point, to: Point) -> [u8; 34]
+    requires { ⌜ len ≤ 4096 ⌝ }
+    ensures { λ r. ⌜ r ≡ toBe16 (32 + len) ++ (1 ∷ flags ∷ style ∷ days .kind ∷ (toBe16 (days .day) ++ (toBe16 (days .last) ++ (pointBytes toBe32 from ++ pointBytes toBe32 to)))) ⌝ }
+{
+    let n = 32 + len;
+    [
+        (n / 256 % 256) as u8,
+        (n % 256) as u8,
+        1,
+        flags,
+        style,
+        days.kind,
+        (days.day / 256 % 256) as u8,
+        (days.day % 256) as u8,
+        (days.last / 256 % 256) as u8,
+        (days.last % 256) as u8,
+        (from.x / 16777216 % 256) as u8,
+        (from.x / 65536 % 256) as u8,
+        (from.x / 256 % 256) as u8,
+        (from.x % 256) as u8,
+        (from.y / 16777216 % 256) as u8,
+        (from.y / 65536 % 256) as u8,
+        (from.y / 256 % 256) as u8,
+        (from.y % 256) as u8,
+        (from.z / 16777216 % 256) as u8,
+        (from.z / 65536 % 256) as u8,
+        (from.z / 256 % 256) as u8,
+        (from.z % 256) as u8,
+        (to.x / 16777216 % 256) as u8,
+        (to.x / 65536 % 256) as u8,
+        (to.x / 256 % 256) as u8,
+        (to.x % 256) as u8,
+        (to.y / 16777216 % 256) as u8,
+        (to.y / 65536 % 256) as u8,
+        (to.y / 256 % 256) as u8,
+        (to.y % 256) as u8,
+        (to.z / 16777216 % 256) as u8,
+        (to.z / 65536 % 256) as u8,
+        (to.z / 256 % 256) as u8,
+        (to.z % 256) as u8,
+    ]
+}
+
+// The same of a station.
+fn station_head(len: usize, flags: u8, p: Point) -> [u8; 16]
+    requires { ⌜ len ≤ 4096 ⌝ }
+    ensures { λ r. ⌜ r ≡ toBe16 (14 + len) ++ (2 ∷ flags ∷ pointBytes toBe32 p) ⌝ }
+{
+    let n = 14 + len;
+    [
+        (n / 256 % 256) as u8,
+        (n % 256) as u8,
+        2,
+        flags,
+        (p.x / 16777216 % 256) as u8,
+        (p.x / 65536 % 256) as u8,
+        (p.x / 256 % 256) as u8,
+        (p.x % 256) as u8,
+        (p.y / 16777216 % 256) as u8,
+        (p.y / 65536 % 256) as u8,
+        (p.y / 256 % 256) as u8,
+        (p.y % 256) as u8,
+        (p.z / 16777216 % 256) as u8,
+        (p.z / 65536 % 256) as u8,
+        (p.z / 256 % 256) as u8,
+        (p.z % 256) as u8,
+    ]
+}
+
+// The same of a cross-section.
+fn section_head(len: usize, last: u8, d: Dimensions) -> [u8; 20]
+    requires { ⌜ len ≤ 4096 ⌝ }
+    ensures { λ r. ⌜ r ≡ toBe16 (18 + len) ++ (3 ∷ last ∷ dimensionBytes toBe32 d) ⌝ }
+{
+    let n = 18 + len;
+    [
+        (n / 256 % 256) as u8,
+        (n % 256) as u8,
+        3,
+        last,
+        (d.left / 16777216 % 256) as u8,
+        (d.left / 65536 % 256) as u8,
+        (d.left / 256 % 256) as u8,
+        (d.left % 256) as u8,
+        (d.right / 16777216 % 256) as u8,
+        (d.right / 65536 % 256) as u8,
+        (d.right / 256 % 256) as u8,
+        (d.right % 256) as u8,
+        (d.up / 16777216 % 256) as u8,
+        (d.up / 65536 % 256) as u8,
+        (d.up / 256 % 256) as u8,
+        (d.up % 256) as u8,
+        (d.down / 16777216 % 256) as u8,
+        (d.down / 65536 % 256) as u8,
+        (d.down / 256 % 256) as u8,
+        (d.down % 256) as u8,
+    ]
+}
+
+// A traverse error, whole: it has no label.
+fn error_bytes(t: Traverse) -> [u8; 23]
+    ensures { λ r. ⌜ r ≡ toBe16 21 ++ (4 ∷ traverseBytes toBe32 t) ⌝ }
+{
+    [
+        0,
+        21,
+        4,
+        (t.legs / 16777216 % 256) as u8,
+        (t.legs / 65536 % 256) as u8,
+        (t.legs / 256 % 256) as u8,
+        (t.legs % 256) as u8,
+        (t.total / 16777216 % 256) as u8,
+        (t.total / 65536 % 256) as u8,
+        (t.total / 256 % 256) as u8,
+        (t.total % 256) as u8,
+        (t.e / 16777216 % 256) as u8,
+        (t.e / 65536 % 256) as u8,
+        (t.e / 256 % 256) as u8,
+        (t.e % 256) as u8,
+        (t.h / 16777216 % 256) as u8,
+        (t.h / 65536 % 256) as u8,
+        (t.h / 256 % 256) as u8,
+        (t.h % 256) as u8,
+        (t.v / 16777216 % 256) as u8,
+        (t.v / 65536 % 256) as u8,
+        (t.v / 256 % 256) as u8,
+        (t.v % 256) as u8,
+    ]
+}
+
+// Copies a record's head and then the first len bytes of its label to the front of out.
+fn put_parts(out: &mut [u8], head: &[u8], bytes: &[u8; 4096], len: usize)
+    requires { ⌜ (len ≤ 4096) × (length (now head) + len ≤ length (now out)) × (length (now bytes) ≡ 4096) ⌝ }
+    ensures { λ _. ⌜ now (out .exit) ≡ over (now (head .entry) ++ take len (now (bytes .entry))) (now (out .entry)) ⌝ }
+{
+    let k = head.len();
+    let whole = &bytes[..];
+    wire::copy(head, out);
+    wire::copy(&whole[..len], &mut out[k..]);
+}
+
+// How many bytes a record takes in a sheet, with its length bytes.
+pub fn record_size(fields: Fields, len: usize) -> usize
+    requires { ⌜ len ≤ 4096 ⌝ }
+    ensures { λ r. ⌜ (r ≡ recordSize fields len) × (r ≤ 4130) ⌝ }
+{
+    match fields {
+        Fields::Leg {
+            flags: _,
+            style: _,
+            date: _,
+            from: _,
+            to: _,
+        } => 34 + len,
+        Fields::Station { flags: _, place: _ } => 16 + len,
+        Fields::Section { last: _, size: _ } => 20 + len,
+        Fields::Error { traverse: _ } => 23,
+    }
+}
+
+// Lays a record over the front of out.
+pub fn put_record(out: &mut [u8], fields: Fields, bytes: &[u8; 4096], len: usize)
+    requires { ⌜ (len ≤ 4096) × (recordSize fields len ≤ length (now out)) × (length (now bytes) ≡ 4096) ⌝ }
+    ensures { λ _. ⌜ now (out .exit) ≡ over (layout (recordOf fields (take len (now (bytes .entry))))) (now (out .entry)) ⌝ }
+{
+    match fields {
+        Fields::Leg {
+            flags,
+            style,
+            date,
+            from,
+            to,
+        } => {
+            let head = leg_head(len, flags, style, days_of(date), from, to);
+            put_parts(out, &head, bytes, len);
+        }
+        Fields::Station { flags, place } => {
+            let head = station_head(len, flags, place);
+            put_parts(out, &head, bytes, len);
+        }
+        Fields::Section { last, size } => {
+            let head = section_head(len, last, size);
+            put_parts(out, &head, bytes, len);
+        }
+        Fields::Error { traverse } => {
+            let whole = error_bytes(traverse);
+            wire::copy(&whole, out);
+        }
+    }
+}
+
+// Lays a record into the sheet from index `at` on, where it fits.
+pub fn lay_record(sheet: &mut [u8], at: usize, fields: Fields, bytes: &[u8; 4096], len: usize)
+    requires { ⌜ (at < 2 ^ 63) × (len ≤ 4096) × (length (now bytes) ≡ 4096) ⌝ }
+    ensures { λ _. ⌜ now (sheet .exit) ≡ laidIf (now (sheet .entry)) at (layout (recordOf fields (take len (now (bytes .entry))))) ⌝ }
+{
+    let n = record_size(fields, len);
+    if sheet.len() < at + n {
+        return;
+    }
+    put_record(&mut sheet[at..], fields, bytes, len);
+}
+
+// Copies part into out from index k on.
+fn put_at(out: &mut [u8], k: usize, part: &[u8])
+    requires { ⌜ k + length (now part) ≤ length (now out) ⌝ }
+    ensures { λ _. ⌜ now (out .exit) ≡ laid (now (out .entry)) k (now (part .entry)) ⌝ }
+{
+    wire::copy(part, &mut out[k..]);
+}
+
+// The version byte and the fields of a header whose title has t bytes and whose
+// time line has m.
+fn front_head(extended: u8, t: usize, m: usize) -> [u8; 7]
+    requires { ⌜ (t ≤ 4096) × (m ≤ 64) ⌝ }
+    ensures { λ r. ⌜ r ≡ 1 ∷ (toBe16 (4 + t + m) ++ (0 ∷ extended ∷ toBe16 t)) ⌝ }
+{
+    let n = 4 + t + m;
+    [
+        1,
+        (n / 256 % 256) as u8,
+        (n % 256) as u8,
+        0,
+        extended,
+        (t / 256 % 256) as u8,
+        (t % 256) as u8,
+    ]
+}
+
+// Lays the version byte and the header record over the front of a sheet.
+pub fn put_front(sheet: &mut [u8], extended: u8, title: &[u8], time: &[u8])
+    requires { ⌜ (length (now title) ≤ 4096) × (length (now time) ≤ 64) × (7 + length (now title) + length (now time) ≤ length (now sheet)) ⌝ }
+    ensures { λ _. ⌜ now (sheet .exit) ≡ over (1 ∷ headerLayout (record { extended = extended; title = now (title .entry); time = now (time .entry) })) (now (sheet .entry)) ⌝ }
+{
+    let t = title.len();
+    let head = front_head(extended, t, time.len());
+    wire::copy(&head, sheet);
+    put_at(sheet, 7, title);
+    put_at(sheet, 7 + t, time);
+}

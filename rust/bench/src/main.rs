@@ -1,0 +1,132 @@
+//! The proved reader and writer against the second implementation's, in time:
+//! one run, one thread, the two taking turns.
+//!
+//! An argument asks for another number of repetitions.
+
+use generate::coder::{Coder, Form};
+use generate::Rng;
+use second::Answer;
+use std::hint::black_box;
+use std::time::{Duration, Instant};
+
+const TEN_MIB: usize = 10 * 1024 * 1024;
+const REPEATS: usize = 21;
+
+type Function = fn(&[u8], &mut [u8]) -> Answer;
+
+fn main() {
+    let repeats = std::env::args().nth(1).map_or(REPEATS, |count| count.parse().expect("a count"));
+    println!("{repeats} repetitions, the two taking turns, each first every other time");
+    println!("buffers: allocated once, the same one for both, and filled with a pattern");
+    println!("before each run, so all their pages have been touched; filling is not timed");
+    for version in [8, 3, 7] {
+        versions(version, repeats);
+    }
+}
+
+/// Reads and writes a file of one version.
+fn versions(version: u8, repeats: usize) {
+    let file = legs(version);
+    let sheet = read_sheet(&file);
+    let bytes = (file.len(), sheet.len());
+    println!("v{version}: file {} bytes of legs, sheet {} bytes", bytes.0, bytes.1);
+    let reading = Pair { proved: survex3d::read, second: second::read };
+    report("read", survex3d::HAS_READ, &file, sheet.len(), reading, repeats);
+    if survex3d::HAS_WRITE {
+        let writing = Pair { proved: survex3d::write, second: second::write };
+        let needed = needed(second::write, &sheet);
+        report("write", true, &sheet, needed, writing, repeats);
+    }
+}
+
+/// A file of 10 MiB, one MOVE and then legs, whose labels differ in the last
+/// four bytes. v3 to v7 drop these by a code of its own.
+fn legs(version: u8) -> Vec<u8> {
+    let mut rng = Rng::new(10, u64::from(version));
+    let mut coder = Coder::short(version);
+    coder.move_to([0; 3]).leg(0, (0, b"cave.series.passage.0000", Form::Least), [0; 3]);
+    while coder.bytes.len() < TEN_MIB - 22 {
+        let end = rng.name(4);
+        let to = [0; 3].map(|_: i32| rng.next() as i32 >> 8);
+        if version == 8 {
+            coder.leg(0, (4, &end, Form::Least), to);
+        } else {
+            coder.drop(4).leg(0, (0, &end, Form::Least), to);
+        }
+    }
+    coder.close();
+    coder.bytes
+}
+
+fn needed(function: Function, input: &[u8]) -> usize {
+    match function(input, &mut []) {
+        Answer::Refused { number: 11, place } => place,
+        other => panic!("no buffer length: {other:?}"),
+    }
+}
+
+fn read_sheet(file: &[u8]) -> Vec<u8> {
+    let mut sheet = vec![0; needed(second::read, file)];
+    second::read(file, &mut sheet);
+    sheet
+}
+
+#[derive(Clone, Copy)]
+struct Pair {
+    proved: Function,
+    second: Function,
+}
+
+fn report(what: &str, has: bool, input: &[u8], length: usize, pair: Pair, repeats: usize) {
+    let mut lent = vec![0x5a; length];
+    agree(input, &mut lent, pair);
+    let (mut proved, mut second) = (Vec::new(), Vec::new());
+    for turn in 0..repeats {
+        if turn % 2 == 0 {
+            proved.push(timed(pair.proved, input, &mut lent));
+            second.push(timed(pair.second, input, &mut lent));
+        } else {
+            second.push(timed(pair.second, input, &mut lent));
+            proved.push(timed(pair.proved, input, &mut lent));
+        }
+    }
+    let ratio = |one: Duration, other: Duration| one.as_secs_f64() / other.as_secs_f64();
+    let mut turns: Vec<f64> = proved.iter().zip(&second).map(|(a, b)| ratio(*a, *b)).collect();
+    turns.sort_by(f64::total_cmp);
+    proved.sort();
+    second.sort();
+    let middle = repeats / 2;
+    let name = if has { "proved" } else { "second, standing in," };
+    line(&format!("{what}, {name}"), proved[middle], proved[0]);
+    line(&format!("{what}, second"), second[middle], second[0]);
+    let (median, best) = (ratio(proved[middle], second[middle]), ratio(proved[0], second[0]));
+    let turn = turns[middle];
+    println!(
+        "  {what}: ratio of medians {median:.3}, of bests {best:.3}, median by turns {turn:.3}"
+    );
+}
+
+/// Both must answer the same and leave the same bytes.
+fn agree(input: &[u8], lent: &mut [u8], pair: Pair) {
+    let proved = (pair.proved)(input, lent);
+    let bytes = lent.to_vec();
+    assert!(matches!(proved, Answer::Done { .. }), "{proved:?}");
+    lent.fill(0);
+    assert_eq!((pair.second)(input, lent), proved);
+    assert!(bytes == lent, "the bytes differ");
+}
+
+fn timed(function: Function, input: &[u8], lent: &mut [u8]) -> Duration {
+    lent.fill(0xa5);
+    black_box(&mut *lent);
+    let start = Instant::now();
+    let answer = function(black_box(input), lent);
+    let took = start.elapsed();
+    black_box((answer, lent));
+    took
+}
+
+fn line(what: &str, median: Duration, best: Duration) {
+    let ms = |time: Duration| time.as_secs_f64() * 1000.0;
+    println!("  {what}: median {:.2} ms, best {:.2} ms", ms(median), ms(best));
+}

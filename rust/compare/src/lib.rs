@@ -1,0 +1,112 @@
+//! Holds the proved library against the second implementation: the same
+//! bytes in, the same answers and the same lent bytes out.
+
+mod lent;
+mod run;
+
+pub use lent::{disagree, hex, same, Call, Difference, Fills};
+pub use run::{files_wanted, seed, sheets_wanted, Tally};
+
+use second::{Answer, Later};
+
+/// Reading, at several buffer lengths. Answers what an ample buffer gives.
+pub fn read(file: &[u8]) -> Result<Answer, Difference> {
+    read_by(&survex3d::read, file)
+}
+
+type Reader<'r> = &'r dyn Fn(&[u8], &mut [u8]) -> Answer;
+
+/// The same with another function for the proved one.
+pub fn read_by(proved: Reader, file: &[u8]) -> Result<Answer, Difference> {
+    let needed = need(second::read(file, &mut []));
+    one_buffer(needed, 3 * file.len() + 100, &|sheet, _| proved(file, sheet), &|sheet, _| {
+        second::read(file, sheet)
+    })
+}
+
+/// Writing, likewise.
+pub fn write(sheet: &[u8]) -> Result<Answer, Difference> {
+    write_by(&survex3d::write, sheet)
+}
+
+pub fn write_by(proved: Reader, sheet: &[u8]) -> Result<Answer, Difference> {
+    let needed = need(second::write(sheet, &mut []));
+    one_buffer(needed, sheet.len() + 100, &|out, _| proved(sheet, out), &|out, _| {
+        second::write(sheet, out)
+    })
+}
+
+/// The length that 11 asks for; nothing after another refusal.
+fn need(answer: Answer) -> Option<usize> {
+    match answer {
+        Answer::Refused { number: 11, place } => Some(place),
+        Answer::Refused { .. } => None,
+        Answer::Done { .. } => Some(0),
+    }
+}
+
+/// Buffers of no bytes, one short, exact and longer; after a refusal, of no
+/// bytes and of enough that a hasty reader would have written.
+fn one_buffer(
+    needed: Option<usize>,
+    ample: usize,
+    proved: &Call,
+    second: &Call,
+) -> Result<Answer, Difference> {
+    let same = |length| same(Fills::First, proved, second, (length, 0));
+    let Some(exact) = needed else {
+        same(0)?;
+        return same(ample);
+    };
+    for length in [0, exact / 2, exact.saturating_sub(1), exact] {
+        same(length)?;
+    }
+    same(exact + 1 + exact % 40)
+}
+
+type Converter<'r> = &'r dyn Fn(&[u8], &mut [u8], &mut [u8]) -> Answer;
+
+/// Converting, with both buffers at several lengths.
+pub fn convert(file: &[u8]) -> Result<Answer, Difference> {
+    convert_by(&survex3d::convert, file)
+}
+
+pub fn convert_by(proved: Converter, file: &[u8]) -> Result<Answer, Difference> {
+    let proved = |sheet: &mut [u8], out: &mut [u8]| proved(file, sheet, out);
+    let second = |sheet: &mut [u8], out: &mut [u8]| second::convert(file, sheet, out);
+    let same = |sheet, out| same(Fills::Both, &proved, &second, (sheet, out));
+    let Some(sheet) = need(second::read(file, &mut [])) else {
+        same(0, 0)?;
+        return same(3 * file.len() + 100, file.len() + 100);
+    };
+    let Some(out) = need(second(&mut vec![0; sheet], &mut [])) else {
+        same(sheet, 0)?;
+        return same(sheet + 9, 16_777_216);
+    };
+    for (sheet, out) in [(0, 0), (sheet - 1, out), (sheet, 0), (sheet, out - 1), (sheet, out)] {
+        same(sheet, out)?;
+    }
+    same(sheet + 1 + sheet % 40, out + 1 + out % 40)
+}
+
+/// Which is later: the answer, and the very same part of the same file.
+pub fn later<'a>(first: &'a [u8], other: &'a [u8]) -> Result<(Later, &'a [u8]), String> {
+    later_by(survex3d::compare(first, other), second::compare(first, other))
+}
+
+pub fn later_by<'a>(
+    proved: (Later, &'a [u8]),
+    second: (Later, &'a [u8]),
+) -> Result<(Later, &'a [u8]), String> {
+    let part = |part: &[u8]| (!part.is_empty()).then_some((part.as_ptr(), part.len()));
+    if proved.0 == second.0 && part(proved.1) == part(second.1) {
+        return Ok(second);
+    }
+    Err(format!(
+        "proved {:?} with {}\nsecond {:?} with {}",
+        proved.0,
+        hex(proved.1),
+        second.0,
+        hex(second.1)
+    ))
+}

@@ -1,0 +1,125 @@
+//! Real files: read alike by both, and the records agree with dump3d's text
+//! where document 01 and Survex agree (see testdata/README.md).
+
+mod dump;
+
+use compare::{disagree, hex};
+use second::Answer;
+use std::fs;
+use std::path::{Path, PathBuf};
+
+fn folder() -> PathBuf {
+    Path::new(env!("CARGO_MANIFEST_DIR")).join("../testdata")
+}
+
+/// The .3d files of a folder, by name.
+fn files(folder: &Path) -> Vec<PathBuf> {
+    let entries = fs::read_dir(folder).expect("the test data");
+    let mut files: Vec<_> = entries.map(|entry| entry.unwrap().path()).collect();
+    files.retain(|path| path.extension().is_some_and(|end| end == "3d"));
+    files.sort();
+    files
+}
+
+/// The sheet and record count, or the refusal.
+type Read = Result<(Vec<u8>, usize), (u8, usize)>;
+
+/// The version, and what both readers make of the file.
+fn read(path: &Path) -> (u8, Read) {
+    let file = fs::read(path).unwrap();
+    let name = path.display();
+    let answer = compare::read(&file)
+        .unwrap_or_else(|difference| disagree(&format!("{name}"), &file, &difference));
+    if let Err(difference) = compare::convert(&file) {
+        disagree(&format!("converting {name}"), &file, &difference);
+    }
+    let version = file[22] - b'0';
+    match answer {
+        Answer::Refused { number, place } => (version, Err((number, place))),
+        Answer::Done { bytes, records, .. } => {
+            let mut sheet = vec![0; bytes];
+            survex3d::read(&file, &mut sheet);
+            (version, Ok((sheet, records)))
+        }
+    }
+}
+
+#[test]
+fn records_agree_with_dump3d() {
+    let files = files(&folder());
+    assert_eq!(files.len(), 17);
+    let mut compared = 0;
+    for path in files {
+        let (version, read) = read(&path);
+        let (sheet, records) = read.expect("a file that reads");
+        let text = fs::read_to_string(path.with_extension("dump")).unwrap();
+        let said = dump::said(&text);
+        let ours = dump::told(&sheet, version);
+        assert_eq!(said.head, ours.head, "{}", path.display());
+        assert_eq!(ours.lines.len(), records);
+        for (number, (said, ours)) in said.lines.iter().zip(&ours.lines).enumerate() {
+            assert_eq!(said, ours, "record {number} of {}", path.display());
+        }
+        assert_eq!(said.lines.len(), ours.lines.len(), "{}", path.display());
+        compared += records;
+    }
+    println!("records compared with dump3d: {compared}");
+}
+
+/// What document 01 answers for the files in `departures` that it refuses;
+/// the others read.
+fn departure(name: &str) -> Option<(u8, usize)> {
+    match name {
+        "anon.v3.3d" => Some((4, 291)),
+        "anon.v4.3d" | "anon.v5.3d" | "anon.v6.3d" => Some((4, 296)),
+        "anon.v7.3d" => Some((4, 294)),
+        "loops.v3.3d" => Some((4, 89)),
+        "loops.v4.3d" | "loops.v5.3d" => Some((4, 94)),
+        "early.v4.3d" | "early.v5.3d" | "early.v6.3d" => Some((9, 77)),
+        "longname.v7.3d" => Some((7, 4185)),
+        "longname.v8.3d" => Some((7, 4175)),
+        _ => None,
+    }
+}
+
+#[test]
+fn departures_answer_as_described() {
+    let files = files(&folder().join("departures"));
+    assert_eq!(files.len(), 23);
+    for path in files {
+        let name = path.file_name().unwrap().to_str().unwrap();
+        let (_, read) = read(&path);
+        assert_eq!(read.err(), departure(name), "{name}");
+    }
+}
+
+/// Every real file cut at every place, a long one at several hundred places.
+#[test]
+fn real_files_cut_read_alike() {
+    let mut paths = files(&folder());
+    paths.extend(files(&folder().join("departures")));
+    for path in paths {
+        let file = fs::read(&path).unwrap();
+        let step = 1 + file.len() / 800;
+        for end in (0..file.len()).step_by(step) {
+            if let Err(difference) = compare::read(&file[..end]) {
+                disagree(&format!("{} cut", path.display()), &file[..end], &difference);
+            }
+        }
+    }
+}
+
+/// Real files compared by their time lines, each with each.
+#[test]
+fn real_time_lines() {
+    let mut paths = files(&folder());
+    paths.extend(files(&folder().join("departures")));
+    let files: Vec<_> = paths.iter().map(|path| fs::read(path).unwrap()).collect();
+    for one in &files {
+        for other in &files {
+            if let Err(difference) = compare::later(one, other) {
+                disagree(&format!("a comparison with {}", hex(other)), one, &difference);
+            }
+        }
+    }
+}

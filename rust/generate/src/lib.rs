@@ -1,0 +1,18 @@
+//! Survex 3d files, sheets and time lines for tests: good ones of every kind,
+//! and damaged ones. The same seed gives the same bytes.
+
+pub mod coder;
+pub mod damage;
+pub mod edges;
+pub mod files;
+pub mod heads;
+pub mod record;
+pub mod rng;
+pub mod sheet_edges;
+pub mod sheets;
+pub mod times;
+pub mod valid;
+
+pub use files::Kind;
+pub use rng::Rng;
+pub use sheets::SheetKind;
