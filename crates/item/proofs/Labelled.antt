@@ -1,15 +1,15 @@
 -- An item with a label: its size, and the bytes to append where they lie. Assumes nothing.
-use mathlib.Core.Path.{_≡_, refl, ap, _∙_}
+use mathlib.Core.Path.{_≡_, refl, sym, ap, _∙_}
 use mathlib.Core.List.{List}
 use mathlib.Core.Bool.{Bool, true, false}
-use Prim.Native.Nat.{ℕ, _+_, _≤_}
+use Prim.Native.Nat.{ℕ, _+_, _≤_, _<_}
 use native.Mathlib.Omega.{arith}
 use lib.ListN.{length, take, drop}
 use lib.Seq.{drop-drop}
 use lib.Dec.{ltb}
 use borrow.Author.Tests.{ltb-false}
 use Rattle.format.specs.Bytes.{pick}
-use Rattle.format.specs.Items.{Item, faulty, whole, sized, Part, unfinished, part, labelledItem}
+use Rattle.format.specs.Items.{Item, Decoded, faulty, whole, sized, Part, unfinished, part, labelledItem}
 use Rattle.label.specs.declared.Cut.the-variants.{Back}
 use Rattle.item.specs.Parts.{finished, tailOf, makeOf, Bodied, Bodies, labelledBy, bodyItem}
 use Rattle.item.specs.Seen.{relabelItem, Suits}

@@ -1,3 +1,3 @@
 mod Numbers
 mod Labelled
-mod Applied
+mod Steps

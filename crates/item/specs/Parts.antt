@@ -1,11 +1,12 @@
 -- What the code's enums say of label parts and of kinds of items. Assumes nothing.
 use Prim.Native.Nat.{ℕ, _+_, _≤_, _<_}
 use mathlib.Core.Path.{_≡_}
-use mathlib.Core.List.{List}
+use mathlib.Core.List.{List, []}
 use mathlib.Core.Bool.{Bool}
 use lib.ListN.{length, drop}
 use lib.Dec.{ltb}
 use Rattle.format.specs.Bytes.{pick, le16, le32, widened}
+use Rattle.format.specs.Label.{Cut}
 use Rattle.format.specs.Items.{Item, Stop as stopItem, Shorten as shortenItem, Style as styleItem, NoDate as noDateItem, Xsect, Station as stationPlaced, Line as linePlaced, Decoded, whole, reserved, Part, unfinished, part, oldPart, newPart, labelledItem, pointOf, dimensionsOf, moveItem, errorItem, dayItem, spanItem, daysItem, secondsItem, twoSecondsItem}
 use Rattle.label.specs.Seen.{cutOf}
 use Rattle.item.specs.declared.Part.{Part as Numbered}

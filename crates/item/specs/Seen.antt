@@ -3,9 +3,10 @@ use Prim.Native.Nat.{ℕ, _+_, _≤_}
 use mathlib.Core.Path.{_≡_}
 use mathlib.Core.List.{List}
 use lib.ListN.{length, take, drop}
-use Rattle.format.specs.Label.{labelLimit}
+use Rattle.format.specs.Label.{Cut, back, labelLimit}
 use Rattle.format.specs.Items.{Item, Stop as stopItem, Shorten as shortenItem, Style as styleItem, Move as moveItem, NoDate as noDateItem, Date as dateItem, Error as errorItem, Decoded, faulty, whole}
-use Rattle.format.specs.State.{State, Record, leg, station, section, error, named, Next, bad, end, on, made, legFrom}
+use Rattle.format.specs.State.{State, station, section, named, Next, bad, end, on, made, legFrom}
+use Rattle.format.specs.Fields.{recordOf}
 use Rattle.label.specs.Seen.{cutOf}
 use Rattle.label.specs.declared.Cut.{Cut as Cutting}
 use Rattle.label.specs.declared.Cut.the-variants.{Empty, ToDot, Trim, Back}
@@ -15,8 +16,6 @@ use Rattle.item.specs.declared.Body.the-variants.{Only, Section as Secti
 use Rattle.item.specs.declared.Item.{Item as Told}
 use Rattle.item.specs.declared.Item.the-variants.{Faulty, Stop, Style, Move, NoDate, Date, Error as ErrorTold, Relabel}
 use Rattle.item.specs.declared.Setting.{Setting}
-use Rattle.item.specs.declared.Fields.{Fields}
-use Rattle.item.specs.declared.Fields.the-variants.{Leg, Station, Section, Error}
 use Rattle.item.specs.declared.Step.{Step}
 use Rattle.item.specs.declared.Step.the-variants.{Bad, End, On, Made}
 
@@ -73,12 +72,6 @@ pub record Reads (r : Told) (s : List ℕ) (x : Decoded) : Type 0 where
 abbrev pub stateOf : Setting → List ℕ → State
 stateOf st l = record { label = l; style = st .style; date = st .date; position = st .position }
 
-abbrev pub recordOf : Fields → List ℕ → Record
-recordOf (Leg flags style date from to) l = leg flags style date from to l
-recordOf (Station flags place) l = station flags place l
-recordOf (Section last size) l = section last size l
-recordOf (Error traverse) l = error traverse
-
 abbrev pub seen : Step → List ℕ → Next
 seen (Bad k) b = bad k
 seen End b = end
@@ -98,14 +91,15 @@ pub record Tells (r : Step) (b : List ℕ) (x : Next) : Type 0 where
   pub whole : length b ≡ 4096
   pub short : Short r
 
--- an answer tells it whatever the buffer holds
-pub record Does (r : Step) (x : List ℕ → Next) : Type 0 where
-  pub same : (b : List ℕ) → length b ≡ 4096 → seen r b ≡ x b
-  pub short : Short r
-
 -- what an item of n bytes comes to once it has the label l
 abbrev pub madeOf : Body → State → ℕ → List ℕ → Next
 madeOf Only st n l = on n (named l st)
 madeOf (SectionBody last size) st n l = made n (section last size l) (named l st)
 madeOf (StationBody flags place) st n l = made n (station flags place l) (named l st)
 madeOf (LineBody flags place) st n l = legFrom (st .position) n st flags place l
+
+-- ---- a step that does not touch the label's buffer: what it says of every buffer, where the label had len bytes
+
+pub record Does (r : Step) (f : List ℕ → Next) (len : ℕ) : Type 0 where
+  pub same : (b : List ℕ) → seen r b ≡ f b
+  pub short : len ≤ labelLimit → Short r

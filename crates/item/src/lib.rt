@@ -3,6 +3,7 @@
 // bytes that the label gains.
 use format::Dated;
 use format::Dimensions;
+use format::Fields;
 use format::Point;
 use format::Position;
 use format::Traverse;
@@ -19,8 +20,10 @@ ghost use Prim.Native.Nat.{ℕ, _+_, _≤_, _<_};
 ghost use lib.ListN.{length, take, drop, getD};
 ghost use Rattle.format.specs.Bytes.{pick, le16, le32, widened};
 ghost use Rattle.format.specs.Items.{part, sectionItem, pointOf, dimensionsOf, traverseOf, oldPart, lengthSize, lengthValue, longPart, newPart, moveItem, errorItem, dayItem, spanItem, daysItem, dayOfSeconds, secondsItem, twoSecondsItem, oldDateItem, v7DateItem, oldMiddleItem, oldLowItem, oldHighItem, newDateItem, newLowItem, newHighItem, itemOf};
-ghost use Rattle.format.specs.Items.{Stop, Style, Date};
-ghost use Rattle.format.specs.State.{dateOf, apply, legFrom};
+ghost use Rattle.format.specs.Items.{Style as styleItem, Date as dateItem};
+ghost use Rattle.format.specs.Label.{labelStep};
+ghost use Rattle.format.specs.State.{dateOf, apply, onLabel};
+ghost use Rattle.label.specs.Seen.{cutOf};
 ghost use Rattle.format.specs.Reading.{next};
 ghost use Rattle.item.specs.Parts.{partSeen, Small, partAt, finished, tailOf, makeOf, Bodies, labelledBy, kindItem, SaysBy, Says};
 ghost use Rattle.item.specs.Seen.{Reads, stateOf, Does, Tells, madeOf};
@@ -30,28 +33,6 @@ pub struct Setting {
     pub style: u8,
     pub date: Dated,
     pub position: Position,
-}
-
-// A record's fields but for its label.
-pub enum Fields {
-    Leg {
-        flags: u8,
-        style: u8,
-        date: Dated,
-        from: Point,
-        to: Point,
-    },
-    Station {
-        flags: u8,
-        place: Point,
-    },
-    Section {
-        last: u8,
-        size: Dimensions,
-    },
-    Error {
-        traverse: Traverse,
-    },
 }
 
 // What an item comes to: a refusal; the end; its size and the label's new length,
@@ -786,7 +767,8 @@ fn decode(version: u8, s: &[u8]) -> Item
 
 // ---- what an item does to the state
 
-fn styled(style: u8, setting: Setting) -> Setting
+// The setting with another style, date or position.
+fn with_style(setting: Setting, style: u8) -> Setting
     ensures { λ r. ⌜ r ≡ record { style = style; date = setting .date; position = setting .position } ⌝ }
 {
     let date = setting.date;
@@ -798,7 +780,7 @@ fn styled(style: u8, setting: Setting) -> Setting
     }
 }
 
-fn dated_by(date: Dated, setting: Setting) -> Setting
+fn with_date(setting: Setting, date: Dated) -> Setting
     ensures { λ r. ⌜ r ≡ record { style = setting .style; date = date; position = setting .position } ⌝ }
 {
     let style = setting.style;
@@ -810,20 +792,41 @@ fn dated_by(date: Dated, setting: Setting) -> Setting
     }
 }
 
-fn moved(place: Point, setting: Setting) -> Setting
+fn with_position(setting: Setting, place: Point) -> Setting
     ensures { λ r. ⌜ r ≡ record { style = setting .style; date = setting .date; position = Position.Stands place } ⌝ }
 {
     let style = setting.style;
     let date = setting.date;
-    let position = Position::Stands { point: place };
     Setting {
         style,
         date,
-        position,
+        position: Position::Stands { point: place },
     }
 }
 
-// The date of a first and a last day; equal days are a single day.
+// A style; normal where it is normal already is the end.
+fn style_step(style: u8, len: usize, setting: Setting) -> Step
+    ensures { λ r. ⌜ Does r (λ b. apply (stateOf setting (take len b)) 1 (styleItem style)) len ⌝ }
+{
+    let after = with_style(setting, style);
+    if style != 0 {
+        return Step::On {
+            size: 1,
+            len,
+            setting: after,
+        };
+    }
+    if setting.style != 0 {
+        return Step::On {
+            size: 1,
+            len,
+            setting: after,
+        };
+    }
+    Step::End
+}
+
+// Two days as a date: equal ones are a single day.
 fn date_of(first: u32, last: u32) -> Dated
     requires { ⌜ (first ≤ last) × (last ≤ 65535) ⌝ }
     ensures { λ r. ⌜ r ≡ dateOf first last ⌝ }
@@ -837,49 +840,9 @@ fn date_of(first: u32, last: u32) -> Dated
     }
 }
 
-// v3 to v7, 00: the end where the label is empty; else it is emptied.
-fn stop_step(len: usize, setting: Setting) -> Step
-    requires { ⌜ len ≤ 4096 ⌝ }
-    ensures { λ r. ⌜ Does r (λ b. apply (stateOf setting (take len b)) 1 Stop) ⌝ }
-{
-    if len == 0 {
-        return Step::End;
-    }
-    Step::On {
-        size: 1,
-        len: 0,
-        setting,
-    }
-}
-
-// v8, 00-04: 00 is the end where the style is normal already.
-fn style_step(style: u8, len: usize, setting: Setting) -> Step
-    requires { ⌜ len ≤ 4096 ⌝ }
-    ensures { λ r. ⌜ Does r (λ b. apply (stateOf setting (take len b)) 1 (Style style)) ⌝ }
-{
-    let now = setting.style;
-    let after = styled(style, setting);
-    if style != 0 {
-        return Step::On {
-            size: 1,
-            len,
-            setting: after,
-        };
-    }
-    if now == 0 {
-        return Step::End;
-    }
-    Step::On {
-        size: 1,
-        len,
-        setting: after,
-    }
-}
-
-// Dates: 9 where the last day is before the first, or a day is over 65535.
+// A date; refused where the last day is before the first or over 65535.
 fn date_step(size: usize, first: u32, last: u32, len: usize, setting: Setting) -> Step
-    requires { ⌜ len ≤ 4096 ⌝ }
-    ensures { λ r. ⌜ Does r (λ b. apply (stateOf setting (take len b)) size (Date first last)) ⌝ }
+    ensures { λ r. ⌜ Does r (λ b. apply (stateOf setting (take len b)) size (dateItem first last)) len ⌝ }
 {
     if last < first {
         return Step::Bad { number: 9 };
@@ -888,60 +851,48 @@ fn date_step(size: usize, first: u32, last: u32, len: usize, setting: Setting) -
         return Step::Bad { number: 9 };
     }
     let date = date_of(first, last);
-    let after = dated_by(date, setting);
     Step::On {
         size,
         len,
-        setting: after,
+        setting: with_date(setting, date),
     }
 }
 
-// A leg from the position; 8 where there is none.
-fn leg_step(flags: u8, to: Point, size: usize, len: usize, setting: Setting) -> Step
-    requires { ⌜ len ≤ 4096 ⌝ }
-    ensures { λ r. ⌜ Does r (λ b. legFrom (setting .position) size (stateOf setting []) flags to (take len b)) ⌝ }
+// A leg from the position, which must be set.
+fn leg_step(size: usize, len: usize, setting: Setting, flags: u8, place: Point) -> Step
+    ensures { λ r. ⌜ Does r (λ b. madeOf (Body.Line flags place) (stateOf setting []) size (take len b)) len ⌝ }
 {
+    let style = setting.style;
+    let date = setting.date;
     let position = setting.position;
     match position {
         Position::Unset => Step::Bad { number: 8 },
-        Position::Stands { point } => {
-            let style = setting.style;
-            let date = setting.date;
-            let after = moved(to, setting);
-            Step::Made {
-                size,
-                len,
-                setting: after,
-                fields: Fields::Leg {
-                    flags,
-                    style,
-                    date,
-                    from: point,
-                    to,
-                },
-            }
-        }
+        Position::Stands { point } => Step::Made {
+            size,
+            len,
+            setting: with_position(setting, place),
+            fields: Fields::Leg {
+                flags,
+                style,
+                date,
+                from: point,
+                to: place,
+            },
+        },
     }
 }
 
-// What an item with a label comes to once the label has its len bytes.
-fn body_step(body: Body, size: usize, len: usize, setting: Setting) -> Step
-    requires { ⌜ len ≤ 4096 ⌝ }
-    ensures { λ r. ⌜ Does r (λ b. madeOf body (stateOf setting []) size (take len b)) ⌝ }
+// What an item comes to once its label, of len bytes, is in the buffer.
+fn made_step(size: usize, len: usize, setting: Setting, body: Body) -> Step
+    ensures { λ r. ⌜ Does r (λ b. madeOf body (stateOf setting []) size (take len b)) len ⌝ }
 {
     match body {
         Body::Only => Step::On { size, len, setting },
-        Body::Section {
-            last,
-            size: dimensions,
-        } => Step::Made {
+        Body::Section { last, size: dims } => Step::Made {
             size,
             len,
             setting,
-            fields: Fields::Section {
-                last,
-                size: dimensions,
-            },
+            fields: Fields::Section { last, size: dims },
         },
         Body::Station { flags, place } => Step::Made {
             size,
@@ -949,12 +900,36 @@ fn body_step(body: Body, size: usize, len: usize, setting: Setting) -> Step
             setting,
             fields: Fields::Station { flags, place },
         },
-        Body::Line { flags, place } => leg_step(flags, place, size, len, setting),
+        Body::Line { flags, place } => leg_step(size, len, setting, flags, place),
     }
 }
 
-// The item at the front of s, in a file of the version, after the label of len bytes
-// and the setting: its answer, and the label's bytes after it.
+// An item that changes the label: 6 and 7 before all else.
+fn relabel_step(
+    s: &[u8],
+    bytes: &mut [u8; 4096],
+    len: usize,
+    setting: Setting,
+    size: usize,
+    cut: Cut,
+    from: usize,
+    count: usize,
+    body: Body,
+) -> Step
+    requires { ⌜ (len ≤ 4096) × (length (now bytes) ≡ 4096) × (from + count ≤ length (now s)) ⌝ }
+    ensures { λ r. ⌜ Tells r (now (bytes .exit)) (onLabel (labelStep (take len (now (bytes .entry))) (cutOf cut) (take count (drop from (now (s .entry))))) (λ l. madeOf body (stateOf setting []) size l)) ⌝ }
+{
+    let to = from + count;
+    let after = label_step(bytes, len, cut, &s[from..to]);
+    match after {
+        Relabelled::TooShort => Step::Bad { number: 6 },
+        Relabelled::TooLong => Step::Bad { number: 7 },
+        Relabelled::Fits { len: m } => made_step(size, m, setting, body),
+    }
+}
+
+// What the item at the front of s comes to, in the state of a setting and a label: its
+// answer, and the label's bytes after it.
 pub fn take_item(
     version: u8,
     s: &[u8],
@@ -968,24 +943,27 @@ pub fn take_item(
     let it = decode(version, s);
     match it {
         Item::Faulty { number } => Step::Bad { number },
-        Item::Stop => stop_step(len, setting),
-        Item::Style { style } => style_step(style, len, setting),
-        Item::Move { place } => {
-            let after = moved(place, setting);
-            Step::On {
-                size: 13,
-                len,
-                setting: after,
+        Item::Stop => {
+            if len == 0 {
+                return Step::End;
             }
-        }
-        Item::NoDate => {
-            let after = dated_by(Dated::Undated, setting);
             Step::On {
                 size: 1,
-                len,
-                setting: after,
+                len: 0,
+                setting,
             }
         }
+        Item::Style { style } => style_step(style, len, setting),
+        Item::Move { place } => Step::On {
+            size: 13,
+            len,
+            setting: with_position(setting, place),
+        },
+        Item::NoDate => Step::On {
+            size: 1,
+            len,
+            setting: with_date(setting, Dated::Undated),
+        },
         Item::Date { size, first, last } => date_step(size, first, last, len, setting),
         Item::Error { traverse } => Step::Made {
             size: 21,
@@ -999,14 +977,6 @@ pub fn take_item(
             from,
             count,
             body,
-        } => {
-            let to = from + count;
-            let label = label_step(bytes, len, cut, &s[from..to]);
-            match label {
-                Relabelled::TooShort => Step::Bad { number: 6 },
-                Relabelled::TooLong => Step::Bad { number: 7 },
-                Relabelled::Fits { len: new_len } => body_step(body, size, new_len, setting),
-            }
-        }
+        } => relabel_step(s, bytes, len, setting, size, cut, from, count, body),
     }
 }

@@ -8,9 +8,12 @@ ghost use Rattle.format.specs.Reading.{next, itemsOf, readOutcome, readBuffer};
 ghost use Rattle.format.specs.Answers.{answerOf};
 ghost use Rattle.item.specs.Seen.{stateOf, Tells};
 ghost use Rattle.read.specs.Pass.{laidBy, lay, passOf, Starts, Opens, ReadsTo};
-use format::{Answer, Dated, Position};
+use format::Answer;
+use format::Dated;
+use format::Position;
 use header::Head;
-use item::{Setting, Step};
+use item::Setting;
+use item::Step;
 
 // What a pass over the items comes to: a refusal; or the sheet's bytes and records.
 pub enum Passed {

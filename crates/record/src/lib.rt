@@ -8,7 +8,11 @@ ghost use Rattle.format.specs.Sheet.{pointBytes, dimensionBytes, traverseBytes,
 ghost use Rattle.format.specs.Fields.{recordOf};
 ghost use Rattle.wire.specs.Laid.{laid, laidIf};
 ghost use Rattle.record.specs.Size.{recordSize};
-use format::{Dated, Dimensions, Fields, Point, Traverse};
+use format::Dated;
+use format::Dimensions;
+use format::Fields;
+use format::Point;
+use format::Traverse;
 
 // A date as a sheet has it: kind, day and last day.
 pub struct Days {

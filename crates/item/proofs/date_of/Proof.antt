@@ -1,8 +1,8 @@
 -- `item::date_of` meets its contract. Assumes nothing.
+use borrow.Author.Needs.{needs}
 use borrow.Author.Tests.{eq-eqb, ne-eqb}
 use Rattle.format.specs.Bytes.{pick}
 use Rattle.format.specs.State.{dateOf}
-use borrow.Author.Needs.{needs}
 use Rattle.item.proofs.date_of.Statement.{statement}
 use Rattle.item.proofs.date_of.Tie as tie
 
@@ -11,7 +11,8 @@ cast-t4 c = search needs
 
 returns : tie.Need-returns
 unfolding dateOf pick
-returns c = simp (eq-eqb _ _ (c .if1 .taken))
+returns c =
+    simp (eq-eqb _ _ (c .if1 .taken))
 
 cast-t5 : tie.Need-cast-t5
 cast-t5 c = search needs
@@ -21,7 +22,8 @@ cast-t6 c = search needs
 
 returns-2 : tie.Need-returns-2
 unfolding dateOf pick
-returns-2 c = simp (ne-eqb _ _ (c .if1 .left))
+returns-2 c =
+    simp (ne-eqb _ _ (c .if1 .left))
 
 pub date-of-spec : {M : Type 1} → statement M
 date-of-spec = tie.close (tie.spec cast-t4 returns cast-t5 cast-t6 returns-2)

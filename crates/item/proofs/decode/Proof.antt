@@ -1,4 +1,4 @@
--- `item::decode` meets its contract. Each arm is what `kind_of` says, then what the item's own function says. Assumes nothing.
+-- `item::decode` meets its contract. Assumes nothing.
 use native.Mathlib.Omega.{arith}
 use borrow.Author.Tests.{lt-ltb}
 use Rattle.format.specs.Bytes.{pick}

@@ -1,4 +1,4 @@
--- `item::kind_of` meets its contract. Each table's function says its part of `itemOf`. Assumes nothing.
+-- `item::kind_of` meets its contract. Assumes nothing.
 use borrow.Author.Tests.{lt-ltb, le-ltb}
 use Rattle.format.specs.Bytes.{pick}
 use mathlib.Core.Path.{_∙_}

@@ -1,6 +1,7 @@
--- `item::labelled_item` meets its contract. `labelled-there` puts together what the callees say of the part, and `labelled-fits` bounds every index by it. Assumes nothing.
+-- `item::labelled_item` meets its contract. Assumes nothing.
 use native.Mathlib.Omega.{arith}
 use borrow.Rule.Slice.PartAt.{part-to-end}
+use Prim.Native.Nat.{_-_}
 use lib.ListN.{length-drop}
 use Rattle.item.specs.Parts.{partAt}
 use Rattle.item.proofs.Labelled.{labelled-there, labelled-fits, labelled-short, labelled-whole, suits-back}

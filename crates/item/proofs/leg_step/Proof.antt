@@ -1,5 +1,6 @@
 -- `item::leg_step` meets its contract. Assumes nothing.
 use borrow.Author.Needs.{needs}
+use Rattle.item.proofs.Steps.{leg-unset, leg-made}
 use Rattle.item.proofs.leg_step.Statement.{statement}
 use Rattle.item.proofs.leg_step.Tie as tie
 
@@ -9,16 +10,17 @@ enum-told c = search needs
 enum-known-position : tie.Need-enum-known-position
 enum-known-position c = search needs
 
-moved-requires : tie.Need-moved-requires
-moved-requires c κs = search needs
+with-position-requires : tie.Need-with-position-requires
+with-position-requires c κs = search needs
 
 returns : tie.Need-returns
 returns c =
-    record { same = λ b h. rw (c .enum-told .given .1); short = tt }
+    leg-unset _ _ _ (c .before .before .args .setting) _ _ (c .enum-told .given .1)
 
 returns-2 : tie.Need-returns-2
 returns-2 c =
-    record { same = λ b h. rw (c .before .before .position .given .1) (simp (c .moved .ensures)); short = c .before .before .before .before .pre }
+    leg-made _ _ _ _ _ _ _ (c .before .before .position .given .1) (c .with-position .ensures)
 
 pub leg-step-spec : {M : Type 1} → statement M
-leg-step-spec = tie.close (tie.spec enum-told enum-known-position moved-requires returns returns-2)
+leg-step-spec =
+    tie.close (tie.spec enum-told enum-known-position with-position-requires returns returns-2)

@@ -1,7 +1,8 @@
--- `item::body_step` meets its contract. Assumes nothing.
+-- `item::made_step` meets its contract. Assumes nothing.
 use borrow.Author.Needs.{needs}
-use Rattle.item.proofs.body_step.Statement.{statement}
-use Rattle.item.proofs.body_step.Tie as tie
+use mathlib.Core.Path.{refl}
+use Rattle.item.proofs.made_step.Statement.{statement}
+use Rattle.item.proofs.made_step.Tie as tie
 
 enum-told : tie.Need-enum-told
 enum-told c = search needs
@@ -20,22 +21,22 @@ leg-step-requires c κs = search needs
 
 returns : tie.Need-returns
 returns c =
-    record { same = λ b h. rw (c .enum-told .given .1); short = c .before .before .pre }
+    rw (c .enum-told .given .1) (record { same = λ b. refl; short = λ q. q })
 
 returns-2 : tie.Need-returns-2
 returns-2 c =
-    record { same = λ b h. rw (c .before .body .given .1); short = c .before .before .before .pre }
+    rw (c .before .body .given .1) (record { same = λ b. refl; short = λ q. q })
 
 returns-3 : tie.Need-returns-3
 returns-3 c =
-    record { same = λ b h. rw (c .before .body2 .given .1); short = c .before .before .before .pre }
+    rw (c .before .body2 .given .1) (record { same = λ b. refl; short = λ q. q })
 
 returns-4 : tie.Need-returns-4
 returns-4 c =
-    record { same = λ b h. rw (c .before .before .body3 .given .1) (c .leg-step .ensures .same b h); short = c .leg-step .ensures .short }
+    rw (c .before .before .body3 .given .1) (c .leg-step .ensures)
 
-pub body-step-spec : {M : Type 1} → statement M
-body-step-spec =
+pub made-step-spec : {M : Type 1} → statement M
+made-step-spec =
     tie.close
     (tie.spec
     enum-told

@@ -1,0 +1,165 @@
+-- What each item does to the state, on plain values. Assumes nothing.
+use Prim.Native.Nat.{ℕ, _+_, _≤_, _<_}
+use mathlib.Core.Path.{_≡_, refl, sym, ap, _∙_}
+use mathlib.Core.List.{List, [], _∷_, _++_}
+use mathlib.Core.Bool.{Bool, true, false, _&&_, _||_}
+use native.Mathlib.Omega.{arith}
+use lib.ListN.{length, take, drop}
+use lib.Seq.{length-take-le}
+use lib.Dec.{eqb, ltb}
+use borrow.Author.Tests.{lt-ltb, le-ltb, eq-eqb, ne-eqb}
+use Rattle.format.specs.Bytes.{pick}
+use Rattle.format.specs.Label.{Cut, empty, back, Labelled, tooShort, tooLong, labelled, labelStep, labelLimit}
+use Rattle.format.specs.Items.{Item, Stop as stopItem, Style as styleItem, Move as moveItem, NoDate as noDateItem, Date as dateItem, Error as errorItem, Decoded, faulty, whole, itemOf}
+use Rattle.format.specs.State.{State, Record, Next, bad, end, on, made, dateOf, badDates, onLabel, legFrom, apply, nextOf}
+use Rattle.format.specs.Reading.{next}
+use Rattle.format.specs.declared.Point.{Point}
+use Rattle.format.specs.declared.Traverse.{Traverse}
+use Rattle.format.specs.declared.Dated.{Dated}
+use Rattle.format.specs.declared.Dated.the-variants.{Undated}
+use Rattle.format.specs.declared.Position.{Position}
+use Rattle.format.specs.declared.Position.the-variants.{Unset, Stands}
+use Rattle.label.specs.Seen.{cutOf, relabelledSeen, Tells as LabelTells}
+use Rattle.label.specs.declared.Cut.{Cut as Cutting}
+use Rattle.label.specs.declared.Cut.the-variants.{Back}
+use Rattle.label.specs.declared.Relabelled.the-variants.{TooShort, TooLong, Fits}
+use Rattle.item.specs.Seen.{itemSeen, relabelItem, dropped, Suits, Reads, stateOf, seen, Short, Tells, madeOf, Does}
+use Rattle.item.specs.declared.Body.{Body}
+use Rattle.item.specs.declared.Body.the-variants.{Only, Section as SectionBody, Station as StationBody, Line as LineBody}
+use Rattle.item.specs.declared.Item.{Item as Told}
+use Rattle.item.specs.declared.Item.the-variants.{Faulty, Stop, Style, Move, NoDate, Date, Error as ErrorTold, Relabel}
+use Rattle.item.specs.declared.Setting.{Setting}
+use Rattle.format.specs.declared.Fields.{Fields}
+use Rattle.format.specs.declared.Fields.the-variants.{Leg, Station, Section, Error}
+use Rattle.item.specs.declared.Step.{Step}
+use Rattle.item.specs.declared.Step.the-variants.{Bad, End, On, Made}
+
+-- ---- a style
+
+module _ (k len : ℕ) (st to : Setting) where
+  abbrev StyleDoes : Step → Type 0
+  StyleDoes r = Does r (λ b. apply (stateOf st (take len b)) 1 (styleItem k)) len
+
+  pub style-other : to ≡ record { style = k; date = st .date; position = st .position } → (k ≡ 0 → ⊥) → StyleDoes (On 1 len to)
+  unfolding pick
+  style-other e h = record { same = λ b. simp (e, ne-eqb k 0 h); short = λ q. q }
+
+  pub style-first : to ≡ record { style = k; date = st .date; position = st .position } → k ≡ 0 → (st .style ≡ 0 → ⊥) → StyleDoes (On 1 len to)
+  unfolding pick
+  style-first e z h = record { same = λ b. simp (e, eq-eqb k 0 z, ne-eqb (st .style) 0 h); short = λ q. q }
+
+  pub style-end : k ≡ 0 → st .style ≡ 0 → StyleDoes End
+  unfolding pick
+  style-end z h = record { same = λ b. simp (eq-eqb k 0 z, eq-eqb (st .style) 0 h); short = λ q. tt }
+
+-- ---- a date
+
+module _ (n first last len : ℕ) (st to : Setting) where
+  abbrev DateDoes : Step → Type 0
+  DateDoes r = Does r (λ b. apply (stateOf st (take len b)) n (dateItem first last)) len
+
+  pub date-before : last < first → DateDoes (Bad 9)
+  unfolding badDates pick
+  date-before h = record { same = λ b. simp (lt-ltb _ _ h); short = λ q. tt }
+
+  pub date-late : first ≤ last → 65535 < last → DateDoes (Bad 9)
+  unfolding badDates pick
+  date-late h k = record { same = λ b. simp (le-ltb _ _ h, lt-ltb _ _ k); short = λ q. tt }
+
+  pub date-on : first ≤ last → last ≤ 65535 → to ≡ record { style = st .style; date = dateOf first last; position = st .position } → DateDoes (On n len to)
+  unfolding badDates pick
+  date-on h k e = record { same = λ b. simp (e, le-ltb _ _ h, le-ltb _ _ k); short = λ q. q }
+
+-- ---- an item whose label is in the buffer
+
+module _ (n len : ℕ) (st to : Setting) where
+  abbrev MadeDoes : Body → Step → Type 0
+  MadeDoes body r = Does r (λ b. madeOf body (stateOf st []) n (take len b)) len
+
+  pub leg-unset : (flags : ℕ) (p : Point) → st .position ≡ Unset → MadeDoes (LineBody flags p) (Bad 8)
+  leg-unset flags p e = record { same = λ b. rw e; short = λ q. tt }
+
+  pub leg-made : (flags : ℕ) (from p : Point) → st .position ≡ Stands from → to ≡ record { style = st .style; date = st .date; position = Stands p }
+      → MadeDoes (LineBody flags p) (Made n len to (Leg flags (st .style) (st .date) from p))
+  leg-made flags from p e f = record { same = λ b. rw (e, f); short = λ q. q }
+
+-- ---- the label step first
+
+module _ (x : Labelled) (b : List ℕ) (go : List ℕ → Next) where
+  pub label-short : LabelTells TooShort b x → Tells (Bad 6) b (onLabel x go)
+  label-short T = record { same = ap (λ (y : Labelled). onLabel y go) (T .same); whole = T .whole; short = tt }
+
+  pub label-long : LabelTells TooLong b x → Tells (Bad 7) b (onLabel x go)
+  label-long T = record { same = ap (λ (y : Labelled). onLabel y go) (T .same); whole = T .whole; short = tt }
+
+  pub label-fits : (m : ℕ) (r : Step) → LabelTells (Fits m) b x → Does r (λ c. go (take m c)) m → Tells r b (onLabel x go)
+  label-fits m r T D = record { same = D .same b ∙ ap (λ (y : Labelled). onLabel y go) (T .same); whole = T .whole; short = D .short (T .short) }
+
+-- ---- the item at the front of s
+
+made-label : (body : Body) (st : Setting) (l : List ℕ) (n : ℕ) (m : List ℕ) → madeOf body (stateOf st []) n m ≡ madeOf body (stateOf st l) n m
+made-label Only st l n m = refl
+made-label (SectionBody last size) st l n m = refl
+made-label (StationBody flags p) st l n m = refl
+made-label (LineBody flags p) st l n m = go (st .position)
+  where
+    go : (q : Position) → legFrom q n (stateOf st []) flags p m ≡ legFrom q n (stateOf st l) flags p m
+    go Unset = refl
+    go (Stands from) = refl
+
+-- an item that changes the label is its label step first
+relabel-apply : (st : State) (n : ℕ) (body : Body) (cut : Cutting) (count : ℕ) (s : List ℕ) → Suits body cut count
+    → apply st n (relabelItem body cut (take count s)) ≡ onLabel (labelStep (st .label) (cutOf cut) (take count s)) (λ l. madeOf body st n l)
+relabel-apply st n Only cut count s e = rw e
+relabel-apply st n (SectionBody last size) cut count s e = rw (sym (ap cutOf e))
+relabel-apply st n (StationBody flags p) cut count s e = rw (sym (ap cutOf e))
+relabel-apply st n (LineBody flags p) cut count s e = rw (sym (ap cutOf e))
+
+module _ (version : ℕ) (s : List ℕ) (st : Setting) (len : ℕ) (b : List ℕ) (w : length b ≡ 4096) (h : len ≤ 4096) where
+  abbrev Comes : Step → Type 0
+  Comes r = Tells r b (next version s (stateOf st (take len b)))
+
+  -- what an item is seen to be, applied
+  due : (it : Told) → Reads it s (itemOf version s) → nextOf (stateOf st (take len b)) (itemSeen it s) ≡ next version s (stateOf st (take len b))
+  unfolding next
+  due it R = ap (nextOf (stateOf st (take len b))) (R .same)
+
+  pub comes-faulty : (k : ℕ) → Reads (Faulty k) s (itemOf version s) → Comes (Bad k)
+  comes-faulty k R = record { same = due (Faulty k) R; whole = w; short = tt }
+
+  pub comes-end : Reads Stop s (itemOf version s) → len ≡ 0 → Comes End
+  unfolding pick
+  comes-end R e = record { same = rw e (rw e at (due Stop R)); whole = w; short = tt }
+
+  pub comes-emptied : Reads Stop s (itemOf version s) → (len ≡ 0 → ⊥) → Comes (On 1 0 st)
+  unfolding pick labelStep
+  comes-emptied R e =
+      let t : length (take len b) ≡ len = length-take-le len b (omega arith) in
+      record { same = simp (t, ne-eqb len 0 e) at (due Stop R); whole = w; short = omega arith }
+
+  pub comes-does : (it : Told) (n : ℕ) (i : Item) (r : Step) → itemSeen it s ≡ whole n i → Reads it s (itemOf version s) → Does r (λ c. apply (stateOf st (take len c)) n i) len → Comes r
+  comes-does it n i r e R D = record { same = D .same b ∙ ap (nextOf (stateOf st (take len b))) (sym e) ∙ due it R; whole = w; short = D .short h }
+
+  pub comes-moved : (p : Point) (to : Setting) → Reads (Move p) s (itemOf version s) → to ≡ record { style = st .style; date = st .date; position = Stands p } → Comes (On 13 len to)
+  comes-moved p to R e = record { same = rw e (due (Move p) R); whole = w; short = h }
+
+  pub comes-undated : (to : Setting) → Reads NoDate s (itemOf version s) → to ≡ record { style = st .style; date = Undated; position = st .position } → Comes (On 1 len to)
+  comes-undated to R e = record { same = rw e (due NoDate R); whole = w; short = h }
+
+  pub comes-error : (t : Traverse) → Reads (ErrorTold t) s (itemOf version s) → Comes (Made 21 len st (Error t))
+  comes-error t R = record { same = due (ErrorTold t) R; whole = w; short = h }
+
+-- the label's bytes may change: b is the buffer before, c after
+pub comes-relabelled : (version : ℕ) (s : List ℕ) (st : Setting) (l c : List ℕ) (n : ℕ) (cut : Cutting) (from count : ℕ) (body : Body) (r : Step) → Reads (Relabel n cut from count body) s (itemOf version s)
+    → Tells r c (onLabel (labelStep l (cutOf cut) (take count (drop from s))) (λ m. madeOf body (stateOf st []) n m)) → Tells r c (next version s (stateOf st l))
+unfolding next
+comes-relabelled version s st l c n cut from count body r R T =
+    let e = relabel-apply (stateOf st l) n body cut count (drop from s) (R .sound .1) in
+    let f : onLabel (labelStep l (cutOf cut) (take count (drop from s))) (λ m. madeOf body (stateOf st []) n m) ≡ onLabel (labelStep l (cutOf cut) (take count (drop from s))) (λ m. madeOf body (stateOf st l) n m) =
+    same-label (labelStep l (cutOf cut) (take count (drop from s))) in
+    record { same = T .same ∙ f ∙ sym e ∙ ap (nextOf (stateOf st l)) (R .same); whole = T .whole; short = T .short }
+  where
+    same-label : (x : Labelled) → onLabel x (λ m. madeOf body (stateOf st []) n m) ≡ onLabel x (λ m. madeOf body (stateOf st l) n m)
+    same-label tooShort = refl
+    same-label tooLong = refl
+    same-label (labelled m) = made-label body st l n m
