@@ -33,14 +33,14 @@ unfolding toBe16
 body-length body k e = omega arith
 
 pub leg-parts : (flags style : ℕ) (date : Dated) (kind day last : ℕ) (from to : Point) (l : List ℕ) → dateBytes date ≡ kind ∷ (toBe16 day ++ toBe16 last)
-    → (toBe16 (32 + length l) ++ (1 ∷ flags ∷ style ∷ kind ∷ (toBe16 day ++ (toBe16 last ++ (pointBytes toBe32 from ++ pointBytes toBe32 to))))) ++ l ≡ layout (leg flags style date from to l)
+    → (toBe16 (32 + length l) ++ (1 ∷ flags ∷ style ∷ kind ∷ (toBe16 day ++ toBe16 last))) ++ (pointBytes toBe32 from ++ (pointBytes toBe32 to ++ l)) ≡ layout (leg flags style date from to l)
 unfolding layout
 leg-parts flags style date kind day last from to l e =
     let b = legBody flags style date from to l in
     let n = body-length b (32 + length l) (layout-leg flags style date from to l) in
     rw (← n, e) (simp append-assoc)
 
-pub station-parts : (flags : ℕ) (p : Point) (l : List ℕ) → (toBe16 (14 + length l) ++ (2 ∷ flags ∷ pointBytes toBe32 p)) ++ l ≡ layout (station flags p l)
+pub station-parts : (flags : ℕ) (p : Point) (l : List ℕ) → (toBe16 (14 + length l) ++ (2 ∷ flags ∷ [])) ++ (pointBytes toBe32 p ++ l) ≡ layout (station flags p l)
 unfolding layout
 station-parts flags p l = rw (← body-length (stationBody flags p l) (14 + length l) (layout-station flags p l)) (simp append-assoc)
 
@@ -64,6 +64,62 @@ parts-laid S Y Z head name k hk hr eY eZ =
     ∙ ap (λ (n : ℕ). laid (laid S 0 head) n name) z
     ∙ laid-next S head name 0 (omega arith)
     ∙ laid-zero S (head ++ name)
+
+-- ---- one part after another
+
+-- what is laid behind what stands at the front stands there too
+pub over-then : (S s t : List ℕ) (k : ℕ) → length s ≡ k → k + length t ≤ length S → laid (over s S) k t ≡ over (s ++ t) S
+over-then S s t k e h =
+    let z : k ≡ 0 + length s = omega arith in
+    ap (λ (y : List ℕ). laid y k t) (sym (laid-zero S s))
+    ∙ ap (λ (n : ℕ). laid (laid S 0 s) n t) z
+    ∙ laid-next S s t 0 (omega arith)
+    ∙ laid-zero S (s ++ t)
+
+pub word-length : (n : ℕ) → length (toBe32 n) ≡ 4
+unfolding toBe32
+word-length n = refl
+
+pub point-length : (p : Point) → length (pointBytes toBe32 p) ≡ 12
+unfolding toBe32
+point-length p = refl
+
+-- three words in a row are a place
+pub point-laid : (d : List ℕ) (k : ℕ) (p : Point) → k + 12 ≤ length d → laid (laid (laid d k (toBe32 (p .x))) (k + 4) (toBe32 (p .y))) (k + 8) (toBe32 (p .z)) ≡ laid d k (pointBytes toBe32 p)
+point-laid d k p h =
+    let X = toBe32 (p .x) in
+    let Y = toBe32 (p .y) in
+    let Z = toBe32 (p .z) in
+    let e4 : k + 4 ≡ k + length X = rw (word-length (p .x)) in
+    let e8 : k + 8 ≡ k + length (X ++ Y) = simp (length-append, word-length) in
+    ap (λ (n : ℕ). laid (laid (laid d k X) n Y) (k + 8) Z) e4
+    ∙ ap (λ (y : List ℕ). laid y (k + 8) Z) (laid-next d X Y k (omega arith))
+    ∙ ap (λ (n : ℕ). laid (laid d k (X ++ Y)) n Z) e8
+    ∙ laid-next d (X ++ Y) Z k (omega arith)
+    ∙ simp append-assoc
+
+pub leg-laid : (S head l : List ℕ) (from to : Point) → length head ≡ 10 → 34 + length l ≤ length S
+    → laid (laid (laid (over head S) 10 (pointBytes toBe32 from)) 22 (pointBytes toBe32 to)) 34 l ≡ over (head ++ (pointBytes toBe32 from ++ (pointBytes toBe32 to ++ l))) S
+leg-laid S head l from to e h =
+    let A = pointBytes toBe32 from in
+    let B = pointBytes toBe32 to in
+    let a = point-length from in
+    let b = point-length to in
+    let e1 : length (head ++ A) ≡ 22 = length-append head A ∙ omega arith in
+    let e2 : length ((head ++ A) ++ B) ≡ 34 = length-append (head ++ A) B ∙ omega arith in
+    ap (λ (y : List ℕ). laid (laid y 22 B) 34 l) (over-then S head A 10 e (omega arith))
+    ∙ ap (λ (y : List ℕ). laid y 34 l) (over-then S (head ++ A) B 22 e1 (omega arith))
+    ∙ over-then S ((head ++ A) ++ B) l 34 e2 h
+    ∙ ap (λ (y : List ℕ). over y S) (append-assoc (head ++ A) B l ∙ append-assoc head A (B ++ l))
+
+pub station-laid : (S head l : List ℕ) (p : Point) → length head ≡ 4 → 16 + length l ≤ length S → laid (laid (over head S) 4 (pointBytes toBe32 p)) 16 l ≡ over (head ++ (pointBytes toBe32 p ++ l)) S
+station-laid S head l p e h =
+    let A = pointBytes toBe32 p in
+    let a = point-length p in
+    let e1 : length (head ++ A) ≡ 16 = length-append head A ∙ omega arith in
+    ap (λ (y : List ℕ). laid y 16 l) (over-then S head A 4 e (omega arith))
+    ∙ over-then S (head ++ A) l 16 e1 h
+    ∙ ap (λ (y : List ℕ). over y S) (append-assoc head A l)
 
 -- ---- a record laid in where it fits
 

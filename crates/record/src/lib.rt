@@ -43,10 +43,10 @@ fn days_of(date: Dated) -> Days
     }
 }
 
-// The length bytes and the fields of a leg whose label has len bytes.
-fn leg_head(len: usize, flags: u8, style: u8, days: Days, from: Point, to: Point) -> [u8; 34]
+// The length bytes of a leg whose label has len bytes, and its fields up to the date.
+fn leg_head(len: usize, flags: u8, style: u8, days: Days) -> [u8; 10]
     requires { ⌜ len ≤ 4096 ⌝ }
-    ensures { λ r. ⌜ r ≡ toBe16 (32 + len) ++ (1 ∷ flags ∷ style ∷ days .kind ∷ (toBe16 (days .day) ++ (toBe16 (days .last) ++ (pointBytes toBe32 from ++ pointBytes toBe32 to)))) ⌝ }
+    ensures { λ r. ⌜ r ≡ toBe16 (32 + len) ++ (1 ∷ flags ∷ style ∷ days .kind ∷ (toBe16 (days .day) ++ toBe16 (days .last))) ⌝ }
 {
     let n = 32 + len;
     [
@@ -60,60 +60,19 @@ fn leg_head(len: usize, flags: u8, style: u8, days: Days, from: Point, to: Point
         (days.day % 256) as u8,
         (days.last / 256 % 256) as u8,
         (days.last % 256) as u8,
-        (from.x / 16777216 % 256) as u8,
-        (from.x / 65536 % 256) as u8,
-        (from.x / 256 % 256) as u8,
-        (from.x % 256) as u8,
-        (from.y / 16777216 % 256) as u8,
-        (from.y / 65536 % 256) as u8,
-        (from.y / 256 % 256) as u8,
-        (from.y % 256) as u8,
-        (from.z / 16777216 % 256) as u8,
-        (from.z / 65536 % 256) as u8,
-        (from.z / 256 % 256) as u8,
-        (from.z % 256) as u8,
-        (to.x / 16777216 % 256) as u8,
-        (to.x / 65536 % 256) as u8,
-        (to.x / 256 % 256) as u8,
-        (to.x % 256) as u8,
-        (to.y / 16777216 % 256) as u8,
-        (to.y / 65536 % 256) as u8,
-        (to.y / 256 % 256) as u8,
-        (to.y % 256) as u8,
-        (to.z / 16777216 % 256) as u8,
-        (to.z / 65536 % 256) as u8,
-        (to.z / 256 % 256) as u8,
-        (to.z % 256) as u8,
     ]
 }
 
-// The same of a station.
-fn station_head(len: usize, flags: u8, p: Point) -> [u8; 16]
+// The length bytes, the kind and the flags of a station whose label has len bytes.
+fn station_head(len: usize, flags: u8) -> [u8; 4]
     requires { ⌜ len ≤ 4096 ⌝ }
-    ensures { λ r. ⌜ r ≡ toBe16 (14 + len) ++ (2 ∷ flags ∷ pointBytes toBe32 p) ⌝ }
+    ensures { λ r. ⌜ r ≡ toBe16 (14 + len) ++ (2 ∷ flags ∷ []) ⌝ }
 {
     let n = 14 + len;
-    [
-        (n / 256 % 256) as u8,
-        (n % 256) as u8,
-        2,
-        flags,
-        (p.x / 16777216 % 256) as u8,
-        (p.x / 65536 % 256) as u8,
-        (p.x / 256 % 256) as u8,
-        (p.x % 256) as u8,
-        (p.y / 16777216 % 256) as u8,
-        (p.y / 65536 % 256) as u8,
-        (p.y / 256 % 256) as u8,
-        (p.y % 256) as u8,
-        (p.z / 16777216 % 256) as u8,
-        (p.z / 65536 % 256) as u8,
-        (p.z / 256 % 256) as u8,
-        (p.z % 256) as u8,
-    ]
+    [(n / 256 % 256) as u8, (n % 256) as u8, 2, flags]
 }
 
-// The same of a cross-section.
+// The length bytes and the fields of a cross-section whose label has len bytes.
 fn section_head(len: usize, last: u8, d: Dimensions) -> [u8; 20]
     requires { ⌜ len ≤ 4096 ⌝ }
     ensures { λ r. ⌜ r ≡ toBe16 (18 + len) ++ (3 ∷ last ∷ dimensionBytes toBe32 d) ⌝ }
@@ -174,6 +133,43 @@ fn error_bytes(t: Traverse) -> [u8; 23]
     ]
 }
 
+// Copies part into out from index k on.
+fn put_at(out: &mut [u8], k: usize, part: &[u8])
+    requires { ⌜ k + length (now part) ≤ length (now out) ⌝ }
+    ensures { λ _. ⌜ now (out .exit) ≡ laid (now (out .entry)) k (now (part .entry)) ⌝ }
+{
+    wire::copy(part, &mut out[k..]);
+}
+
+// Writes n into out from index k on. A word of its own is one store, where a long array
+// of bytes is a store for each.
+fn put_word(out: &mut [u8], k: usize, n: u32)
+    requires { ⌜ k + 4 ≤ length (now out) ⌝ }
+    ensures { λ _. ⌜ now (out .exit) ≡ laid (now (out .entry)) k (toBe32 n) ⌝ }
+{
+    let bytes = wire::be32_bytes(n);
+    put_at(out, k, &bytes);
+}
+
+// Writes a place into out from index k on.
+fn put_point(out: &mut [u8], k: usize, p: Point)
+    requires { ⌜ k + 12 ≤ length (now out) ⌝ }
+    ensures { λ _. ⌜ now (out .exit) ≡ laid (now (out .entry)) k (pointBytes toBe32 p) ⌝ }
+{
+    put_word(out, k, p.x);
+    put_word(out, k + 4, p.y);
+    put_word(out, k + 8, p.z);
+}
+
+// Copies the first len bytes of a label into out from index k on.
+fn put_label(out: &mut [u8], k: usize, bytes: &[u8; 4096], len: usize)
+    requires { ⌜ (len ≤ 4096) × (k + len ≤ length (now out)) × (length (now bytes) ≡ 4096) ⌝ }
+    ensures { λ _. ⌜ now (out .exit) ≡ laid (now (out .entry)) k (take len (now (bytes .entry))) ⌝ }
+{
+    let whole = &bytes[..];
+    put_at(out, k, &whole[..len]);
+}
+
 // Copies a record's head and then the first len bytes of its label to the front of out.
 fn put_parts(out: &mut [u8], head: &[u8], bytes: &[u8; 4096], len: usize)
     requires { ⌜ (len ≤ 4096) × (length (now head) + len ≤ length (now out)) × (length (now bytes) ≡ 4096) ⌝ }
@@ -204,6 +200,27 @@ pub fn record_size(fields: Fields, len: usize) -> usize
     }
 }
 
+// Lays a leg over the front of out, after its head of ten bytes.
+fn put_leg(out: &mut [u8], head: [u8; 10], from: Point, to: Point, bytes: &[u8; 4096], len: usize)
+    requires { ⌜ (len ≤ 4096) × (34 + len ≤ length (now out)) × (length (now bytes) ≡ 4096) ⌝ }
+    ensures { λ _. ⌜ now (out .exit) ≡ over (head ++ (pointBytes toBe32 from ++ (pointBytes toBe32 to ++ take len (now (bytes .entry))))) (now (out .entry)) ⌝ }
+{
+    wire::copy(&head, out);
+    put_point(out, 10, from);
+    put_point(out, 22, to);
+    put_label(out, 34, bytes, len);
+}
+
+// Lays a station over the front of out, after its head of four bytes.
+fn put_station(out: &mut [u8], head: [u8; 4], place: Point, bytes: &[u8; 4096], len: usize)
+    requires { ⌜ (len ≤ 4096) × (16 + len ≤ length (now out)) × (length (now bytes) ≡ 4096) ⌝ }
+    ensures { λ _. ⌜ now (out .exit) ≡ over (head ++ (pointBytes toBe32 place ++ take len (now (bytes .entry)))) (now (out .entry)) ⌝ }
+{
+    wire::copy(&head, out);
+    put_point(out, 4, place);
+    put_label(out, 16, bytes, len);
+}
+
 // Lays a record over the front of out.
 pub fn put_record(out: &mut [u8], fields: Fields, bytes: &[u8; 4096], len: usize)
     requires { ⌜ (len ≤ 4096) × (recordSize fields len ≤ length (now out)) × (length (now bytes) ≡ 4096) ⌝ }
@@ -217,12 +234,12 @@ pub fn put_record(out: &mut [u8], fields: Fields, bytes: &[u8; 4096], len: usize
             from,
             to,
         } => {
-            let head = leg_head(len, flags, style, days_of(date), from, to);
-            put_parts(out, &head, bytes, len);
+            let head = leg_head(len, flags, style, days_of(date));
+            put_leg(out, head, from, to, bytes, len);
         }
         Fields::Station { flags, place } => {
-            let head = station_head(len, flags, place);
-            put_parts(out, &head, bytes, len);
+            let head = station_head(len, flags);
+            put_station(out, head, place, bytes, len);
         }
         Fields::Section { last, size } => {
             let head = section_head(len, last, size);
@@ -245,14 +262,6 @@ pub fn lay_record(sheet: &mut [u8], at: usize, fields: Fields, bytes: &[u8; 4096
         return;
     }
     put_record(&mut sheet[at..], fields, bytes, len);
-}
-
-// Copies part into out from index k on.
-fn put_at(out: &mut [u8], k: usize, part: &[u8])
-    requires { ⌜ k + length (now part) ≤ length (now out) ⌝ }
-    ensures { λ _. ⌜ now (out .exit) ≡ laid (now (out .entry)) k (now (part .entry)) ⌝ }
-{
-    wire::copy(part, &mut out[k..]);
 }
 
 // The version byte and the fields of a header whose title has t bytes and whose
