@@ -2,6 +2,8 @@
 ghost use mathlib.Core.Path.{_≡_};
 ghost use lib.ListN.{length};
 ghost use Rattle.format.specs.Reading.{readOutcome, readBuffer};
+ghost use Rattle.format.specs.Writing.{writeOutcome, writeBuffer};
+ghost use Rattle.format.specs.Editing.{convertOutcome, convertBuffer};
 ghost use Rattle.capi.specs.Told.{told, toldOf};
 use format::Answer;
 
@@ -52,5 +54,26 @@ pub extern "C" fn cockledrift_read(file: &[u8], sheet: &mut [u8]) -> Told
     ensures sheet { λ _. ⌜ now (sheet .exit) ≡ readBuffer (now (file .entry)) (now (sheet .entry)) ⌝ }
 {
     let a = read::read(file, sheet);
+    tell(a)
+}
+
+// Writes a sheet as a v8 file into the lent buffer.
+#[no_mangle]
+pub extern "C" fn cockledrift_write(sheet: &[u8], out: &mut [u8]) -> Told
+    ensures answer { λ r. ⌜ r ≡ toldOf (writeOutcome (now (sheet .entry)) (length (now (out .entry)))) ⌝ }
+    ensures file { λ _. ⌜ now (out .exit) ≡ writeBuffer (now (sheet .entry)) (now (out .entry)) ⌝ }
+{
+    let a = write::write(sheet, out);
+    tell(a)
+}
+
+// Reads a file to the lent sheet, then writes it as v8.
+#[no_mangle]
+pub extern "C" fn cockledrift_convert(file: &[u8], sheet: &mut [u8], out: &mut [u8]) -> Told
+    ensures answer { λ r. ⌜ r ≡ toldOf (convertOutcome (now (file .entry)) (now (sheet .entry)) (length (now (out .entry)))) ⌝ }
+    ensures sheet { λ _. ⌜ now (sheet .exit) ≡ readBuffer (now (file .entry)) (now (sheet .entry)) ⌝ }
+    ensures file { λ _. ⌜ now (out .exit) ≡ convertBuffer (now (file .entry)) (now (sheet .entry)) (now (out .entry)) ⌝ }
+{
+    let a = convert::convert(file, sheet, out);
     tell(a)
 }

@@ -1,0 +1,4 @@
+pub mod Labels
+pub mod Laying
+pub mod Turn
+pub mod Whole
