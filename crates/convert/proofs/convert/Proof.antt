@@ -3,7 +3,8 @@ use borrow.Author.Needs.{needs}
 use native.Mathlib.Omega.{arith}
 use mathlib.Core.Path.{sym, _∙_}
 use lib.Seq.{length-take-le}
-use Rattle.convert.proofs.Laws.{read-room, convert-refused, convert-written}
+use Rattle.read.proofs.Room.{read-room}
+use Rattle.convert.proofs.Laws.{convert-refused, convert-written}
 use Rattle.convert.proofs.convert.Statement.{statement}
 use Rattle.convert.proofs.convert.Tie as tie
 

@@ -1,0 +1,93 @@
+-- `lister::text_of` meets its contract. Assumes nothing.
+use borrow.Author.Needs.{needs}
+use native.Mathlib.Omega.{arith}
+use mathlib.Core.Path.{sym}
+use lib.ListN.{length-take}
+use lib.Seq.{length-take-le}
+use Rattle.read.proofs.Room.{read-room}
+use Rattle.lister.proofs.Laws.{print-long, print-refused, print-listing}
+use Rattle.lister.proofs.text_of.Statement.{statement}
+use Rattle.lister.proofs.text_of.Tie as tie
+
+put-too-long-requires : tie.Need-put-too-long-requires
+put-too-long-requires c κs = search needs
+
+same-length : tie.Need-same-length
+same-length c = search needs
+
+returns : tie.Need-returns
+returns c =
+    let a = c .before .before .before .before .before .before .before .before in
+    rw (print-long (a .args .file .now) (a .args .sheet .now) (c .before .before .before .before .if1 .taken)) (c .before .before .put-too-long .ensures .0)
+
+read-requires : tie.Need-read-requires
+read-requires c κs = search needs
+
+enum-known-a : tie.Need-enum-known-a
+enum-known-a c = search needs
+
+put-refusal-requires : tie.Need-put-refusal-requires
+put-refusal-requires c κs = search needs
+
+enum-known-a-2 : tie.Need-enum-known-a-2
+enum-known-a-2 c = search needs
+
+slice-reshare-prefix-list-sheet : tie.Need-slice-reshare-prefix-list-sheet
+slice-reshare-prefix-list-sheet c =
+    let h = read-room _ _ _ _ _ (rw (c .before .a2 .given .1) at (c .before .before .before .before .before .read .ensures .0)) in
+    let k = c .before .before .before .before .before .read .kept .1 .0 in
+    omega arith
+
+slice-aggregate-list-sheet : tie.Need-slice-aggregate-list-sheet
+slice-aggregate-list-sheet c =
+    let h = read-room _ _ _ _ _ (rw (c .before .before .a2 .given .1) at (c .before .before .before .before .before .before .read .ensures .0)) in
+    let k = c .before .before .before .before .before .before .read .kept .1 .0 in
+    sym (length-take-le _ _ (omega arith))
+
+list-sheet-requires : tie.Need-list-sheet-requires
+list-sheet-requires c κs =
+    let k = c .before .before .before .before .before .before .before .read .kept .1 .0 in
+    simp length-take (omega (arith, c .before .before .before .before .before .before .before .before .before .before .before .before .before .pre))
+
+same-length-2 : tie.Need-same-length-2
+same-length-2 c = search needs
+
+same-length-3 : tie.Need-same-length-3
+same-length-3 c = search needs
+
+returns-2 : tie.Need-returns-2
+returns-2 c =
+    let a = c .before .before .before .before .before .before .before .before .before .before .before .before .before .before .before in
+    rw (print-refused (a .args .file .now) (a .args .sheet .now) (c .before .before .before .before .before .before .before .before .before .before .before .if1 .left) _ _ (rw (c .before .before .before .before .before .a .given .1) at (c .before .before .before .before .before .before .before .before .before .read .ensures .0))) (c .before .before .put-refusal .ensures .0)
+
+same-length-4 : tie.Need-same-length-4
+same-length-4 c = search needs
+
+same-length-5 : tie.Need-same-length-5
+same-length-5 c = search needs
+
+returns-3 : tie.Need-returns-3
+returns-3 c =
+    let a = c .before .before .before .before .before .before .before .before .before .before .before .before .before .before .before .before in
+    rw (print-listing (a .args .file .now) (a .args .sheet .now) (c .before .before .before .before .before .before .before .before .before .before .before .before .if1 .left) _ _ _ _ (rw (c .before .before .before .before .before .before .a2 .given .1) at (c .before .before .before .before .before .before .before .before .before .before .read .ensures .0)) (c .before .before .before .before .before .before .before .before .before .before .read .ensures .1)) (c .before .before .list-sheet .ensures .0)
+
+pub text-of-spec : {M : Type 1} → statement M
+text-of-spec =
+    tie.close
+    (tie.spec
+    put-too-long-requires
+    same-length
+    returns
+    read-requires
+    enum-known-a
+    put-refusal-requires
+    enum-known-a-2
+    slice-reshare-prefix-list-sheet
+    slice-aggregate-list-sheet
+    list-sheet-requires
+    same-length-2
+    same-length-3
+    returns-2
+    same-length-4
+    same-length-5
+    returns-3)

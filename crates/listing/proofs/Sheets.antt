@@ -1,0 +1,160 @@
+-- A turn of the loop over a sheet's records, on plain values, and the whole listing. Assumes nothing.
+use mathlib.Core.Path.{_≡_, refl, sym, ap, ap₂, _∙_}
+use mathlib.Core.List.{List, [], _∷_, _++_, append-assoc}
+use mathlib.Core.Bool.{false}
+use Prim.Native.Nat.{ℕ, suc, _+_, _-_, _*_, _≤_, _<_}
+use native.Mathlib.Nat.{add-zero, zero-add}
+use native.Mathlib.Omega.{arith}
+use lib.ListN.{length, take, drop, length-take, length-drop, drop-of-length-le}
+use borrow.Author.Tests.{le-ltb}
+use lib.Seq.{drop-drop}
+use borrow.Rule.Slice.PartAt.{part-to-end}
+use Rattle.format.specs.Bytes.{pick, over}
+use Rattle.format.specs.State.{Record}
+use Rattle.format.specs.Sheet.{Bytes, Entry, flawed, entry, entryOf, framed, Result, recordsFrom, recordsOf, goodFront, frontHeader, behindFront, sheetResult}
+use Rattle.format.specs.Label.{labelLimit}
+use Rattle.format.specs.Fields.{recordOf}
+use Rattle.format.specs.declared.Fields.{Fields}
+use Rattle.sheet.specs.Seen.{EntryTold, labelOf, Fronted}
+use Rattle.sheet.specs.declared.Entry.{Entry as Found}
+use Rattle.sheet.specs.declared.Entry.the-variants.{Flawed, Whole}
+use Rattle.format.proofs.SheetLaws.{entry-sized, entry-read, bytes-drop, records-none, records-more}
+use Rattle.listing.specs.Lines.{recordLine, recordLines, endLine, restOf, headerLine, listingOf, sheetListing}
+use Rattle.listing.specs.Puts.{Put, Wrote, LineTold, fitted, lineLimit}
+use Rattle.listing.specs.declared.Line.the-variants.{End, Record as RecordLine}
+use Rattle.listing.proofs.Stores.{put-none, put-then, put-as, put-within}
+use Rattle.listing.proofs.Lengths.{record-short}
+
+-- ---- the record at a place, as `read_entry` tells it of the part from there on
+
+abbrev pub Tells : List ℕ → ℕ → Found → Type 0
+Tells sheet at r = EntryTold r (take (length sheet - at) (drop at sheet))
+
+-- where it stands, and how long its label is
+pub record Stands (sheet : List ℕ) (at n k : ℕ) : Type 0 where
+  pub least : 3 ≤ n
+  pub label-from : k ≤ n
+  pub behind : at + n ≤ length sheet
+  pub label-short : length (take (n - k) (drop k (take (length sheet - at) (drop at sheet)))) ≤ labelLimit
+
+module _ (sheet : List ℕ) (at : ℕ) where
+  pub tells-none : Tells sheet at Flawed → entryOf (drop at sheet) ≡ flawed
+  tells-none T = sym (simp part-to-end at (T .same))
+
+  module _ (n k : ℕ) (f : Fields) (T : Tells sheet at (Whole n f k)) where
+    pub tells-entry : entryOf (drop at sheet) ≡ entry n (recordOf f (labelOf n k (take (length sheet - at) (drop at sheet))))
+    tells-entry = rw part-to-end (sym (simp part-to-end at (T .same)))
+
+    pub tells-place : at ≤ length sheet → Stands sheet at n k
+    tells-place h =
+        let i = T .inside in
+        let e : length (take (length sheet - at) (drop at sheet)) ≡ length sheet - at = ap length (part-to-end sheet at) ∙ length-drop at sheet in
+        record { least = entry-sized (drop at sheet) tells-entry .least; label-from = i .from-within; behind = omega (arith, i .within); label-short = simp length-take (omega (arith, i .short)) }
+
+-- ---- the records from a place on
+
+left-none : (at : ℕ) (s : List ℕ) (n : ℕ) → entryOf s ≡ flawed → recordsFrom at s n .records ≡ []
+left-none at [] n e = ap (λ (x : Result). x .records) (records-none at n)
+left-none at (b ∷ s) n e = ap (λ (x : Result). x .records) (records-more at (b ∷ s) n (omega arith)) ∙ rw e
+
+left-more : (at : ℕ) (s : List ℕ) (n : ℕ) {k : ℕ} {r : Record} → entryOf s ≡ entry k r
+    → recordsFrom at s n .records ≡ r ∷ recordsFrom (at + k) (drop k s) (n + 1) .records
+left-more at s n e =
+    let z = entry-sized s e in
+    ap (λ (x : Result). x .records) (records-more at s n (omega (arith, z .least, z .inside))) ∙ rw e
+
+rest-none : (n : ℕ) → restOf n [] ≡ endLine n
+unfolding restOf recordLines
+rest-none n = rw add-zero
+
+rest-more : (n : ℕ) (r : Record) (rs : List Record) → restOf n (r ∷ rs) ≡ recordLine r ++ restOf (n + 1) rs
+unfolding restOf recordLines
+rest-more n r rs =
+    let e : n + suc (length rs) ≡ n + 1 + length rs = omega arith in
+    rw e (append-assoc (recordLine r) (recordLines rs) _)
+
+-- ---- so far, records lines have been put, from a place of the sheet to another; with those that are left they are all
+
+pub record Listed (sheet : List ℕ) (from : ℕ) (old : List ℕ) (begin : ℕ) (new : List ℕ) (at k records : ℕ) : Type 0 where
+  pub so-far : List ℕ
+  pub place : ℕ
+  pub inside : at ≤ length sheet
+  pub few : records ≤ at
+  pub put : Put (4 * at) so-far old begin k new
+  pub same : so-far ++ restOf records (recordsFrom place (drop at sheet) records .records) ≡ restOf 0 (recordsOf (drop from sheet) .records)
+
+pub listed-none : (sheet : List ℕ) (from : ℕ) (old : List ℕ) (begin : ℕ) → from ≤ length sheet → Listed sheet from old begin old from begin 0
+unfolding recordsOf
+listed-none sheet from old begin h =
+    record { so-far = []; place = 0; inside = h; few = omega arith; put = put-as (put-none old begin) (omega arith) refl; same = refl }
+
+module _ {sheet old new : List ℕ} {from begin at k records : ℕ} (L : Listed sheet from old begin new at k records) where
+  pub listed-more : Bytes sheet → {size k′ : ℕ} {r : Record} {new′ : List ℕ} → entryOf (drop at sheet) ≡ entry size r → Put lineLimit (recordLine r) new k k′ new′
+      → Listed sheet from old begin new′ (at + size) k′ (records + 1)
+  listed-more b {size} {k′} {r} {new′} e q =
+      let z = entry-sized (drop at sheet) e in
+      let w = entry-read (drop at sheet) (bytes-drop sheet b at) e in
+      let f : length (recordLine r) ≤ 4 * size = (let g = record-short r (w .2) in omega (arith, w .1)) in
+      let l = length-drop at sheet in
+      let rs = recordsFrom (L .place + size) (drop (at + size) sheet) (records + 1) .records in
+      let d : drop size (drop at sheet) ≡ drop (at + size) sheet = drop-drop size at sheet in
+      let m : recordsFrom (L .place) (drop at sheet) records .records ≡ r ∷ rs = rw d at (left-more (L .place) (drop at sheet) records e) in
+      record {
+        so-far = L .so-far ++ recordLine r;
+        place = L .place + size;
+        inside = omega (arith, z .inside, L .inside);
+        few = omega (arith, L .few, z .least);
+        put = put-as (put-then (L .put) (put-within q f)) (omega arith) refl;
+        same = append-assoc (L .so-far) (recordLine r) (restOf (records + 1) rs) ∙ rw (← rest-more records r rs, ← m) (L .same);
+      }
+
+  pub listed-all : {r : ℕ} {new′ : List ℕ} → entryOf (drop at sheet) ≡ flawed → Put lineLimit (endLine records) new k r new′
+      → Put (4 * length sheet + lineLimit) (restOf 0 (recordsOf (drop from sheet) .records)) old begin r new′
+  listed-all e q =
+      put-as (put-then (L .put) q) (omega (arith, L .inside))
+      (rw (← rest-none records, ← left-none (L .place) (drop at sheet) records e) (L .same))
+
+-- ---- a line by itself
+
+module _ (sheet : List ℕ) (at : ℕ) (old : List ℕ) where
+  pub line-none : entryOf (drop at sheet) ≡ flawed → LineTold sheet at old End old
+  unfolding fitted pick over
+  line-none e = record { answer = rw e; holds = rw (e, le-ltb (length old) 0 (omega arith)) }
+
+  pub line-past : length sheet < at → LineTold sheet at old End old
+  unfolding entryOf framed pick
+  line-past h = line-none (rw (drop-of-length-le sheet {i = at} (omega arith)))
+
+  pub line-some : {n r : ℕ} {x : Record} {new : List ℕ} → entryOf (drop at sheet) ≡ entry n x → Wrote (recordLine x) old r new → LineTold sheet at old (RecordLine r (at + n)) new
+  line-some {n} e w = record { answer = rw (e, w .size); holds = w .holds ∙ rw e }
+
+-- ---- the whole listing
+
+module _ (sheet : List ℕ) (version : ℕ) where
+  pub whole-none : goodFront sheet ≡ false → [] ≡ sheetListing version sheet
+  unfolding sheetListing pick
+  whole-none e = rw e
+
+  -- the parts of the sheet as the code cuts them
+  module _ {extended k m : ℕ} (F : Fronted sheet extended k m) where
+    abbrev titlePart : List ℕ
+    titlePart = take (7 + k - 7) (drop 7 sheet)
+
+    abbrev timePart : List ℕ
+    timePart = take (7 + k + m - (7 + k)) (drop (7 + k) sheet)
+
+    title-size : 7 + k - 7 ≡ k
+    title-size = omega arith
+
+    time-size : 7 + k + m - (7 + k) ≡ m
+    time-size = omega arith
+
+    pub title-short : length titlePart ≤ 4096
+    title-short = rw title-size (simp length-take (omega (arith, F .title-short)))
+
+    pub time-short : length timePart ≤ 64
+    time-short = rw time-size (simp length-take (omega (arith, F .time-short)))
+
+    pub whole-some : headerLine version (record { extended = extended; title = titlePart; time = timePart }) ++ restOf 0 (recordsOf (drop (7 + k + m) sheet) .records) ≡ sheetListing version sheet
+    unfolding sheetListing sheetResult listingOf pick
+    whole-some = rw (title-size, time-size) (simp (F .good, F .header, F .behind))

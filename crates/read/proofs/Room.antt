@@ -1,0 +1,21 @@
+-- A sheet that was read fits the buffer that it was read into. Assumes nothing.
+use Prim.Native.Nat.{ℕ, _≤_}
+use mathlib.Core.Path.{_≡_, sym}
+use mathlib.Core.List.{List}
+use native.Mathlib.Omega.{arith}
+use lib.ListN.{length}
+use Rattle.format.specs.Header.{Opening, shut, opened, openingOf}
+use Rattle.format.specs.Sheet.{Verdict, sheetOf}
+use Rattle.format.specs.Reading.{accepted, itemsOf, readFrom, readOutcome}
+use Rattle.format.proofs.RoundTrip.{Accepted, accepted-means}
+
+fits-room : {v : Verdict} {bytes records version room b n w : ℕ} → Accepted v bytes records version room b n w → b ≤ room
+fits-room A = let q = A .bytes-are in let r = A .fits in omega arith
+
+pub read-room : (file : List ℕ) (room b n v : ℕ) → accepted b n v ≡ readOutcome file room → b ≤ room
+unfolding readOutcome
+read-room file room b n v e = go (openingOf file) e
+  where
+    go : (o : Opening) → accepted b n v ≡ readFrom o file room → b ≤ room
+    go (shut k p) e = absurd (let z : _≡_ {A = ℕ} 0 1 = cc in omega arith)
+    go (opened w p h) e = fits-room (accepted-means (itemsOf w p file .verdict) (length (sheetOf h (itemsOf w p file .records))) (length (itemsOf w p file .records)) w room b n v (sym e))
