@@ -1,0 +1,83 @@
+// Cases 11, 12 and 13 of document 01, run through the proved functions; a line each.
+use format::Answer;
+use format::Later;
+
+// Prints the first n bytes of a line.
+fn print_line(line: &[u8], n: usize) {
+    if n <= line.len() {
+        io::write_all(1, &line[..n]);
+    }
+}
+
+// Prints a refusal, or the number of records.
+fn print_answer(a: Answer) {
+    let mut line = [0u8; 64];
+    match a {
+        Answer::Refused { number, place } => {
+            let n = listing::put_refusal(&mut line, number, place);
+            print_line(&line, n);
+        }
+        Answer::Done {
+            bytes: _,
+            records,
+            version: _,
+        } => {
+            let n = listing::put_end(&mut line, records);
+            print_line(&line, n);
+        }
+    }
+}
+
+// Reads a file and prints the answer.
+fn run_read(file: &[u8]) {
+    let mut sheet = [0u8; 4096];
+    let a = read::read(file, &mut sheet);
+    print_answer(a);
+}
+
+// Compares two files and prints which is later, and its time line.
+fn run_compare<'a>(first: &'a [u8], second: &'a [u8]) {
+    let which = timeline::compare(first, second);
+    match which {
+        Later::First => {
+            io::write_all(1, b"first ");
+        }
+        Later::Second => {
+            io::write_all(1, b"second ");
+        }
+        Later::Same => {
+            io::write_all(1, b"same");
+        }
+        Later::FirstRefused { number, place } => {
+            print_answer(Answer::Refused { number, place });
+        }
+        Later::SecondRefused { number, place } => {
+            print_answer(Answer::Refused { number, place });
+        }
+    }
+    io::write_all(1, timeline::later_line(first, second));
+    io::write_all(1, b"\n");
+}
+
+fn main() {
+    // 11: v7 code 60 gives 4; v8 code a0 is an anonymous station.
+    run_read(
+        b"Survex 3D Image File\nv7\nA\n@0\n\x60\x01a\x00\x00\x00\x00\x00\x00\x00\x00\x00\x00\x00\x00\x00",
+    );
+    run_read(
+        b"Survex 3D Image File\nv8\nA\n@0\n\x00\xa0\x01a\x00\x00\x00\x00\x00\x00\x00\x00\x00\x00\x00\x00\x00\x00",
+    );
+    // 12: v8 first item 40 20 and 12 bytes: 6, before 8.
+    run_read(
+        b"Survex 3D Image File\nv8\nA\n@0\n\x00\x40\x20\x00\x00\x00\x00\x00\x00\x00\x00\x00\x00\x00\x00\x00\x00",
+    );
+    // 13: a text form equals its seconds, whatever its zone.
+    let text = b"Survex 3D Image File\nv7\nA\nSun,2002.03.17 14:01:07 GMT\n";
+    let zone = b"Survex 3D Image File\nv7\nA\nSun,2002.03.17 14:01:07 BST\n";
+    let number = b"Survex 3D Image File\nv7\nA\n@1016373667\n";
+    let next = b"Survex 3D Image File\nv7\nA\n@1016373668\n";
+    run_compare(text, number);
+    run_compare(zone, number);
+    run_compare(text, next);
+    run_compare(next, text);
+}
