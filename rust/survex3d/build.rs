@@ -11,7 +11,7 @@ use std::{env, fs};
 const FUNCTIONS: [&str; 4] = ["read", "write", "convert", "compare"];
 
 /// Those that CI must find.
-const EXPECTED: &[&str] = &["read", "write", "convert"];
+const EXPECTED: &[&str] = &["read", "write", "convert", "compare"];
 
 fn main() {
     let folder = folder();

@@ -4,8 +4,13 @@ ghost use lib.ListN.{length};
 ghost use Rattle.format.specs.Reading.{readOutcome, readBuffer};
 ghost use Rattle.format.specs.Writing.{writeOutcome, writeBuffer};
 ghost use Rattle.format.specs.Editing.{convertOutcome, convertBuffer};
-ghost use Rattle.capi.specs.Told.{told, toldOf};
+ghost use Rattle.format.specs.Times.{compareOf, laterPart};
+ghost use Rattle.format.specs.Answers.{laterOf};
+ghost use Rattle.timeline.specs.Handing.{partSeen};
+ghost use Rattle.capi.specs.Told.{told, toldOf, comparedOf};
 use format::Answer;
+use format::Later;
+use timeline::Part;
 
 // An answer. Number 0 is success, with bytes, records and version; any other is the
 // refusal's number, with its place in `bytes`.
@@ -15,6 +20,18 @@ pub struct Told {
     pub bytes: usize,
     pub records: usize,
     pub version: u64,
+}
+
+// Which file is later: 1 the first, 2 the second, with the place and the length of its
+// time line; 0 neither; or 3 and the file that is refused, 1 or 2, with the refusal's
+// number and place.
+#[repr(C)]
+pub struct Compared {
+    pub which: u64,
+    pub file: u64,
+    pub number: u64,
+    pub place: usize,
+    pub length: usize,
 }
 
 // A byte as a number of the interface.
@@ -76,4 +93,53 @@ pub extern "C" fn cockledrift_convert(file: &[u8], sheet: &mut [u8], out: &mut [
 {
     let a = convert::convert(file, sheet, out);
     tell(a)
+}
+
+// A comparison with no refusal.
+fn judged(which: u64, line: Part) -> Compared
+    ensures { λ r. ⌜ r ≡ record { which = which; file = 0; number = 0; place = line .place; length = line .size } ⌝ }
+{
+    Compared {
+        which,
+        file: 0,
+        number: 0,
+        place: line.place,
+        length: line.size,
+    }
+}
+
+// A comparison that names the file that is refused.
+fn refused(file: u64, number: u8, place: usize) -> Compared
+    ensures { λ r. ⌜ r ≡ record { which = 3; file = file; number = number; place = place; length = 0 } ⌝ }
+{
+    Compared {
+        which: 3,
+        file,
+        number: long(number),
+        place,
+        length: 0,
+    }
+}
+
+fn tell_later(l: Later, line: Part) -> Compared
+    ensures { λ r. ⌜ r ≡ comparedOf (laterOf l) (partSeen line) ⌝ }
+{
+    match l {
+        Later::First => judged(1, line),
+        Later::Second => judged(2, line),
+        Later::Same => judged(0, line),
+        Later::FirstRefused { number, place } => refused(1, number, place),
+        Later::SecondRefused { number, place } => refused(2, number, place),
+    }
+}
+
+// Which of two files was written later. The part of a file cannot be handed to C, so its
+// place and length are.
+#[no_mangle]
+pub extern "C" fn cockledrift_compare(first: &[u8], second: &[u8]) -> Compared
+    ensures { λ r. ⌜ r ≡ comparedOf (compareOf (now (first .entry)) (now (second .entry))) (laterPart (now (first .entry)) (now (second .entry))) ⌝ }
+{
+    let l = timeline::compare(first, second);
+    let line = timeline::later_part(first, second);
+    tell_later(l, line)
 }

@@ -41,6 +41,13 @@ pub enum Position {
     Stands { point: Point },
 }
 
+// Style, date and position: the state but for the label.
+pub struct Setting {
+    pub style: u8,
+    pub date: Dated,
+    pub position: Position,
+}
+
 // A record's fields but for its label, which the code keeps beside them.
 pub enum Fields {
     Leg {

@@ -23,13 +23,13 @@ pub enum Head {
 }
 
 // A line: how many bytes stand before its linefeed; or that it breaks a rule.
-pub enum TextLine {
+enum TextLine {
     Ends { length: usize },
     Broken,
 }
 
 // Whether the file starts as a Survex file does.
-pub fn magic_ok(file: &[u8]) -> bool
+fn magic_ok(file: &[u8]) -> bool
     ensures { λ r. ⌜ r ≡ same (take 21 (now (file .entry))) magic ⌝ }
 {
     if file.len() < 21 {
@@ -39,7 +39,7 @@ pub fn magic_ok(file: &[u8]) -> bool
 }
 
 // Whether the three bytes after that are v3 to v8 and a linefeed.
-pub fn version_ok(file: &[u8]) -> bool
+fn version_ok(file: &[u8]) -> bool
     ensures { λ r. ⌜ r ≡ goodVersion (now (file .entry)) ⌝ }
 {
     if file.len() < 24 {
@@ -59,7 +59,7 @@ pub fn version_ok(file: &[u8]) -> bool
 }
 
 // The line at the front of s, of at most limit bytes and no final carriage return.
-pub fn good_line(limit: usize, s: &[u8]) -> TextLine
+fn good_line(limit: usize, s: &[u8]) -> TextLine
     ensures { λ r. ⌜ r ≡ lineOf limit (now (s .entry)) ⌝ }
 {
     let end = wire::line_end(s);
@@ -79,7 +79,7 @@ pub fn good_line(limit: usize, s: &[u8]) -> TextLine
 }
 
 // The v8 byte, after a title line and a time line of so many bytes.
-pub fn extended_byte(file: &[u8], title: usize, time: usize) -> Head
+fn extended_byte(file: &[u8], title: usize, time: usize) -> Head
     requires { ⌜ (title ≤ 4096) × (time ≤ 64) × (26 + title + time ≤ length (now file)) × (length (now file) ≤ 16777216) ⌝ }
     ensures { λ r. ⌜ Told r (now (file .entry)) (extendedByte (now (file .entry)) (26 + title + time) (saying 0 title time (now (file .entry)))) ⌝ }
 {
@@ -113,7 +113,7 @@ pub fn extended_byte(file: &[u8], title: usize, time: usize) -> Head
 }
 
 // What stands after both lines: the v8 byte, or at once the first item.
-pub fn closed_header(version: u8, file: &[u8], title: usize, time: usize) -> Head
+fn closed_header(version: u8, file: &[u8], title: usize, time: usize) -> Head
     requires { ⌜ (3 ≤ version) × (version ≤ 8) × (title ≤ 4096) × (time ≤ 64) × (26 + title + time ≤ length (now file)) × (length (now file) ≤ 16777216) ⌝ }
     ensures { λ r. ⌜ Told r (now (file .entry)) (closedHeader version (now (file .entry)) (26 + title + time) (saying 0 title time (now (file .entry)))) ⌝ }
 {
@@ -130,7 +130,7 @@ pub fn closed_header(version: u8, file: &[u8], title: usize, time: usize) -> Hea
 }
 
 // The time line, after a title line of so many bytes, and what follows.
-pub fn time_line(version: u8, file: &[u8], title: usize) -> Head
+fn time_line(version: u8, file: &[u8], title: usize) -> Head
     requires { ⌜ (3 ≤ version) × (version ≤ 8) × (title ≤ 4096) × (25 + title ≤ length (now file)) × (length (now file) ≤ 16777216) ⌝ }
     ensures { λ r. ⌜ Told r (now (file .entry)) (timeLine version (now (file .entry)) title) ⌝ }
 {
@@ -146,7 +146,7 @@ pub fn time_line(version: u8, file: &[u8], title: usize) -> Head
 }
 
 // The title line, and what follows.
-pub fn title_line(version: u8, file: &[u8]) -> Head
+fn title_line(version: u8, file: &[u8]) -> Head
     requires { ⌜ (3 ≤ version) × (version ≤ 8) × (24 ≤ length (now file)) × (length (now file) ≤ 16777216) ⌝ }
     ensures { λ r. ⌜ Told r (now (file .entry)) (titleLine version (now (file .entry))) ⌝ }
 {

@@ -11,9 +11,10 @@ use borrow.Author.Tests.{ltb-false}
 use Rattle.format.specs.Bytes.{pick}
 use Rattle.format.specs.Items.{Item, Decoded, faulty, whole, sized, Part, unfinished, part, labelledItem}
 use Rattle.label.specs.declared.Cut.the-variants.{Back}
-use Rattle.item.specs.Parts.{finished, tailOf, makeOf, Bodied, Bodies, labelledBy, bodyItem}
+use Rattle.kind.specs.Parts.{finished, tailOf, makeOf, labelledBy}
+use Rattle.item.specs.Bodies.{Bodied, Bodies, bodyItem}
 use Rattle.item.specs.Seen.{relabelItem, Suits}
-use Rattle.item.specs.declared.Tail.{Tail}
+use Rattle.kind.specs.declared.Tail.{Tail}
 use Rattle.item.specs.declared.Body.{Body}
 use Rattle.item.specs.declared.Body.the-variants.{Only, Section, Station, Line}
 

@@ -6,16 +6,15 @@ use lib.ListN.{length, take, drop}
 use Rattle.format.specs.Label.{Cut, back, labelLimit}
 use Rattle.format.specs.Items.{Item, Stop as stopItem, Shorten as shortenItem, Style as styleItem, Move as moveItem, NoDate as noDateItem, Date as dateItem, Error as errorItem, Decoded, faulty, whole}
 use Rattle.format.specs.State.{State, station, section, named, Next, bad, end, on, made, legFrom}
-use Rattle.format.specs.Fields.{recordOf}
+use Rattle.format.specs.Fields.{recordOf, stateOf}
 use Rattle.label.specs.Seen.{cutOf}
 use Rattle.label.specs.declared.Cut.{Cut as Cutting}
 use Rattle.label.specs.declared.Cut.the-variants.{Empty, ToDot, Trim, Back}
-use Rattle.item.specs.Parts.{bodyItem}
+use Rattle.item.specs.Bodies.{bodyItem}
 use Rattle.item.specs.declared.Body.{Body}
 use Rattle.item.specs.declared.Body.the-variants.{Only, Section as SectionBody, Station as StationBody, Line as LineBody}
 use Rattle.item.specs.declared.Item.{Item as Told}
 use Rattle.item.specs.declared.Item.the-variants.{Faulty, Stop, Style, Move, NoDate, Date, Error as ErrorTold, Relabel}
-use Rattle.item.specs.declared.Setting.{Setting}
 use Rattle.item.specs.declared.Step.{Step}
 use Rattle.item.specs.declared.Step.the-variants.{Bad, End, On, Made}
 
@@ -67,10 +66,7 @@ pub record Reads (r : Told) (s : List ℕ) (x : Decoded) : Type 0 where
   pub same : itemSeen r s ≡ x
   pub sound : Sound r s
 
--- ---- the state, and what an item comes to, where b is the label's buffer
-
-abbrev pub stateOf : Setting → List ℕ → State
-stateOf st l = record { label = l; style = st .style; date = st .date; position = st .position }
+-- ---- what an item comes to, where b is the label's buffer
 
 abbrev pub seen : Step → List ℕ → Next
 seen (Bad k) b = bad k

@@ -13,7 +13,7 @@ use Rattle.format.specs.Header.{Header, Opening, shut, opened, openingOf, fileL
 use Rattle.format.specs.State.{State, start, Record, Next, bad, end, on, made}
 use Rattle.format.specs.Sheet.{Verdict, good, refusal, Result, stop, also, layout, layoutAll, headerLayout, sheetOf}
 use Rattle.format.specs.Reading.{next, ended, afterItem, run, itemsOf, Outcome, accepted, refused, outcomeOf, bufferOf, readFrom, sheetFrom, readOutcome, readBuffer}
-use Rattle.format.specs.Fields.{recordOf}
+use Rattle.format.specs.Fields.{recordOf, stateOf}
 use Rattle.format.specs.declared.Fields.{Fields}
 use Rattle.format.proofs.Basics.{pick-case}
 use Rattle.format.proofs.SheetLaws.{header-length}
@@ -21,8 +21,8 @@ use Rattle.format.proofs.ReadingLaws.{SizedNext, next-sized, run-eq}
 use Rattle.wire.specs.Laid.{laid, laidIf}
 use Rattle.wire.proofs.Laws.{length-over, laid-nil, laid-zero, laid-next, length-laid, laid-some}
 use Rattle.label.specs.declared.Label.{Label}
-use Rattle.item.specs.Seen.{stateOf, seen, Short, Tells}
-use Rattle.item.specs.declared.Setting.{Setting}
+use Rattle.item.specs.Seen.{seen, Short, Tells}
+use Rattle.format.specs.declared.Setting.{Setting}
 use Rattle.item.specs.declared.Step.{Step}
 use Rattle.item.specs.declared.Step.the-variants.{Bad, End, On, Made}
 use Rattle.item.proofs.Step.{the-type}

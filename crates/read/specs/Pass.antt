@@ -8,7 +8,7 @@ use Rattle.wire.specs.Laid.{laidIf}
 use mathlib.Core.Path.{_≡_}
 use Rattle.format.specs.declared.Dated.the-variants.{Undated}
 use Rattle.format.specs.declared.Position.the-variants.{Unset}
-use Rattle.item.specs.declared.Setting.{Setting}
+use Rattle.format.specs.declared.Setting.{Setting}
 use Rattle.format.specs.Header.{openingOf, opened}
 use Rattle.format.specs.Reading.{readOutcome, readBuffer}
 use Rattle.format.specs.Answers.{answerOf}

@@ -6,13 +6,14 @@ ghost use Prim.Native.Nat.{ℕ, _+_, _^_, _≤_, _<_};
 ghost use lib.ListN.{length, take};
 ghost use Rattle.format.specs.Reading.{next, itemsOf, readOutcome, readBuffer};
 ghost use Rattle.format.specs.Answers.{answerOf};
-ghost use Rattle.item.specs.Seen.{stateOf, Tells};
+ghost use Rattle.format.specs.Fields.{stateOf};
+ghost use Rattle.item.specs.Seen.{Tells};
 ghost use Rattle.read.specs.Pass.{laidBy, lay, passOf, Starts, Opens, ReadsTo};
 use format::Answer;
 use format::Dated;
 use format::Position;
+use format::Setting;
 use header::Head;
-use item::Setting;
 use item::Step;
 
 // What a pass over the items comes to: a refusal; or the sheet's bytes and records.

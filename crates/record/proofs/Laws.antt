@@ -25,6 +25,12 @@ size-is (Station flags p) l = layout-station flags p l ∙ omega arith
 size-is (Section last d) l = layout-section last d l ∙ omega arith
 size-is (Error t) l = layout-error t
 
+pub size-some : (f : Fields) (n : ℕ) → 0 < recordSize f n
+size-some (Leg flags style date from to) n = omega arith
+size-some (Station flags place) n = omega arith
+size-some (Section last size) n = omega arith
+size-some (Error traverse) n = omega arith
+
 -- ---- a layout is a head and the label
 
 -- the length that stands before a body

@@ -257,6 +257,10 @@ pub fn lay_record(sheet: &mut [u8], at: usize, fields: Fields, bytes: &[u8; 4096
     requires { ⌜ (at < 2 ^ 63) × (len ≤ 4096) × (length (now bytes) ≡ 4096) ⌝ }
     ensures { λ _. ⌜ now (sheet .exit) ≡ laidIf (now (sheet .entry)) at (layout (recordOf fields (take len (now (bytes .entry))))) ⌝ }
 {
+    // The pass that measures is lent no bytes: it goes no further than this.
+    if sheet.len() <= at {
+        return;
+    }
     let n = record_size(fields, len);
     if sheet.len() < at + n {
         return;

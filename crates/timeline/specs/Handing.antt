@@ -4,6 +4,7 @@ use mathlib.Core.Path.{_≡_}
 use mathlib.Core.List.{List, []}
 use lib.ListN.{length, take, drop}
 use Rattle.format.specs.Times.{Seconds, Stamp, unstamped, stamped, stampFrom, Handed}
+use Rattle.timeline.specs.declared.Part.{Part}
 use Rattle.timeline.specs.declared.Stamped.{Stamped}
 use Rattle.timeline.specs.declared.Stamped.the-variants.{Refused, At}
 
@@ -30,6 +31,10 @@ lineIn (At t p n) file = take n (drop p file)
 abbrev pub placeIn : Stamped → ℕ × ℕ → ℕ × ℕ
 placeIn (Refused n p) f = (f .0, 0 + f .1)
 placeIn (At t p n) f = (f .0, p + f .1)
+
+-- a part by its file, place and length as document 01's
+abbrev pub partSeen : Part → Handed
+partSeen r = record { file = r .file; place = r .place; size = r .size }
 
 -- the file that a part is of: 1 the first, 2 the second; 0 for the empty part
 abbrev pub fileOf : ℕ → List ℕ → List ℕ → List ℕ

@@ -2,10 +2,10 @@
 ghost use mathlib.Core.Path.{_≡_};
 ghost use Prim.Native.Nat.{_+_, _-_, _≤_, _<_};
 ghost use lib.ListN.{length, take, drop};
-ghost use Rattle.format.specs.Times.{leap, monthLength, monthDays, yearDays, dayNumber, realDate, decimal, atForm, textMarks, textForm, textSeconds, secondsOf, stampOf, judged, compareOf, laterPart};
+ghost use Rattle.format.specs.Times.{leap, monthLength, monthDays, yearDays, dayNumber, realDate, decimal, atForm, textMarks, textForm, textSeconds, secondsOf, stampOf, judged, compareOf, partOf, handed, laterPart};
 ghost use Rattle.format.specs.Answers.{laterOf};
 ghost use Rattle.timeline.specs.Reading.{spelled, numberFrom, dateOf, clockOf, secondsSeen};
-ghost use Rattle.timeline.specs.Handing.{stampSeen, Stands, Stamping, lineIn, placeIn, handedLine, handedPlace};
+ghost use Rattle.timeline.specs.Handing.{stampSeen, Stands, Stamping, lineIn, placeIn, partSeen, handedLine, handedPlace};
 
 // A number that bytes spell; or that they spell none.
 enum Spelled {
@@ -25,6 +25,14 @@ enum Stamped {
         place: usize,
         size: usize,
     },
+}
+
+// A part of one of two files: the file, 1 or 2, and the part's place and length in it;
+// all 0 for the empty part.
+pub struct Part {
+    pub file: u8,
+    pub place: usize,
+    pub size: usize,
 }
 
 // The lengths of the months of a plain year and of a leap year.
@@ -340,6 +348,62 @@ pub fn compare(first: &[u8], second: &[u8]) -> format::Later
     let one = stamp(first);
     let other = stamp(second);
     judge(one, other)
+}
+
+// The time line of the file with this number; the empty part after a refusal.
+fn part_of(file: u8, s: Stamped) -> Part
+    ensures { λ r. ⌜ partSeen r ≡ partOf file (stampSeen s) ⌝ }
+{
+    match s {
+        Stamped::Refused {
+            number: _,
+            place: _,
+        } => Part {
+            file: 0,
+            place: 0,
+            size: 0,
+        },
+        Stamped::At {
+            seconds: _,
+            place,
+            size,
+        } => Part { file, place, size },
+    }
+}
+
+// The part that goes with the answer of two times.
+fn part_for(later: format::Later, one: Stamped, other: Stamped) -> Part
+    ensures { λ r. ⌜ partSeen r ≡ handed (laterOf later) (stampSeen one) (stampSeen other) ⌝ }
+{
+    let empty = Part {
+        file: 0,
+        place: 0,
+        size: 0,
+    };
+    match later {
+        format::Later::First => part_of(1, one),
+        format::Later::Second => part_of(2, other),
+        format::Later::Same => empty,
+        format::Later::FirstRefused {
+            number: _,
+            place: _,
+        } => empty,
+        format::Later::SecondRefused {
+            number: _,
+            place: _,
+        } => empty,
+    }
+}
+
+// The later file's time line by its place and length, for callers that cannot be
+// handed a part of a file.
+pub fn later_part(first: &[u8], second: &[u8]) -> Part
+    ensures { λ r. ⌜ partSeen r ≡ laterPart (now (first .entry)) (now (second .entry)) ⌝ }
+{
+    let one = stamp(first);
+    let other = stamp(second);
+    let later = judge(one, other);
+    part_for(later, one, other)
 }
 
 // The time line of a file whose time is known; an empty part after a refusal.

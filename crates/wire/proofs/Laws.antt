@@ -3,7 +3,7 @@
 use mathlib.Core.Path.{_≡_, refl, sym, ap, ap₂, _∙_}
 use mathlib.Core.List.{List, [], _∷_, _++_, append-assoc, append-nil}
 use mathlib.Core.Bool.{Bool, true, false}
-use Prim.Native.Nat.{ℕ, zero, suc, _+_, _-_, _≤_, _<_}
+use Prim.Native.Nat.{ℕ, zero, suc, _+_, _-_, _*_, _≤_, _<_}
 use native.Mathlib.Nat.{le-of-lt, add-zero, zero-add, add-assoc}
 use native.Mathlib.Numerals.{add-one}
 use native.Mathlib.Omega.{arith}
@@ -11,7 +11,7 @@ use borrow.Rule.Slice.PartAt.{part-to-end}
 use borrow.Author.Tests.{eq-eqb, ne-eqb, lt-ltb, le-ltb}
 use lib.ListN.{length, take, drop, getD, set, length-append, length-take, length-drop, take-append-drop, drop-of-length-le}
 use lib.Seq.{drop-drop, take-at, drop-at, drop-length, drop-cons, take-suc, append-snoc, set-at, length-take-le}
-use Rattle.format.specs.Bytes.{pick, over, same}
+use Rattle.format.specs.Bytes.{pick, le32, over, same}
 use Rattle.format.proofs.Basics.{pick-case, same-true}
 use Rattle.format.specs.Header.{lineEnd}
 use Rattle.format.specs.Writing.{common}
@@ -96,11 +96,48 @@ same-past s t i hs ht e = rw (add-one i, drop-cons s i 0, drop-cons t i 0, eq-eq
 pub same-other : (s t : List ℕ) (i : ℕ) → (getD s i 0 ≡ getD t i 0 → ⊥) → same s t ≡ false
 same-other s t i h = same-false s t (λ e. h (ap (λ (l : List ℕ). getD l i 0) e))
 
+-- ---- four bytes
+
+take-four : (s : List ℕ) → 4 ≤ length s → take 4 s ≡ getD s 0 0 ∷ getD s 1 0 ∷ getD s 2 0 ∷ getD s 3 0 ∷ []
+take-four [] h = absurd (omega arith)
+take-four (a ∷ []) h = absurd (omega arith)
+take-four (a ∷ b ∷ []) h = absurd (omega arith)
+take-four (a ∷ b ∷ c ∷ []) h = absurd (omega arith)
+take-four (a ∷ b ∷ c ∷ d ∷ s) h = refl
+
+module _ (s t : List ℕ) (hs : 4 ≤ length s) (ht : 4 ≤ length t) where
+  pub four-same : getD s 0 0 ≡ getD t 0 0 → getD s 1 0 ≡ getD t 1 0 → getD s 2 0 ≡ getD t 2 0 → getD s 3 0 ≡ getD t 3 0 → true ≡ same (take 4 s) (take 4 t)
+  unfolding same pick
+  four-same a b c d =
+      rw (take-four s hs, take-four t ht, eq-eqb _ _ a, eq-eqb _ _ b, eq-eqb _ _ c, eq-eqb _ _ d)
+
+  pub four-other : (le32 s ≡ le32 t → ⊥) → false ≡ same (take 4 s) (take 4 t)
+  unfolding le32
+  four-other h = sym (same-false (take 4 s) (take 4 t) (λ e. h (go (sym (take-four s hs) ∙ e ∙ take-four t ht))))
+    where
+      go : getD s 0 0 ∷ getD s 1 0 ∷ getD s 2 0 ∷ getD s 3 0 ∷ [] ≡ getD t 0 0 ∷ getD t 1 0 ∷ getD t 2 0 ∷ getD t 3 0 ∷ [] → le32 s ≡ le32 t
+      go e = ap (λ (l : List ℕ). getD l 0 0 + getD l 1 0 * 256 + getD l 2 0 * 65536 + getD l 3 0 * 16777216) e
+
 -- ---- `common`
 
 pub common-past : (s t : List ℕ) (i : ℕ) → i < length s → i < length t → getD s i 0 ≡ getD t i 0 → common (drop i s) (drop i t) ≡ 1 + common (drop (i + 1) s) (drop (i + 1) t)
 unfolding common pick
 common-past s t i hs ht e = rw (add-one i, drop-cons s i 0, drop-cons t i 0, eq-eqb _ _ e) (omega arith)
+
+-- past bytes that both begin with
+pub common-front : (f s t : List ℕ) → common (f ++ s) (f ++ t) ≡ length f + common s t
+unfolding common pick
+common-front [] s t = omega arith
+common-front (x ∷ f) s t = rw (eq-eqb x x refl) (let e = common-front f s t in omega arith)
+
+pub common-fours : (s t : List ℕ) (i : ℕ) → i + 4 ≤ length s → i + 4 ≤ length t → same (take 4 (drop i s)) (take 4 (drop i t)) ≡ true
+    → common (drop i s) (drop i t) ≡ 4 + common (drop (i + 4) s) (drop (i + 4) t)
+common-fours s t i hs ht e =
+    let q : take 4 (drop i s) ≡ take 4 (drop i t) = same-true _ _ e in
+    let n : length (take 4 (drop i t)) ≡ 4 = length-take-le 4 (drop i t) (simp length-drop (omega arith)) in
+    let l : take 4 (drop i s) ++ drop 4 (drop i s) ≡ drop i s = take-append-drop 4 (drop i s) in
+    let r : take 4 (drop i t) ++ drop 4 (drop i t) ≡ drop i t = take-append-drop 4 (drop i t) in
+    sym (ap₂ common l r) ∙ rw (q, common-front, n, drop-drop 4 i s, drop-drop 4 i t)
 
 pub common-here : (s t : List ℕ) (i : ℕ) → i < length s → i < length t → (getD s i 0 ≡ getD t i 0 → ⊥) → common (drop i s) (drop i t) ≡ 0
 unfolding common pick

@@ -1,10 +1,11 @@
 // Numbers in bytes, and slices of bytes: what every other part reads and writes with.
 ghost use mathlib.Core.Path.{_≡_};
 ghost use Prim.Native.Nat.{_≤_, _<_};
-ghost use lib.ListN.{length};
+ghost use lib.ListN.{length, take};
 ghost use Rattle.format.specs.Bytes.{le16, le32, be16, be32, toLe16, toLe32, toBe16, toBe32, same, over};
 ghost use Rattle.format.specs.Header.{lineEnd};
 ghost use Rattle.format.specs.Writing.{common};
+ghost use Rattle.wire.specs.Begun.{Four, Begun};
 
 // A byte as a length or an index.
 pub fn index(x: u8) -> usize
@@ -29,12 +30,21 @@ pub fn get_le16(s: &[u8]) -> u32
     low + wide(s[1]) * 256
 }
 
+// The number in the first four bytes of s, the lowest first, and that they are bytes: so
+// the number tells them apart.
+fn word(s: &[u8]) -> u32
+    requires { ⌜ 4 ≤ length (now s) ⌝ }
+    ensures { λ r. ⌜ (r ≡ le32 (now (s .entry))) × Four (now (s .entry)) ⌝ }
+{
+    wide(s[0]) + wide(s[1]) * 256 + wide(s[2]) * 65536 + wide(s[3]) * 16777216
+}
+
 // The number in the first four bytes of s, the lowest first.
 pub fn get_le32(s: &[u8]) -> u32
     requires { ⌜ 4 ≤ length (now s) ⌝ }
     ensures { λ r. ⌜ r ≡ le32 (now (s .entry)) ⌝ }
 {
-    wide(s[0]) + wide(s[1]) * 256 + wide(s[2]) * 65536 + wide(s[3]) * 16777216
+    word(s)
 }
 
 // The number in the first two bytes of s, the highest first.
@@ -118,11 +128,38 @@ pub fn same_bytes(a: &[u8], b: &[u8]) -> bool
     true
 }
 
+// Whether a and b begin with the same four bytes, which are compared as one number.
+fn same_four(a: &[u8], b: &[u8]) -> bool
+    requires { ⌜ (4 ≤ length (now a)) × (4 ≤ length (now b)) ⌝ }
+    ensures { λ r. ⌜ r ≡ same (take 4 (now (a .entry))) (take 4 (now (b .entry))) ⌝ }
+{
+    let x = word(a);
+    let y = word(b);
+    if x != y {
+        return false;
+    }
+    true
+}
+
+// How many of these bytes stand before the first four that differ: a part of them.
+fn same_fours(l: &[u8], m: &[u8]) -> usize
+    ensures { λ r. ⌜ Begun (now (l .entry)) (now (m .entry)) r ⌝ }
+{
+    let mut i = 0;
+    while 4 <= l.len() - i && 4 <= m.len() - i {
+        if !same_four(&l[i..], &m[i..]) {
+            return i;
+        }
+        i += 4;
+    }
+    i
+}
+
 // How many bytes l and m have in common at their start.
 pub fn common_start(l: &[u8], m: &[u8]) -> usize
     ensures { λ r. ⌜ r ≡ common (now (l .entry)) (now (m .entry)) ⌝ }
 {
-    let mut i = 0;
+    let mut i = same_fours(l, m);
     while i < l.len() && i < m.len() {
         if l[i] != m[i] {
             return i;

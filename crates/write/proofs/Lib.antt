@@ -1,4 +1,3 @@
-pub mod Labels
-pub mod Laying
+pub mod Faults
 pub mod Turn
 pub mod Whole

@@ -31,8 +31,9 @@ use Rattle.wire.proofs.Laws.{laid-next, laid-part}
 use Rattle.sheet.specs.Seen.{labelOf, Inside, EntryTold}
 use Rattle.sheet.specs.declared.Entry.{Entry as Found}
 use Rattle.sheet.specs.declared.Entry.the-variants.{Flawed, Whole}
-use Rattle.write.specs.Lays.{Puts}
-use Rattle.write.specs.Pens.{stateOf, closingOver}
+use Rattle.codes.specs.Lays.{Puts}
+use Rattle.codes.specs.Pieces.{closingOver}
+use Rattle.format.specs.Fields.{stateOf}
 use Rattle.write.specs.Passing.{handAfter, faultOf, faultAt, bounded, roomy, finalOutcome, Finished, encoded, restOutcome, Rest}
 use Rattle.write.specs.declared.Hand.{Hand}
 
@@ -240,7 +241,7 @@ part s a b = take (b - a) (drop a s)
 
 -- the state, whose label stands in the sheet
 abbrev pub stateIn : List ℕ → Hand → State
-stateIn sheet hand = stateOf (hand .pen) (part sheet (hand .from) (hand .to))
+stateIn sheet hand = stateOf (hand .setting) (part sheet (hand .from) (hand .to))
 
 pub record Named (sheet : List ℕ) (hand : Hand) : Type 0 where
   pub ordered : hand .from ≤ hand .to
@@ -261,7 +262,7 @@ pub named-short : (sheet : List ℕ) (hand : Hand) → Named sheet hand → leng
 named-short sheet hand n = simp (length-take, length-drop) (omega (arith, n .short))
 
 pub going-none : (sheet : List ℕ) (begin head : ℕ) (d : List ℕ) (hand : Hand) → begin ≤ length sheet → head ≤ 8192
-    → (hand .pen ≡ record { style = 5; date = Undated; position = Unset }) × (hand .from ≡ 0) × (hand .to ≡ 0) → Going sheet begin head d d begin head 0 0 hand
+    → (hand .setting ≡ record { style = 5; date = Undated; position = Unset }) × (hand .from ≡ 0) × (hand .to ≡ 0) → Going sheet begin head d d begin head 0 0 hand
 unfolding recordsOf
 going-none sheet begin head d hand hb hh e =
     let z : start ≡ stateIn sheet hand = rw (e .0, e .1, e .2) in
@@ -337,7 +338,7 @@ module _ (sheet : List ℕ) (begin head : ℕ) (d₀ d : List ℕ) (at total num
 
       -- the record's codes are written into the part of d from `from` on
       module _ (from : ℕ) (y : List ℕ) (size fault′ : ℕ) (inside : from ≤ length d) (q : total ≤ length d → from ≡ total)
-          (P : Puts (take (length d - from) (drop from d)) y (codes (stateIn sheet hand) r) 4139 size) (e : faultOf fault′ ≡ orElse (faultOf fault) (faultAt (hand .pen .style) f number)) where
+          (P : Puts (take (length d - from) (drop from d)) y (codes (stateIn sheet hand) r) 4139 size) (e : faultOf fault′ ≡ orElse (faultOf fault) (faultAt (hand .setting .style) f number)) where
         abbrev d′ : List ℕ
         d′ = take from d ++ (y ++ drop (length d - from) (drop from d))
 

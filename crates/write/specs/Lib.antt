@@ -1,3 +1,1 @@
-pub mod Lays
 pub mod Passing
-pub mod Pens

@@ -16,7 +16,7 @@ use Rattle.format.specs.declared.Answer.{Answer}
 use Rattle.format.specs.declared.Fields.{Fields}
 use Rattle.format.specs.declared.Fields.the-variants.{Leg, Station, Section, Error}
 use Rattle.format.specs.declared.Position.the-variants.{Stands}
-use Rattle.write.specs.Pens.{closingOver}
+use Rattle.codes.specs.Pieces.{closingOver}
 use Rattle.write.specs.declared.Hand.{Hand}
 use Rattle.wire.specs.Laid.{laid}
 
@@ -24,9 +24,9 @@ use Rattle.wire.specs.Laid.{laid}
 
 -- what a record leaves, whose label stands from a to b; a traverse error leaves all as it is
 abbrev pub handAfter : Hand → Fields → ℕ → ℕ → Hand
-handAfter hand (Leg flags style date from to) a b = record { pen = record { style = style; date = date; position = Stands to }; from = a; to = b }
-handAfter hand (Station flags place) a b = record { pen = hand .pen; from = a; to = b }
-handAfter hand (Section last size) a b = record { pen = hand .pen; from = a; to = b }
+handAfter hand (Leg flags style date from to) a b = record { setting = record { style = style; date = date; position = Stands to }; from = a; to = b }
+handAfter hand (Station flags place) a b = record { setting = hand .setting; from = a; to = b }
+handAfter hand (Section last size) a b = record { setting = hand .setting; from = a; to = b }
 handAfter hand (Error traverse) a b = hand
 
 -- the first record with "style 5 after another style": its number and one, or 0

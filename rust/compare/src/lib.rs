@@ -36,6 +36,23 @@ pub fn write_by(proved: Reader, sheet: &[u8]) -> Result<Answer, Difference> {
     })
 }
 
+/// The sheet of a file and the v8 file that the proved library writes of it.
+pub fn converted(file: &[u8]) -> Result<(Vec<u8>, Vec<u8>), Answer> {
+    let sheet = grown(&|sheet| survex3d::read(file, sheet))?;
+    let written = grown(&|out| survex3d::write(&sheet, out))?;
+    Ok((sheet, written))
+}
+
+/// A buffer as long as 11 asks for, filled by a second call.
+fn grown(call: &dyn Fn(&mut [u8]) -> Answer) -> Result<Vec<u8>, Answer> {
+    let length = need(call(&mut [])).ok_or_else(|| call(&mut []))?;
+    let mut lent = vec![0; length];
+    match call(&mut lent) {
+        Answer::Done { .. } => Ok(lent),
+        refused => Err(refused),
+    }
+}
+
 /// The length that 11 asks for; nothing after another refusal.
 fn need(answer: Answer) -> Option<usize> {
     match answer {

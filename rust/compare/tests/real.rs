@@ -7,6 +7,7 @@ use compare::{disagree, hex};
 use second::Answer;
 use std::fs;
 use std::path::{Path, PathBuf};
+use std::process::Command;
 
 fn folder() -> PathBuf {
     Path::new(env!("CARGO_MANIFEST_DIR")).join("../testdata")
@@ -64,6 +65,27 @@ fn records_agree_with_dump3d() {
         compared += records;
     }
     println!("records compared with dump3d: {compared}");
+}
+
+/// What dump3d says of the v8 files that we write, which are stored with its
+/// text; where dump3d is installed, it is asked again.
+#[test]
+fn written_files_agree_with_dump3d() {
+    let written = files(&folder().join("written"));
+    assert_eq!(written.len(), 17);
+    for path in written {
+        let name = path.file_name().unwrap();
+        let file = fs::read(folder().join(name)).unwrap();
+        let (sheet, bytes) = compare::converted(&file).expect("a file that reads");
+        assert!(bytes == fs::read(&path).unwrap(), "{} is written otherwise", path.display());
+        let text = fs::read_to_string(path.with_extension("dump")).unwrap();
+        let (said, ours) = (dump::said(&text), dump::told(&sheet, 8));
+        assert_eq!(said.head, ours.head, "{}", path.display());
+        assert_eq!(said.lines, ours.lines, "{}", path.display());
+        if let Ok(now) = Command::new("dump3d").arg("-d").arg(&path).output() {
+            assert_eq!(String::from_utf8(now.stdout).unwrap(), text, "{}", path.display());
+        }
+    }
 }
 
 /// What document 01 answers for the files in `departures` that it refuses;

@@ -3,7 +3,7 @@ use native.Mathlib.Omega.{arith}
 use borrow.Rule.Slice.PartAt.{part-to-end}
 use Prim.Native.Nat.{_-_}
 use lib.ListN.{length-drop}
-use Rattle.item.specs.Parts.{partAt}
+use Rattle.kind.specs.Parts.{partAt}
 use Rattle.item.proofs.Labelled.{labelled-there, labelled-fits, labelled-short, labelled-whole, suits-back}
 use borrow.Author.Needs.{needs}
 use Rattle.item.proofs.labelled_item.Statement.{statement}

@@ -5,28 +5,32 @@ use lib.ListN.{length, take}
 use lib.Seq.{length-take-le}
 use Rattle.format.specs.Sheet.{layout}
 use Rattle.format.specs.Fields.{recordOf}
-use Rattle.record.proofs.Laws.{size-is, lay-none, lay-some}
+use Rattle.record.proofs.Laws.{size-is, size-some, lay-none, lay-some}
 use borrow.Author.Needs.{needs}
 use Rattle.record.proofs.lay_record.Statement.{statement}
 use Rattle.record.proofs.lay_record.Tie as tie
 
 -- the record's size, from what `record_size` says of it
-sized : (y : tie.After-record-size) → length (layout (recordOf (y .before .before .args .fields) (take (y .before .before .args .len) (y .before .before .args .bytes .now)))) ≡ y .record-size .result
+sized : (y : tie.After-record-size) → length (layout (recordOf (y .before .before .before .args .fields) (take (y .before .before .before .args .len) (y .before .before .before .args .bytes .now)))) ≡ y .record-size .result
 sized y =
-    let a = y .before .before in
+    let a = y .before .before .before in
     let t : length (take (a .args .len) (a .args .bytes .now)) ≡ a .args .len = length-take-le (a .args .len) (a .args .bytes .now) (omega (arith, a .pre)) in
     size-is (a .args .fields) (take (a .args .len) (a .args .bytes .now)) ∙ rw t (sym (y .record-size .ensures .0))
+
+returns : tie.Need-returns
+returns c =
+    let a = c .before .before in
+    let l = take (a .args .len) (a .args .bytes .now) in
+    lay-none _ _ _ (omega (arith, size-is (a .args .fields) l, size-some (a .args .fields) (length l), c .if1 .taken))
 
 record-size-requires : tie.Need-record-size-requires
 record-size-requires c κs = search needs
 
-add-if1 : tie.Need-add-if1
-add-if1 c = search needs
+add-if2 : tie.Need-add-if2
+add-if2 c = search needs
 
-returns : tie.Need-returns
-returns c =
-    let a = c .before .before .before in
-    lay-none _ _ _ (omega (arith, sized (c .before), c .if1 .taken))
+returns-2 : tie.Need-returns-2
+returns-2 c = lay-none _ _ _ (omega (arith, sized (c .before), c .if2 .taken))
 
 sub-put-record : tie.Need-sub-put-record
 sub-put-record c = search needs
@@ -43,20 +47,21 @@ put-record-requires c κs = search needs
 same-length : tie.Need-same-length
 same-length c = search needs
 
-returns-2 : tie.Need-returns-2
-returns-2 c =
-    lay-some _ _ _ (omega (arith, sized (c .before .before .before .before .before), c .before .before .before .before .if1 .left)) _ (c .before .before .put-record .ensures)
+returns-3 : tie.Need-returns-3
+returns-3 c =
+    lay-some _ _ _ (omega (arith, sized (c .before .before .before .before .before), c .before .before .before .before .if2 .left)) _ (c .before .before .put-record .ensures)
 
 pub lay-record-spec : {M : Type 1} → statement M
 lay-record-spec =
     tie.close
     (tie.spec
-    record-size-requires
-    add-if1
     returns
+    record-size-requires
+    add-if2
+    returns-2
     sub-put-record
     part-put-record-start
     part-put-record-end
     put-record-requires
     same-length
-    returns-2)
+    returns-3)

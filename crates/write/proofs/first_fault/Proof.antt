@@ -1,6 +1,6 @@
 -- `write::first_fault` meets its contract. Assumes nothing.
 use mathlib.Core.Path.{_∙_}
-use Rattle.write.proofs.Labels.{fault-stays, fault-here}
+use Rattle.write.proofs.Faults.{fault-stays, fault-here}
 use borrow.Author.Tests.{eq-eqb, ne-eqb}
 use Rattle.format.specs.Bytes.{pick}
 use borrow.Author.Needs.{needs}

@@ -1,0 +1,13 @@
+-- `capi::refused` meets its contract. Assumes nothing.
+use borrow.Author.Needs.{needs}
+use Rattle.capi.proofs.refused.Statement.{statement}
+use Rattle.capi.proofs.refused.Tie as tie
+
+long-requires : tie.Need-long-requires
+long-requires c κs = search needs
+
+returns : tie.Need-returns
+returns c = rw (c .long .ensures)
+
+pub refused-spec : {M : Type 1} → statement M
+refused-spec = tie.close (tie.spec long-requires returns)

@@ -1,0 +1,60 @@
+-- `converter::main` meets its contract. Assumes nothing.
+use borrow.Author.Needs.{needs}
+use native.Mathlib.Omega.{arith}
+use mathlib.Core.Path.{sym}
+use lib.Seq.{length-take-le}
+use Rattle.converter.proofs.main.Statement.{statement}
+use Rattle.converter.proofs.main.Tie as tie
+
+slice-aggregate-read-full : tie.Need-slice-aggregate-read-full
+slice-aggregate-read-full c = search needs
+
+read-full-requires : tie.Need-read-full-requires
+read-full-requires c κs = search needs
+
+array-share-prefix-input : tie.Need-array-share-prefix-input
+array-share-prefix-input c = search needs
+
+slice-aggregate-output-of : tie.Need-slice-aggregate-output-of
+slice-aggregate-output-of c = search needs
+
+slice-aggregate-output-of-2 : tie.Need-slice-aggregate-output-of-2
+slice-aggregate-output-of-2 c = search needs
+
+slice-aggregate-output-of-3 : tie.Need-slice-aggregate-output-of-3
+slice-aggregate-output-of-3 c = search needs
+
+output-of-requires : tie.Need-output-of-requires
+output-of-requires c κs = search needs
+
+array-share-prefix-out : tie.Need-array-share-prefix-out
+array-share-prefix-out c = search needs
+
+slice-aggregate-write-all : tie.Need-slice-aggregate-write-all
+slice-aggregate-write-all c =
+    let o = c .before .before .before .output-of in
+    let k = o .kept .1 .1 .0 in
+    let h = o .ensures .0 in
+    sym (length-take-le _ _ (omega arith))
+
+write-all-requires : tie.Need-write-all-requires
+write-all-requires c κs = search needs
+
+returns : tie.Need-returns
+returns c = search needs
+
+pub main-spec : {M : Type 1} → statement M
+main-spec =
+    tie.close
+    (tie.spec
+    slice-aggregate-read-full
+    read-full-requires
+    array-share-prefix-input
+    slice-aggregate-output-of
+    slice-aggregate-output-of-2
+    slice-aggregate-output-of-3
+    output-of-requires
+    array-share-prefix-out
+    slice-aggregate-write-all
+    write-all-requires
+    returns)

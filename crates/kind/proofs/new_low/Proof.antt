@@ -1,0 +1,45 @@
+-- `kind::new_low` meets its contract. Assumes nothing.
+use borrow.Author.Tests.{lt-ltb, le-ltb, eq-eqb, ne-eqb}
+use Rattle.format.specs.Bytes.{pick}
+use mathlib.Core.Path.{_∙_}
+use Rattle.format.specs.Items.{newLowItem}
+use borrow.Author.Needs.{needs}
+use Rattle.kind.proofs.new_low.Statement.{statement}
+use Rattle.kind.proofs.new_low.Tie as tie
+
+returns : tie.Need-returns
+unfolding newLowItem pick
+returns c p s = simp (lt-ltb _ _ (c .if1 .taken))
+
+returns-2 : tie.Need-returns-2
+unfolding newLowItem pick
+returns-2 c p s =
+    simp (le-ltb _ _ (c .before .if1 .left), lt-ltb _ _ (c .if2 .taken))
+
+returns-3 : tie.Need-returns-3
+unfolding newLowItem pick
+returns-3 c p s =
+    simp (le-ltb _ _ (c .before .before .if1 .left), le-ltb _ _ (c .before .if2 .left), eq-eqb _ _ (c .if3 .taken))
+
+new-date-requires : tie.Need-new-date-requires
+new-date-requires c κs = search needs
+
+returns-4 : tie.Need-returns-4
+unfolding newLowItem pick
+returns-4 c p s =
+    c .new-date .ensures p s ∙ simp (le-ltb _ _ (c .before .before .before .before .if1 .left), le-ltb _ _ (c .before .before .before .if2 .left), ne-eqb _ _ (c .before .before .if3 .left), lt-ltb _ _ (c .before .if4 .taken))
+
+returns-5 : tie.Need-returns-5
+unfolding newLowItem pick
+returns-5 c p s =
+    simp (le-ltb _ _ (c .before .before .before .before .if1 .left), le-ltb _ _ (c .before .before .before .if2 .left), ne-eqb _ _ (c .before .before .if3 .left), le-ltb _ _ (c .before .if4 .left), eq-eqb _ _ (c .if5 .taken))
+
+returns-6 : tie.Need-returns-6
+unfolding newLowItem pick
+returns-6 c p s =
+    simp (le-ltb _ _ (c .before .before .before .before .if1 .left), le-ltb _ _ (c .before .before .before .if2 .left), ne-eqb _ _ (c .before .before .if3 .left), le-ltb _ _ (c .before .if4 .left), ne-eqb _ _ (c .if5 .left))
+
+pub new-low-spec : {M : Type 1} → statement M
+new-low-spec =
+    tie.close
+    (tie.spec returns returns-2 returns-3 new-date-requires returns-4 returns-5 returns-6)
