@@ -20,8 +20,7 @@ use Rattle.sheet.specs.declared.Entry.{Entry as Found}
 use Rattle.sheet.specs.declared.Entry.the-variants.{Flawed, Whole}
 use Rattle.format.proofs.SheetLaws.{entry-sized, entry-read, bytes-drop, records-none, records-more}
 use Rattle.listing.specs.Lines.{recordLine, recordLines, endLine, restOf, headerLine, listingOf, sheetListing}
-use Rattle.listing.specs.Puts.{Put, Wrote, LineTold, fitted, lineLimit}
-use Rattle.listing.specs.declared.Line.the-variants.{End, Record as RecordLine}
+use Rattle.listing.specs.Puts.{Put, Wrote, fitted, lineLimit}
 use Rattle.listing.proofs.Stores.{put-none, put-then, put-as, put-within}
 use Rattle.listing.proofs.Lengths.{record-short}
 
@@ -113,20 +112,6 @@ module _ {sheet old new : List ℕ} {from begin at k records : ℕ} (L : Listed 
   listed-all e q =
       put-as (put-then (L .put) q) (omega (arith, L .inside))
       (rw (← rest-none records, ← left-none (L .place) (drop at sheet) records e) (L .same))
-
--- ---- a line by itself
-
-module _ (sheet : List ℕ) (at : ℕ) (old : List ℕ) where
-  pub line-none : entryOf (drop at sheet) ≡ flawed → LineTold sheet at old End old
-  unfolding fitted pick over
-  line-none e = record { answer = rw e; holds = rw (e, le-ltb (length old) 0 (omega arith)) }
-
-  pub line-past : length sheet < at → LineTold sheet at old End old
-  unfolding entryOf framed pick
-  line-past h = line-none (rw (drop-of-length-le sheet {i = at} (omega arith)))
-
-  pub line-some : {n r : ℕ} {x : Record} {new : List ℕ} → entryOf (drop at sheet) ≡ entry n x → Wrote (recordLine x) old r new → LineTold sheet at old (RecordLine r (at + n)) new
-  line-some {n} e w = record { answer = rw (e, w .size); holds = w .holds ∙ rw e }
 
 -- ---- the whole listing
 

@@ -13,8 +13,6 @@ use Rattle.format.specs.declared.Dimensions.{Dimensions}
 use Rattle.format.specs.declared.Traverse.{Traverse}
 use Rattle.format.specs.declared.Dated.{Dated}
 use Rattle.format.specs.declared.Dated.the-variants.{Undated, Day, Range}
-use Rattle.listing.specs.declared.Line.{Line}
-use Rattle.listing.specs.declared.Line.the-variants.{End, Record as RecordLine}
 use Rattle.listing.specs.Text.{decimalText, signedText, textOf, spaced, line}
 
 -- ---- the words
@@ -133,18 +131,6 @@ listingOf version h rs = headerLine version h ++ restOf 0 rs
 -- the same of a sheet's bytes: its header and the records up to where it breaks the layout; nothing where its front does
 unfoldable pub sheetListing : ℕ → List ℕ → List ℕ
 sheetListing version sheet = pick (goodFront sheet) (listingOf version (frontHeader sheet) (sheetResult sheet .records)) []
-
--- ---- line by line: what stands at a place of a sheet
-
--- the line of the record found there; none where there is no well-formed record
-abbrev pub lineText : Entry → List ℕ
-lineText flawed = []
-lineText (entry n r) = recordLine r
-
--- its length and the place behind the record; or the end
-abbrev pub lineOf : Entry → ℕ → Line
-lineOf flawed at = End
-lineOf (entry n r) at = RecordLine (length (recordLine r)) (at + n)
 
 -- ---- what the lister prints for an input: "A refusal prints only `refused N at P`; a sheet over 49,152 bytes gives 11"
 

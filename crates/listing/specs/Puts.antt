@@ -2,13 +2,10 @@
 use Prim.Native.Nat.{ℕ, _+_, _≤_}
 use mathlib.Core.Path.{_≡_}
 use mathlib.Core.List.{List}
-use lib.ListN.{length, drop}
+use lib.ListN.{length}
 use lib.Dec.{ltb}
 use lib.Seq.{sets}
 use Rattle.format.specs.Bytes.{pick, over}
-use Rattle.format.specs.Sheet.{entryOf}
-use Rattle.listing.specs.Lines.{lineText, lineOf}
-use Rattle.listing.specs.declared.Line.{Line}
 
 -- text over the front of a buffer where it fits; else the buffer stays as it was
 unfoldable pub fitted : List ℕ → List ℕ → List ℕ
@@ -28,8 +25,3 @@ pub record Put (most : ℕ) (text old : List ℕ) (at r : ℕ) (new : List ℕ) 
   pub behind : r ≡ at + length text
   pub few : r ≤ at + most
   pub holds : new ≡ sets old at text
-
--- a line of a sheet: the answer, and the buffer with the line in it where it fits
-pub record LineTold (sheet : List ℕ) (at : ℕ) (old : List ℕ) (r : Line) (new : List ℕ) : Type 0 where
-  pub answer : r ≡ lineOf (entryOf (drop at sheet)) at
-  pub holds : new ≡ fitted (lineText (entryOf (drop at sheet))) old

@@ -18,18 +18,11 @@ ghost use Prim.Native.Nat.{ℕ, _+_, _*_, _^_, _≤_, _<_};
 ghost use lib.ListN.{length, drop};
 ghost use Rattle.listing.specs.Text.{decimalText, signedText, hexDigit, plain, escapedByte, escaped, textOf, spaced};
 ghost use Rattle.listing.specs.Lines.{legWord, versionWord, titleWord, dateText, pointWords, dimensionWords, traverseWords, legLine, stationLine, sectionLine, errorLine, recordLine, headerLine, endLine, refusalLine, tooLongLine, restOf, sheetListing};
-ghost use Rattle.listing.specs.Puts.{Put, Wrote, LineTold, lineLimit};
+ghost use Rattle.listing.specs.Puts.{Put, Wrote, lineLimit};
 ghost use Rattle.format.specs.Fields.{recordOf};
 ghost use Rattle.format.specs.Sheet.{recordsOf};
 ghost use Rattle.format.specs.Label.{labelLimit};
 ghost use Rattle.format.specs.Header.{titleLimit, timeLimit};
-
-// What stands at a place of a sheet: a record, whose line has so many bytes, with the
-// place behind it; or no record.
-pub enum Line {
-    End,
-    Record { bytes: usize, next: usize },
-}
 
 // Puts a byte at an index.
 fn put(out: &mut [u8], at: usize, b: u8) -> usize
@@ -442,54 +435,8 @@ pub fn list_sheet(sheet: &[u8], version: u8, out: &mut [u8]) -> usize
     sheet_lines(sheet, version, out)
 }
 
-// Writes the line of the record at a place of the sheet over the front of out where it
-// fits, and answers its length, and the next record's place, either way.
-pub fn line_at(sheet: &[u8], at: usize, out: &mut [u8]) -> Line
-    ensures { λ r. ⌜ LineTold (now (sheet .entry)) at (now (out .entry)) r (now (out .exit)) ⌝ }
-{
-    if sheet.len() < at {
-        return Line::End;
-    }
-    let rest = &sheet[at..];
-    let found = read_entry(rest);
-    match found {
-        Entry::Flawed => Line::End,
-        Entry::Whole { size, fields, from } => {
-            let bytes = put_line(out, fields, &rest[from..size]);
-            Line::Record {
-                bytes,
-                next: at + size,
-            }
-        }
-    }
-}
-
-// Writes a record's line over the front of out where it fits, and answers its length
-// either way.
-pub fn put_line(out: &mut [u8], fields: Fields, label: &[u8]) -> usize
-    requires { ⌜ length (now label) ≤ labelLimit ⌝ }
-    ensures { λ r. ⌜ Wrote (recordLine (recordOf fields (now (label .entry)))) (now (out .entry)) r (now (out .exit)) × (r ≤ lineLimit) ⌝ }
-{
-    let size = record_line(&mut out[0..0], 0, fields, label);
-    if out.len() < size {
-        return size;
-    }
-    record_line(out, 0, fields, label)
-}
-
-// The same for the first line, of a file of that version.
-pub fn put_header(out: &mut [u8], version: u8, extended: u8, title: &[u8], time: &[u8]) -> usize
-    requires { ⌜ (length (now title) ≤ titleLimit) × (length (now time) ≤ timeLimit) ⌝ }
-    ensures { λ r. ⌜ Wrote (headerLine version (record { extended = extended; title = now (title .entry); time = now (time .entry) })) (now (out .entry)) r (now (out .exit)) × (r ≤ lineLimit) ⌝ }
-{
-    let size = header_line(&mut out[0..0], 0, version, extended, title, time);
-    if out.len() < size {
-        return size;
-    }
-    header_line(out, 0, version, extended, title, time)
-}
-
-// The same for the last line.
+// Writes the last line over the front of out where it fits, and answers its length either
+// way.
 pub fn put_end(out: &mut [u8], records: usize) -> usize
     ensures { λ r. ⌜ Wrote (endLine records) (now (out .entry)) r (now (out .exit)) × (r ≤ lineLimit) ⌝ }
 {

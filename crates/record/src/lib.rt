@@ -222,7 +222,7 @@ fn put_station(out: &mut [u8], head: [u8; 4], place: Point, bytes: &[u8; 4096], 
 }
 
 // Lays a record over the front of out.
-pub fn put_record(out: &mut [u8], fields: Fields, bytes: &[u8; 4096], len: usize)
+fn put_record(out: &mut [u8], fields: Fields, bytes: &[u8; 4096], len: usize)
     requires { ⌜ (len ≤ 4096) × (recordSize fields len ≤ length (now out)) × (length (now bytes) ≡ 4096) ⌝ }
     ensures { λ _. ⌜ now (out .exit) ≡ over (layout (recordOf fields (take len (now (bytes .entry))))) (now (out .entry)) ⌝ }
 {

@@ -29,12 +29,12 @@ text-of-requires c κs = search needs
 
 array-share-prefix-out : tie.Need-array-share-prefix-out
 array-share-prefix-out c =
-    let k = c .before .before .before .text-of .kept .1 .1 .0 in
+    let k = c .before .before .text-of .kept .1 .1 .0 in
     omega arith
 
 slice-aggregate-write-all : tie.Need-slice-aggregate-write-all
 slice-aggregate-write-all c =
-    let k = c .before .before .before .before .text-of .kept .1 .1 .0 in
+    let k = c .before .before .before .text-of .kept .1 .1 .0 in
     sym (length-take-le _ _ (omega arith))
 
 write-all-requires : tie.Need-write-all-requires
@@ -42,9 +42,6 @@ write-all-requires c κs = search needs
 
 returns : tie.Need-returns
 returns c = search needs
-
-returns-2 : tie.Need-returns-2
-returns-2 c = search needs
 
 pub main-spec : {M : Type 1} → statement M
 main-spec =
@@ -60,5 +57,4 @@ main-spec =
     array-share-prefix-out
     slice-aggregate-write-all
     write-all-requires
-    returns
-    returns-2)
+    returns)

@@ -18,7 +18,8 @@ same-length c = search needs
 returns : tie.Need-returns
 returns c =
     let a = c .before .before .before .before .before .before .before .before in
-    rw (print-long (a .args .file .now) (a .args .sheet .now) (c .before .before .before .before .if1 .taken)) (c .before .before .put-too-long .ensures .0)
+    let W = c .before .before .put-too-long .ensures in
+    (rw (print-long (a .args .file .now) (a .args .sheet .now) (c .before .before .before .before .if1 .taken)) (W .0), omega (arith, W .1))
 
 read-requires : tie.Need-read-requires
 read-requires c κs = search needs
@@ -58,7 +59,8 @@ same-length-3 c = search needs
 returns-2 : tie.Need-returns-2
 returns-2 c =
     let a = c .before .before .before .before .before .before .before .before .before .before .before .before .before .before .before in
-    rw (print-refused (a .args .file .now) (a .args .sheet .now) (c .before .before .before .before .before .before .before .before .before .before .before .if1 .left) _ _ (rw (c .before .before .before .before .before .a .given .1) at (c .before .before .before .before .before .before .before .before .before .read .ensures .0))) (c .before .before .put-refusal .ensures .0)
+    let W = c .before .before .put-refusal .ensures in
+    (rw (print-refused (a .args .file .now) (a .args .sheet .now) (c .before .before .before .before .before .before .before .before .before .before .before .if1 .left) _ _ (rw (c .before .before .before .before .before .a .given .1) at (c .before .before .before .before .before .before .before .before .before .read .ensures .0))) (W .0), omega (arith, W .1))
 
 same-length-4 : tie.Need-same-length-4
 same-length-4 c = search needs
@@ -69,7 +71,10 @@ same-length-5 c = search needs
 returns-3 : tie.Need-returns-3
 returns-3 c =
     let a = c .before .before .before .before .before .before .before .before .before .before .before .before .before .before .before .before in
-    rw (print-listing (a .args .file .now) (a .args .sheet .now) (c .before .before .before .before .before .before .before .before .before .before .before .before .if1 .left) _ _ _ _ (rw (c .before .before .before .before .before .before .a2 .given .1) at (c .before .before .before .before .before .before .before .before .before .before .read .ensures .0)) (c .before .before .before .before .before .before .before .before .before .before .read .ensures .1)) (c .before .before .list-sheet .ensures .0)
+    let W = c .before .before .list-sheet .ensures in
+    let k = c .before .before .before .before .before .before .before .before .before .before .read .kept .1 .0 in
+    let n = simp length-take at (W .1) in
+    (rw (print-listing (a .args .file .now) (a .args .sheet .now) (c .before .before .before .before .before .before .before .before .before .before .before .before .if1 .left) _ _ _ _ (rw (c .before .before .before .before .before .before .a2 .given .1) at (c .before .before .before .before .before .before .before .before .before .before .read .ensures .0)) (c .before .before .before .before .before .before .before .before .before .before .read .ensures .1)) (W .0), omega (arith, n, k, a .pre))
 
 pub text-of-spec : {M : Type 1} → statement M
 text-of-spec =

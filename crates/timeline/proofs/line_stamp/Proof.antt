@@ -4,7 +4,7 @@ use Prim.Native.Nat.{_+_, _-_}
 use mathlib.Core.Path.{_≡_, sym, ap, _∙_}
 use lib.ListN.{take, drop}
 use Rattle.format.specs.Times.{Seconds, secondsOf, stampFrom}
-use Rattle.timeline.specs.Reading.{secondsSeen}
+use Rattle.seconds.specs.Reading.{secondsSeen}
 use borrow.Author.Needs.{needs}
 use Rattle.timeline.proofs.line_stamp.Statement.{statement}
 use Rattle.timeline.proofs.line_stamp.Tie as tie

@@ -1,0 +1,3 @@
+pub mod Days
+pub mod Digits
+pub mod Forms
