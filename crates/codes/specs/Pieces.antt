@@ -1,8 +1,7 @@
 -- The codes of records, by what they look at. Assumes nothing.
 use Prim.Native.Nat.{ℕ, _+_}
-use mathlib.Core.Bool.{Bool, _&&_, _||_}
 use mathlib.Core.List.{List, [], _∷_, _++_}
-use lib.Dec.{eqb, ltb, leb}
+use lib.Dec.{eqb}
 use Rattle.format.specs.Bytes.{pick, same, toLe16, toLe32}
 use Rattle.format.specs.Sheet.{pointBytes, dimensionBytes, traverseBytes}
 use Rattle.format.specs.Writing.{sameDate, dateCodes, standsAt, common, keptBytes, labelCodes, allShort}
@@ -41,10 +40,6 @@ sectionOver last end d label =
 
 abbrev pub errorOver : Traverse → List ℕ
 errorOver t = 31 ∷ traverseBytes toLe32 t
-
--- "D and A both at most 15 and not both 0 take one byte"
-abbrev pub shortPart : ℕ → ℕ → Bool
-shortPart d a = (leb d 15 && leb a 15) && (ltb 0 d || ltb 0 a)
 
 -- "Close: 00 unless the style is normal, then 00"
 abbrev pub closingOver : ℕ → List ℕ

@@ -8,31 +8,16 @@ ghost use Rattle.format.specs.Bytes.{toLe16, toLe32, same};
 ghost use Rattle.format.specs.Fields.{recordOf, stateOf};
 ghost use Rattle.format.specs.Sheet.{pointBytes, dimensionBytes, traverseBytes, WellFormed, GoodDated, GoodLeg, GoodStation, GoodSection};
 ghost use Rattle.format.specs.State.{leg, station, section, error};
-ghost use Rattle.format.specs.Writing.{common, keptBytes, lengthCodes, partCodes, sameDate, dateCodes, samePoint, standsAt, fitsShort, allShort, codes, headerCodes};
+ghost use Rattle.format.specs.Writing.{sameDate, dateCodes, samePoint, standsAt, fitsShort, allShort, codes, headerCodes};
 ghost use Rattle.format.specs.declared.Dated.the-variants.{Range};
-ghost use Rattle.codes.specs.Lays.{Lays, Puts};
-ghost use Rattle.codes.specs.Pieces.{shortPart, styleOver, dateOver, moveOver, lineOver, stationOver, sectionOver, errorOver, closingOver};
-
-// How many bytes two labels have in common at their start, and whether they are the same.
-struct Overlap {
-    kept: usize,
-    same: bool,
-}
+use part::kept_bytes;
+use part::put;
+use part::put_label;
+use part::shared;
+ghost use Rattle.part.specs.Lays.{Lays, Puts};
+ghost use Rattle.codes.specs.Pieces.{styleOver, dateOver, moveOver, lineOver, stationOver, sectionOver, errorOver, closingOver};
 
 // ---- pieces
-
-// Writes s into out from `at` on where it fits; answers where it ends.
-fn put(out: &mut [u8], at: usize, s: &[u8]) -> usize
-    requires { ⌜ (at ≤ 65536) × (length (now s) ≤ 4096) ⌝ }
-    ensures { λ r. ⌜ Lays (now (out .entry)) (now (out .exit)) at (now (s .entry)) (length (now (s .entry))) r ⌝ }
-{
-    let end = at + s.len();
-    if out.len() < end {
-        return end;
-    }
-    wire::copy(s, &mut out[at..]);
-    end
-}
 
 fn point_bytes(p: format::Point) -> [u8; 12]
     ensures { λ r. ⌜ r ≡ pointBytes toLe32 p ⌝ }
@@ -125,91 +110,6 @@ fn traverse_bytes(t: format::Traverse) -> [u8; 20]
         v[2],
         v[3],
     ]
-}
-
-// ---- label parts
-
-// A length: one byte below ff, or ff and 32 bits.
-fn put_length(out: &mut [u8], at: usize, n: usize) -> usize
-    requires { ⌜ (at ≤ 32768) × (n ≤ 4096) ⌝ }
-    ensures { λ r. ⌜ Lays (now (out .entry)) (now (out .exit)) at (lengthCodes n) 5 r ⌝ }
-{
-    if n < 255 {
-        let code = [n as u8];
-        return put(out, at, &code);
-    }
-    let b = wire::le32_bytes(n as u32);
-    let code = [255, b[0], b[1], b[2], b[3]];
-    put(out, at, &code)
-}
-
-// Whether d bytes to drop and a to append go in one byte.
-fn one_byte(d: usize, a: usize) -> bool
-    ensures { λ r. ⌜ r ≡ shortPart d a ⌝ }
-{
-    if 15 < d {
-        return false;
-    }
-    if 15 < a {
-        return false;
-    }
-    if 0 < d {
-        return true;
-    }
-    0 < a
-}
-
-// d bytes to drop and a to append: both in one byte, or 00 and each as a length.
-fn put_part(out: &mut [u8], at: usize, d: usize, a: usize) -> usize
-    requires { ⌜ (at ≤ 16384) × (d ≤ 4096) × (a ≤ 4096) ⌝ }
-    ensures { λ r. ⌜ Lays (now (out .entry)) (now (out .exit)) at (partCodes d a) 11 r ⌝ }
-{
-    if one_byte(d, a) {
-        let code = [(16 * d + a) as u8];
-        return put(out, at, &code);
-    }
-    let code = [0];
-    let first = put(out, at, &code);
-    let second = put_length(out, first, d);
-    put_length(out, second, a)
-}
-
-// The label `name` after one of len bytes, of which k stay.
-fn put_label(out: &mut [u8], at: usize, len: usize, name: &[u8], k: usize) -> usize
-    requires { ⌜ (at ≤ 8192) × (len ≤ 4096) × (length (now name) ≤ 4096) × (k ≤ len) × (k ≤ length (now name)) ⌝ }
-    ensures { λ r. ⌜ Lays (now (out .entry)) (now (out .exit)) at (partCodes (len - k) (length (now (name .entry)) - k) ++ drop k (now (name .entry))) 4107 r ⌝ }
-{
-    let next = put_part(out, at, len - k, name.len() - k);
-    put(out, next, &name[k..])
-}
-
-// How many bytes the labels have in common, and whether they are the same.
-fn shared(last: &[u8], name: &[u8]) -> Overlap
-    ensures { λ r. ⌜ (r .kept ≡ common (now (last .entry)) (now (name .entry))) × (r .same ≡ same (now (last .entry)) (now (name .entry))) ⌝ }
-{
-    let kept = wire::common_start(last, name);
-    if kept < last.len() {
-        return Overlap { kept, same: false };
-    }
-    if kept < name.len() {
-        return Overlap { kept, same: false };
-    }
-    Overlap { kept, same: true }
-}
-
-// How many bytes of the previous label a station or a cross-section keeps: of the
-// same label all but the last.
-fn kept_bytes(last: &[u8], name: &[u8]) -> usize
-    ensures { λ r. ⌜ r ≡ keptBytes (now (last .entry)) (now (name .entry)) ⌝ }
-{
-    let s = shared(last, name);
-    let kept = s.kept;
-    if s.same {
-        if 0 < kept {
-            return kept - 1;
-        }
-    }
-    kept
 }
 
 // ---- dates and places

@@ -1,6 +1,9 @@
 pub mod Basics
 pub mod Cases
 pub mod Edges
+pub mod EditingLaws
+pub mod GoingLaws
+pub mod GoodRecords
 pub mod HeaderLaws
 pub mod IterateLaws
 pub mod LabelLaws

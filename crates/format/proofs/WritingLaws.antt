@@ -27,6 +27,7 @@ use Rattle.format.specs.declared.Position.the-variants.{Unset, Stands}
 use Rattle.format.proofs.Basics.{pick-case, pick-true, pick-false, both, neither, and-true, or-false, same-true, same-refl, le16-to, le32-to, widened-low, widened-high}
 use Rattle.format.proofs.Rows.{le16-width, le32-width, point-back, traverse-back, wide-dimensions-back, short-dimensions-back}
 use Rattle.format.proofs.ReadingLaws.{run-eq}
+use Rattle.format.proofs.GoingLaws.{Goes, stays, goes-as, goes-on, goes-made, goes-append, goes-run}
 
 -- ---- any writer: records in a row
 
@@ -284,28 +285,16 @@ same-line-item flags p rest h g =
     code-same-line (96 + flags) (pointBytes toLe32 p ++ rest) (omega arith) (omega arith)
     ∙ simp (z, le-ltb _ _ k, point-back p rest g, n)
 
--- ---- reading goes on behind an item
-
-module _ (at : ℕ) (item rest : List ℕ) (st : State) where
-  pub run-on : (st′ : State) → next 8 (item ++ rest) st ≡ on (length item) st′ → run 8 at (item ++ rest) st ≡ run 8 (at + length item) rest st′
-  run-on st′ e = run-eq 8 at (item ++ rest) st ∙ rw (e, drop-append-seam item rest)
-
-  pub run-made : (r : Record) (st′ : State) → next 8 (item ++ rest) st ≡ made (length item) r st′
-      → run 8 at (item ++ rest) st ≡ also r (run 8 (at + length item) rest st′)
-  run-made r st′ e = run-eq 8 at (item ++ rest) st ∙ rw (e, drop-append-seam item rest)
-
 -- ---- the parts of a leg's codes
 
 -- a code that is written only where a part of the state differs from x: either way the state then has x
 module _ {X : Type 0} (now : State → X) (set : X → State → State) (again : (st : State) → set (now st) st ≡ st) where
-  written-if : (st : State) (x : X) (test : Bool) (code rest : List ℕ) (at : ℕ) → (test ≡ true → now st ≡ x)
+  written-if : (st : State) (x : X) (test : Bool) (code rest : List ℕ) → (test ≡ true → now st ≡ x)
       → (test ≡ false → next 8 (code ++ rest) st ≡ on (length code) (set x st))
-      → run 8 at (pick test [] code ++ rest) st ≡ run 8 (at + length (pick test [] code)) rest (set x st)
+      → Goes 8 (pick test [] code ++ rest) st [] (length (pick test [] code)) (set x st)
   unfolding pick
-  written-if st x true code rest at f g =
-      let z : at + 0 ≡ at = add-zero at in
-      ap (run 8 at rest) (sym (again st) ∙ ap (λ (y : X). set y st) (f refl)) ∙ rw z
-  written-if st x false code rest at f g = run-on at code rest st (set x st) (g refl)
+  written-if st x true code rest f g = subst (λ (s : State). Goes 8 rest st [] 0 s) (sym (again st) ∙ ap (λ (y : X). set y st) (f refl)) stays
+  written-if st x false code rest f g = goes-on code rest st (set x st) (g refl)
 
 not-both-normal : (a b : ℕ) → (b ≡ a → ⊥) → (eqb a 0 && eqb b 0) ≡ false
 not-both-normal a b d = go (eqb a 0) (eqb b 0) refl refl
@@ -323,11 +312,11 @@ style-next st style rest h u e =
     let k : style ≡ 5 → ⊥ = λ q. (let u′ : not (eqb (st .style) 5) ≡ false = simp (eq-eqb style 5 q) at u in d (eqb-true (st .style) 5 (not-false (eqb (st .style) 5) u′) ∙ sym q)) in
     simp (code-style style rest (omega arith), not-both-normal style (st .style) d)
 
-style-read : (st : State) (style : ℕ) (rest : List ℕ) (at : ℕ) → style ≤ 5 → (eqb style 5 && not (eqb (st .style) 5)) ≡ false
-    → run 8 at (styleIf st style ++ rest) st ≡ run 8 (at + length (styleIf st style)) rest (styled style st)
+style-read : (st : State) (style : ℕ) (rest : List ℕ) → style ≤ 5 → (eqb style 5 && not (eqb (st .style) 5)) ≡ false
+    → Goes 8 (styleIf st style ++ rest) st [] (length (styleIf st style)) (styled style st)
 unfolding styleIf
-style-read st style rest at h u =
-    written-if (λ s. s .style) styled (λ s. refl) st style _ (style ∷ []) rest at (eqb-true (st .style) style) (style-next st style rest h u)
+style-read st style rest h u =
+    written-if (λ s. s .style) styled (λ s. refl) st style _ (style ∷ []) rest (eqb-true (st .style) style) (style-next st style rest h u)
 
 same-date : (d e : Dated) → sameDate d e ≡ true → d ≡ e
 unfolding sameDate
@@ -393,11 +382,11 @@ module _ (st : State) (rest : List ℕ) where
       let k : 21 ≤ suc (length (traverseBytes toLe32 t ++ rest)) = simp (length-append, le32-width) (omega arith) in
       simp (there 31 (traverseBytes toLe32 t ++ rest), le-ltb _ _ k, e)
 
-date-read : (st : State) (date : Dated) (rest : List ℕ) (at : ℕ) → GoodDated date
-    → run 8 at (dateIf st date ++ rest) st ≡ run 8 (at + length (dateIf st date)) rest (datedBy date st)
+date-read : (st : State) (date : Dated) (rest : List ℕ) → GoodDated date
+    → Goes 8 (dateIf st date ++ rest) st [] (length (dateIf st date)) (datedBy date st)
 unfolding dateIf
-date-read st date rest at g =
-    written-if (λ s. s .date) datedBy (λ s. refl) st date _ (dateCodes date) rest at (same-date (st .date) date) (λ e. date-next st rest date g)
+date-read st date rest g =
+    written-if (λ s. s .date) datedBy (λ s. refl) st date _ (dateCodes date) rest (same-date (st .date) date) (λ e. date-next st rest date g)
 
 same-point : (p q : Point) → samePoint p q ≡ true → p ≡ q
 unfolding samePoint
@@ -414,19 +403,19 @@ stands-at (Stands q) p t = ap Stands (same-point q p t)
 abbrev placed : Position → State → State
 placed q st = record { label = st .label; style = st .style; date = st .date; position = q }
 
-move-read : (st : State) (from : Point) (rest : List ℕ) (at : ℕ) → GoodPoint from
-    → run 8 at (moveIf st from ++ rest) st ≡ run 8 (at + length (moveIf st from)) rest (moved from st)
+move-read : (st : State) (from : Point) (rest : List ℕ) → GoodPoint from
+    → Goes 8 (moveIf st from ++ rest) st [] (length (moveIf st from)) (moved from st)
 unfolding moveIf
-move-read st from rest at g =
+move-read st from rest g =
     let n : length (15 ∷ pointBytes toLe32 from) ≡ 13 = simp (length-append, le32-width) in
-    written-if (λ s. s .position) placed (λ s. refl) st (Stands from) _ (15 ∷ pointBytes toLe32 from) rest at (stands-at (st .position) from)
+    written-if (λ s. s .position) placed (λ s. refl) st (Stands from) _ (15 ∷ pointBytes toLe32 from) rest (stands-at (st .position) from)
     (λ e. rw n (move-next st rest from g))
 
 -- ---- the records
 
-module _ (st : State) (rest : List ℕ) (at : ℕ) (hl : length (st .label) ≤ labelLimit) where
+module _ (st : State) (rest : List ℕ) (hl : length (st .label) ≤ labelLimit) where
   abbrev Reads : List ℕ → Record → State → Type 0
-  Reads bytes r st′ = run 8 at (bytes ++ rest) st ≡ also r (run 8 (at + length bytes) rest st′)
+  Reads bytes r st′ = Goes 8 (bytes ++ rest) st (r ∷ []) (length bytes) st′
 
   station-read : (flags : ℕ) (p : Point) (label : List ℕ) → GoodStation flags p label → Reads (stationCodes st flags p label) (station flags p label) (named label st)
   unfolding stationCodes next
@@ -435,7 +424,7 @@ module _ (st : State) (rest : List ℕ) (at : ℕ) (hl : length (st .label) ≤ 
       let c = stationCodes st flags p label in
       let e : next 8 (c ++ rest) st ≡ made (length c) (station flags p label) (named label st) =
       rw (station-item (st .label) label k hl (g .label-fits) flags p rest (g .place-fits), label-read (st .label) label k (kept-shares (st .label) label) (g .label-fits)) in
-      run-made at c rest st (station flags p label) (named label st) e
+      goes-made c rest st (station flags p label) (named label st) e
 
   section-read : (last : ℕ) (d : Dimensions) (label : List ℕ) → GoodSection last d label → Reads (sectionCodes st last d label) (section last d label) (named label st)
   unfolding sectionCodes next
@@ -450,14 +439,14 @@ module _ (st : State) (rest : List ℕ) (at : ℕ) (hl : length (st .label) ≤ 
       λ q. rw (short-section-item (st .label) label k hl (g .label-fits) last d rest (g .last-fits) (g .dimensions-fit) q, e) in
       let eb : next 8 (b ++ rest) st ≡ made (length b) r (named label st) =
       rw (wide-section-item (st .label) label k hl (g .label-fits) last d rest (g .last-fits) (g .dimensions-fit), e) in
-      pick-case (λ (x : List ℕ). Reads x r (named label st)) (allShort d) a b (λ q. run-made at a rest st r (named label st) (ea q)) (λ q. run-made at b rest st r (named label st) eb)
+      pick-case (λ (x : List ℕ). Reads x r (named label st)) (allShort d) a b (λ q. goes-made a rest st r (named label st) (ea q)) (λ q. goes-made b rest st r (named label st) eb)
 
   error-read : (t : Traverse) → GoodTraverse t → Reads (errorCodes t) (error t) st
   unfolding errorCodes
   error-read t g =
       let c : List ℕ = 31 ∷ traverseBytes toLe32 t in
       let n : length c ≡ 21 = simp (length-append, le32-width) in
-      run-made at c rest st (error t) st (rw n (error-next st rest t g))
+      goes-made c rest st (error t) st (rw n (error-next st rest t g))
 
   -- LINE, where the position is the leg's "from"
   line-read : (flags : ℕ) (from to : Point) (label : List ℕ) → flags ≤ 7 → GoodPoint to → length label ≤ labelLimit → st .position ≡ Stands from
@@ -473,14 +462,13 @@ module _ (st : State) (rest : List ℕ) (at : ℕ) (hl : length (st .label) ≤ 
       rw (line-item l label k hl hm flags to rest hf g, label-read l label k (common-shares l label) hm, hp) in
       let ea : same l label ≡ true → next 8 (a ++ rest) st ≡ made (length a) r (moved to (named label st)) =
       λ q. rw (same-line-item flags to rest hf g, label-same l hl, hp) (rw (same-true l label q)) in
-      pick-case (λ (x : List ℕ). Reads x r (moved to (named label st))) (same l label) a b (λ q. run-made at a rest st r (moved to (named label st)) (ea q)) (λ q. run-made at b rest st r (moved to (named label st)) eb)
+      pick-case (λ (x : List ℕ). Reads x r (moved to (named label st))) (same l label) a b (λ q. goes-made a rest st r (moved to (named label st)) (ea q)) (λ q. goes-made b rest st r (moved to (named label st)) eb)
 
 leg-read : (st : State) (flags style : ℕ) (date : Dated) (from to : Point) (label : List ℕ) → length (st .label) ≤ labelLimit → GoodLeg flags style date from to label
-    → (eqb style 5 && not (eqb (st .style) 5)) ≡ false → (at : ℕ) (rest : List ℕ)
-    → run 8 at (codes st (leg flags style date from to label) ++ rest) st
-    ≡ also (leg flags style date from to label) (run 8 (at + length (codes st (leg flags style date from to label))) rest (after st (leg flags style date from to label)))
+    → (eqb style 5 && not (eqb (st .style) 5)) ≡ false → (rest : List ℕ)
+    → Goes 8 (codes st (leg flags style date from to label) ++ rest) st (leg flags style date from to label ∷ []) (length (codes st (leg flags style date from to label))) (after st (leg flags style date from to label))
 unfolding dateIf moveIf lineCodes
-leg-read st flags style date from to label hl g u at rest =
+leg-read st flags style date from to label hl g u rest =
     let S = styleIf st style in
     let D = dateIf st date in
     let M = moveIf st from in
@@ -489,23 +477,27 @@ leg-read st flags style date from to label hl g u at rest =
     let dated-st = datedBy date styled-st in
     let moved-st = moved from dated-st in
     let e : (S ++ (D ++ (M ++ L))) ++ rest ≡ S ++ (D ++ (M ++ (L ++ rest))) = simp append-assoc in
-    let n : at + length S + length D + length M + length L ≡ at + length (S ++ (D ++ (M ++ L))) = simp (length-append, add-assoc) in
-    ap (λ (x : List ℕ). run 8 at x st) e
-    ∙ style-read st style (D ++ (M ++ (L ++ rest))) at (g .style-fits) u
-    ∙ date-read styled-st date (M ++ (L ++ rest)) (at + length S) (g .date-fits)
-    ∙ move-read dated-st from (L ++ rest) (at + length S + length D) (g .from-fits)
-    ∙ line-read moved-st rest (at + length S + length D + length M) hl flags from to label (g .flags-fit) (g .to-fits) (g .label-fits) refl
-    ∙ ap (λ (p : ℕ). also (leg flags style date from to label) (run 8 p rest (after st (leg flags style date from to label)))) n
+    let n : length S + (length D + (length M + length L)) ≡ length (S ++ (D ++ (M ++ L))) = simp length-append in
+    goes-as (sym e) n
+    (goes-append S (D ++ (M ++ (L ++ rest))) (style-read st style (D ++ (M ++ (L ++ rest))) (g .style-fits) u)
+    (goes-append D (M ++ (L ++ rest)) (date-read styled-st date (M ++ (L ++ rest)) (g .date-fits))
+    (goes-append M (L ++ rest) (move-read dated-st from (L ++ rest) (g .from-fits))
+    (line-read moved-st rest hl flags from to label (g .flags-fit) (g .to-fits) (g .label-fits) refl))))
 
 -- ---- codes-read: reading the codes of a record from any state makes exactly that record, leaves the state that writing leaves, and goes
 -- on at what follows
 
+pub codes-go : (st : State) (r : Record) → length (st .label) ≤ labelLimit → WellFormed r → unsayable st r ≡ false → (rest : List ℕ)
+    → Goes 8 (codes st r ++ rest) st (r ∷ []) (length (codes st r)) (after st r)
+codes-go st (leg flags style date from to label) hl g u rest = leg-read st flags style date from to label hl g u rest
+codes-go st (station flags p label) hl g u rest = station-read st rest hl flags p label g
+codes-go st (section last d label) hl g u rest = section-read st rest hl last d label g
+codes-go st (error t) hl g u rest = error-read st rest hl t g
+
 pub codes-read : (st : State) (r : Record) → length (st .label) ≤ labelLimit → WellFormed r → unsayable st r ≡ false → (at : ℕ) (rest : List ℕ)
     → run 8 at (codes st r ++ rest) st ≡ also r (run 8 (at + length (codes st r)) rest (after st r))
-codes-read st (leg flags style date from to label) hl g u at rest = leg-read st flags style date from to label hl g u at rest
-codes-read st (station flags p label) hl g u at rest = station-read st rest at hl flags p label g
-codes-read st (section last d label) hl g u at rest = section-read st rest at hl last d label g
-codes-read st (error t) hl g u at rest = error-read st rest at hl t g
+codes-read st r hl g u at rest =
+    goes-run (codes-go st r hl g u rest) at ∙ rw (drop-append-seam (codes st r) rest)
 
 -- ---- the closing codes end the file, and so reading gives back the records that were written
 
@@ -523,14 +515,14 @@ unfolding closing
 closing-read st at =
     pick-case (λ (x : List ℕ). run 8 at x st ≡ stop good) _ _ _ (λ q. end-read st at (eqb-true (st .style) 0 q)) (λ q. normal-end-read st at q)
 
-after-short : (st : State) (r : Record) → length (st .label) ≤ labelLimit → WellFormed r → length (after st r .label) ≤ labelLimit
+pub after-short : (st : State) (r : Record) → length (st .label) ≤ labelLimit → WellFormed r → length (after st r .label) ≤ labelLimit
 after-short st (leg flags style date from to label) h g = g .label-fits
 after-short st (station flags p label) h g = g .label-fits
 after-short st (section last d label) h g = g .label-fits
 after-short st (error t) h g = h
 
 -- a record that 13 does not name, and those after it
-sayable : (n : ℕ) (st : State) (r : Record) (rs : List Record) → styleVerdict n st (r ∷ rs) ≡ good → (unsayable st r ≡ false) × (styleVerdict (n + 1) (after st r) rs ≡ good)
+pub sayable : (n : ℕ) (st : State) (r : Record) (rs : List Record) → styleVerdict n st (r ∷ rs) ≡ good → (unsayable st r ≡ false) × (styleVerdict (n + 1) (after st r) rs ≡ good)
 unfolding styleVerdict pick
 sayable n st r rs e = go (unsayable st r) refl e
   where

@@ -7,10 +7,10 @@ use lib.ListN.{length, take, drop}
 use lib.Dec.{ltb}
 use Rattle.format.specs.Bytes.{pick, same}
 use Rattle.format.specs.Header.{Header, Opening, shut, opened, openingOf}
-use Rattle.format.specs.State.{Record}
+use Rattle.format.specs.State.{State, start, Record}
 use Rattle.format.specs.Sheet.{Verdict, good, refusal, Result, orElse, recordsOf}
-use Rattle.format.specs.Reading.{Outcome, accepted, refused, bufferOf, itemsOf, readOutcome, readBuffer, sheetFrom}
-use Rattle.format.specs.Writing.{fileOf, writtenOutcome, writeOutcome, writeBuffer}
+use Rattle.format.specs.Reading.{Outcome, accepted, refused, bufferOf, itemsOf, Reached, readOutcome, readBuffer, sheetFrom}
+use Rattle.format.specs.Writing.{codesAll, codes, after, headerCodes, fileOf, writtenOutcome, writeOutcome, writeBuffer}
 
 -- ---- house-written: document 01's word for a file that "these rules would have produced", one that "is exactly what they give for [its]
 -- sheet". `openingOf` has judged that it is no longer than refusal 16 allows, and a file that begins as ours does is a v8 file
@@ -57,6 +57,17 @@ editOutcome file first count new room = editFrom (openingOf file) file first cou
 
 unfoldable pub editBuffer : List ℕ → ℕ → ℕ → List ℕ → List ℕ → List ℕ
 editBuffer file first count new old = bufferOf (editOutcome file first count new (length old)) (editFile (openingOf file) file first count new) old
+
+-- ---- where a record's codes stand
+
+-- "Codes follow the header without gaps, in record order, closing codes last": the place of the first byte of the codes of the record with
+-- the number j; past the last record, of the closing codes
+unfoldable pub codesPlace : Header → List Record → ℕ → ℕ
+codesPlace h rs j = length (headerCodes h ++ codesAll codes after start (take j rs))
+
+-- "What a record or the closing codes find is the state that reading has reached before their first byte"
+abbrev pub Finds : Header → List Record → ℕ → State → Type 0
+Finds h rs j st = Reached 8 (fileOf h rs) (length (headerCodes h)) (codesPlace h rs j) st
 
 -- ---- "Conversion reads to a lent sheet, then writes: after a writer's refusal the sheet stands and the file buffer is untouched"
 

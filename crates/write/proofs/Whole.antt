@@ -20,7 +20,7 @@ use Rattle.format.proofs.Basics.{pick-true, pick-false}
 use Rattle.wire.specs.Laid.{laid}
 use Rattle.wire.proofs.Laws.{laid-zero, laid-next}
 use Rattle.sheet.specs.Seen.{Fronted}
-use Rattle.codes.specs.Lays.{Puts}
+use Rattle.part.specs.Lays.{Puts}
 use Rattle.write.specs.Passing.{roomy, encoded, restOutcome, Rest, sheetOutcome, Passed}
 use Rattle.write.proofs.Turn.{never}
 

@@ -3,7 +3,7 @@ use native.Mathlib.Omega.{arith}
 use mathlib.Core.Path.{sym}
 use borrow.Author.Tests.{eq-eqb, ne-eqb}
 use Rattle.format.proofs.Basics.{pick-true, pick-false}
-use Rattle.codes.proofs.Laying.{lays-as, lays-within, puts-front}
+use Rattle.part.proofs.Laying.{lays-as, lays-within, puts-front}
 use borrow.Author.Needs.{needs}
 use Rattle.codes.proofs.put_closing.Statement.{statement}
 use Rattle.codes.proofs.put_closing.Tie as tie

@@ -2,7 +2,7 @@
 use native.Mathlib.Omega.{arith}
 use mathlib.Core.Path.{ap, _∙_}
 use Rattle.format.specs.Bytes.{toLe16}
-use Rattle.codes.proofs.Laying.{lays-within}
+use Rattle.part.proofs.Laying.{lays-within}
 use borrow.Author.Needs.{needs}
 use Rattle.codes.proofs.put_date.Statement.{statement}
 use Rattle.codes.proofs.put_date.Tie as tie

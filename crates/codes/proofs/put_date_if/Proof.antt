@@ -1,7 +1,7 @@
 -- `codes::put_date_if` meets its contract. Assumes nothing.
 use mathlib.Core.Path.{sym, _∙_}
 use Rattle.format.proofs.Basics.{pick-true, pick-false}
-use Rattle.codes.proofs.Laying.{lays-as, lays-none}
+use Rattle.part.proofs.Laying.{lays-as, lays-none}
 use borrow.Author.Needs.{needs}
 use Rattle.codes.proofs.put_date_if.Statement.{statement}
 use Rattle.codes.proofs.put_date_if.Tie as tie

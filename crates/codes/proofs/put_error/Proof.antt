@@ -1,6 +1,6 @@
 -- `codes::put_error` meets its contract. Assumes nothing.
 use Rattle.format.specs.Bytes.{toLe32}
-use Rattle.codes.proofs.Laying.{lays-then}
+use Rattle.part.proofs.Laying.{lays-then}
 use borrow.Author.Needs.{needs}
 use Rattle.codes.proofs.put_error.Statement.{statement}
 use Rattle.codes.proofs.put_error.Tie as tie

@@ -2,7 +2,7 @@
 use native.Mathlib.Omega.{arith}
 use Rattle.format.specs.Header.{magic}
 use Rattle.format.specs.Writing.{headerCodes}
-use Rattle.codes.proofs.Laying.{lays-within, lays-then, puts-front}
+use Rattle.part.proofs.Laying.{lays-within, lays-then, puts-front}
 use borrow.Author.Needs.{needs}
 use Rattle.codes.proofs.put_header.Statement.{statement}
 use Rattle.codes.proofs.put_header.Tie as tie

@@ -1,6 +1,6 @@
 -- `codes::put_leg` meets its contract. Assumes nothing.
 use Rattle.format.specs.Writing.{styleIf, dateIf, moveIf, lineCodes}
-use Rattle.codes.proofs.Laying.{lays-then}
+use Rattle.part.proofs.Laying.{lays-then}
 use borrow.Author.Needs.{needs}
 use Rattle.codes.proofs.put_leg.Statement.{statement}
 use Rattle.codes.proofs.put_leg.Tie as tie

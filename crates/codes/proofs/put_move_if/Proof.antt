@@ -2,7 +2,7 @@
 use mathlib.Core.Path.{sym, _∙_}
 use Rattle.format.specs.Bytes.{toLe32}
 use Rattle.format.proofs.Basics.{pick-true, pick-false}
-use Rattle.codes.proofs.Laying.{lays-as, lays-none, lays-then}
+use Rattle.part.proofs.Laying.{lays-as, lays-none, lays-then}
 use borrow.Author.Needs.{needs}
 use Rattle.codes.proofs.put_move_if.Statement.{statement}
 use Rattle.codes.proofs.put_move_if.Tie as tie

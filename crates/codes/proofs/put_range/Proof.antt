@@ -4,7 +4,7 @@ use mathlib.Core.Path.{sym, ap, _∙_}
 use borrow.Author.Tests.{le-leb, lt-leb}
 use Rattle.format.specs.Bytes.{toLe16}
 use Rattle.format.proofs.Basics.{pick-true, pick-false}
-use Rattle.codes.proofs.Laying.{lays-as, lays-within}
+use Rattle.part.proofs.Laying.{lays-as, lays-within}
 use borrow.Author.Needs.{needs}
 use Rattle.codes.proofs.put_range.Statement.{statement}
 use Rattle.codes.proofs.put_range.Tie as tie

@@ -1,7 +1,7 @@
 -- `codes::put_record` meets its contract. Assumes nothing.
 use native.Mathlib.Omega.{arith}
 use Rattle.format.specs.Writing.{stationCodes, sectionCodes, errorCodes}
-use Rattle.codes.proofs.Laying.{lays-within, puts-front}
+use Rattle.part.proofs.Laying.{lays-within, puts-front}
 use borrow.Author.Needs.{needs}
 use Rattle.codes.proofs.put_record.Statement.{statement}
 use Rattle.codes.proofs.put_record.Tie as tie

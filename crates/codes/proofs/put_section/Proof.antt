@@ -5,7 +5,7 @@ use Rattle.format.specs.Bytes.{toLe16, toLe32}
 use Rattle.format.specs.Writing.{labelCodes}
 use Rattle.format.proofs.Basics.{pick-true, pick-false}
 use Rattle.format.proofs.WritingLaws.{kept-shares}
-use Rattle.codes.proofs.Laying.{lays-as, lays-within, lays-then}
+use Rattle.part.proofs.Laying.{lays-as, lays-within, lays-then}
 use borrow.Author.Needs.{needs}
 use Rattle.codes.proofs.put_section.Statement.{statement}
 use Rattle.codes.proofs.put_section.Tie as tie

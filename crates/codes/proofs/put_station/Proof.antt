@@ -3,7 +3,7 @@ use native.Mathlib.Omega.{arith}
 use Rattle.format.specs.Bytes.{toLe32}
 use Rattle.format.specs.Writing.{labelCodes}
 use Rattle.format.proofs.WritingLaws.{kept-shares}
-use Rattle.codes.proofs.Laying.{lays-then}
+use Rattle.part.proofs.Laying.{lays-then}
 use borrow.Author.Needs.{needs}
 use Rattle.codes.proofs.put_station.Statement.{statement}
 use Rattle.codes.proofs.put_station.Tie as tie

@@ -2,7 +2,7 @@
 use mathlib.Core.Path.{sym}
 use borrow.Author.Tests.{eq-eqb, ne-eqb}
 use Rattle.format.proofs.Basics.{pick-true, pick-false}
-use Rattle.codes.proofs.Laying.{lays-as, lays-none}
+use Rattle.part.proofs.Laying.{lays-as, lays-none}
 use borrow.Author.Needs.{needs}
 use Rattle.codes.proofs.put_style.Statement.{statement}
 use Rattle.codes.proofs.put_style.Tie as tie

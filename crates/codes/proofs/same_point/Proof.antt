@@ -1,5 +1,5 @@
 -- `codes::same_point` meets its contract. Assumes nothing.
-use Rattle.codes.proofs.Labels.{point-x, point-y, point-z}
+use Rattle.codes.proofs.Places.{point-x, point-y, point-z}
 use Rattle.codes.proofs.same_point.Statement.{statement}
 use Rattle.codes.proofs.same_point.Tie as tie
 

@@ -1,0 +1,46 @@
+-- `step::step_at` meets its contract. Assumes nothing.
+use Rattle.step.proofs.Laws.{stands-still, stands-refused}
+use borrow.Author.Needs.{needs}
+use Rattle.step.proofs.step_at.Statement.{statement}
+use Rattle.step.proofs.step_at.Tie as tie
+
+enum-told : tie.Need-enum-told
+enum-told c = search needs
+
+step-item-requires : tie.Need-step-item-requires
+step-item-requires c κs = search needs
+
+enum-told-2 : tie.Need-enum-told-2
+enum-told-2 c = search needs
+
+enum-known-phase : tie.Need-enum-known-phase
+enum-known-phase c = search needs
+
+same-length : tie.Need-same-length
+same-length c = search needs
+
+returns : tie.Need-returns
+returns c = search needs
+
+returns-2 : tie.Need-returns-2
+returns-2 c =
+    let a = c .before .before .before .before in
+    stands-still (a .args .stand) _ _ (a .pre) (c .enum-told2 .given .1)
+
+returns-3 : tie.Need-returns-3
+returns-3 c =
+    let a = c .before .before .before .before .before in
+    stands-refused (a .args .stand) _ _ _ _ (a .pre) (c .before .phase .given .1)
+
+pub step-at-spec : {M : Type 1} → statement M
+step-at-spec =
+    tie.close
+    (tie.spec
+    enum-told
+    step-item-requires
+    enum-told-2
+    enum-known-phase
+    same-length
+    returns
+    returns-2
+    returns-3)
