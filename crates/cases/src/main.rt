@@ -9,30 +9,28 @@ fn print_line(line: &[u8], n: usize) {
     }
 }
 
-// Prints a refusal, or the number of records.
-fn print_answer(a: Answer) {
+fn print_refusal(number: u8, place: usize) {
     let mut line = [0u8; 64];
-    match a {
-        Answer::Refused { number, place } => {
-            let n = listing::put_refusal(&mut line, number, place);
-            print_line(&line, n);
-        }
-        Answer::Done {
-            bytes: _,
-            records,
-            version: _,
-        } => {
-            let n = listing::put_end(&mut line, records);
-            print_line(&line, n);
-        }
-    }
+    let n = listing::put_refusal(&mut line, number, place);
+    print_line(&line, n);
 }
 
-// Reads a file and prints the answer.
+// Reads a file and prints its listing, or the refusal.
 fn run_read(file: &[u8]) {
     let mut sheet = [0u8; 4096];
+    let mut text = [0u8; 4096];
     let a = read::read(file, &mut sheet);
-    print_answer(a);
+    match a {
+        Answer::Refused { number, place } => print_refusal(number, place),
+        Answer::Done {
+            bytes,
+            records: _,
+            version,
+        } => {
+            let n = listing::list_sheet(&sheet[..bytes], version, &mut text);
+            print_line(&text, n);
+        }
+    }
 }
 
 // Compares two files and prints which is later, and its time line.
@@ -49,10 +47,10 @@ fn run_compare<'a>(first: &'a [u8], second: &'a [u8]) {
             io::write_all(1, b"same");
         }
         Later::FirstRefused { number, place } => {
-            print_answer(Answer::Refused { number, place });
+            print_refusal(number, place);
         }
         Later::SecondRefused { number, place } => {
-            print_answer(Answer::Refused { number, place });
+            print_refusal(number, place);
         }
     }
     io::write_all(1, timeline::later_line(first, second));

@@ -40,7 +40,3 @@ sectionOver last end d label =
 
 abbrev pub errorOver : Traverse → List ℕ
 errorOver t = 31 ∷ traverseBytes toLe32 t
-
--- "Close: 00 unless the style is normal, then 00"
-abbrev pub closingOver : ℕ → List ℕ
-closingOver style = pick (eqb style 0) (0 ∷ []) (0 ∷ 0 ∷ [])

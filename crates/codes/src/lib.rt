@@ -1,5 +1,5 @@
-// The v8 codes of one record, of a header and of a file's end. Each piece is written
-// where it fits, so the same code measures when it is lent no bytes.
+// The v8 codes of one record. Each piece is written where it fits, so the same code
+// measures when it is lent no bytes.
 ghost use mathlib.Core.Path.{_≡_};
 ghost use mathlib.Core.List.{_++_};
 ghost use Prim.Native.Nat.{ℕ, _+_, _-_, _≤_};
@@ -8,14 +8,14 @@ ghost use Rattle.format.specs.Bytes.{toLe16, toLe32, same};
 ghost use Rattle.format.specs.Fields.{recordOf, stateOf};
 ghost use Rattle.format.specs.Sheet.{pointBytes, dimensionBytes, traverseBytes, WellFormed, GoodDated, GoodLeg, GoodStation, GoodSection};
 ghost use Rattle.format.specs.State.{leg, station, section, error};
-ghost use Rattle.format.specs.Writing.{sameDate, dateCodes, samePoint, standsAt, fitsShort, allShort, codes, headerCodes};
+ghost use Rattle.format.specs.Writing.{sameDate, dateCodes, samePoint, standsAt, fitsShort, allShort, codes};
 ghost use Rattle.format.specs.declared.Dated.the-variants.{Range};
 use part::kept_bytes;
 use part::put;
 use part::put_label;
 use part::shared;
 ghost use Rattle.part.specs.Lays.{Lays, Puts};
-ghost use Rattle.codes.specs.Pieces.{styleOver, dateOver, moveOver, lineOver, stationOver, sectionOver, errorOver, closingOver};
+ghost use Rattle.codes.specs.Pieces.{styleOver, dateOver, moveOver, lineOver, stationOver, sectionOver, errorOver};
 
 // ---- pieces
 
@@ -375,31 +375,4 @@ pub fn put_record(
         format::Fields::Section { last: end, size } => put_section(out, last, name, end, size),
         format::Fields::Error { traverse } => put_error(out, traverse),
     }
-}
-
-// ---- the header and the closing codes
-
-pub fn put_header(out: &mut [u8], extended: u8, title: &[u8], time: &[u8]) -> usize
-    requires { ⌜ (extended ≤ 1) × (length (now title) ≤ 4096) × (length (now time) ≤ 64) ⌝ }
-    ensures { λ r. ⌜ Puts (now (out .entry)) (now (out .exit)) (headerCodes (record { extended = extended; title = now (title .entry); time = now (time .entry) })) 4187 r ⌝ }
-{
-    let a = put(out, 0, b"Survex 3D Image File\nv8\n");
-    let b = put(out, a, title);
-    let linefeed = [10];
-    let c = put(out, b, &linefeed);
-    let d = put(out, c, time);
-    let last = [10, extended * 128];
-    put(out, d, &last)
-}
-
-// 00 unless the style is normal, then 00.
-pub fn put_closing(out: &mut [u8], style: u8) -> usize
-    ensures { λ r. ⌜ Puts (now (out .entry)) (now (out .exit)) (closingOver style) 2 r ⌝ }
-{
-    if style == 0 {
-        let code = [0];
-        return put(out, 0, &code);
-    }
-    let code = [0, 0];
-    put(out, 0, &code)
 }

@@ -200,7 +200,7 @@ item-good version s b =
 
 -- ---- what an item comes to
 
-abbrev GoodPosition : Position → Type 0
+abbrev pub GoodPosition : Position → Type 0
 GoodPosition Unset = Unit
 GoodPosition (Stands p) = GoodPoint p
 
@@ -210,7 +210,7 @@ pub record GoodState (st : State) : Type 0 where
   pub date-fits : GoodDated (st .date)
   pub position-fits : GoodPosition (st .position)
 
-abbrev GoodNext : Next → Type 0
+abbrev pub GoodNext : Next → Type 0
 GoodNext (bad k) = Unit
 GoodNext end = Unit
 GoodNext (on n st) = GoodState st
@@ -269,7 +269,7 @@ next-of-good : (st : State) → GoodState st → (x : Decoded) → GoodDecoded x
 next-of-good st g (faulty k) i = tt
 next-of-good st g (whole n it) i = apply-good st n g it i
 
-next-good : (version : ℕ) (s : List ℕ) (st : State) → Bytes s → GoodState st → GoodNext (next version s st)
+pub next-good : (version : ℕ) (s : List ℕ) (st : State) → Bytes s → GoodState st → GoodNext (next version s st)
 unfolding next
 next-good version s st b g = next-of-good st g (itemOf version s) (item-good version s b)
 

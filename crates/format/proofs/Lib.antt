@@ -11,5 +11,6 @@ pub mod ReadingLaws
 pub mod RoundTrip
 pub mod Rows
 pub mod SheetLaws
+pub mod SteppingLaws
 pub mod WritingLaws
 pub mod WrittenBytes

@@ -1,6 +1,6 @@
 -- Stepping, document 01, "Stepping": opening, and one step. Assumes nothing.
-use Prim.Native.Nat.{ℕ, _+_}
-use mathlib.Core.List.{List, []}
+use Prim.Native.Nat.{ℕ, zero, suc, _+_}
+use mathlib.Core.List.{List, [], _++_}
 use lib.ListN.{length, drop}
 use lib.Dec.{ltb}
 use Rattle.format.specs.Bytes.{pick, over}
@@ -64,3 +64,23 @@ stepOf (before version place st) file room = stepNext (next version (drop place 
 -- "The record is written from the front, length bytes first; the rest stays"
 unfoldable pub stepBuffer : Stand → List ℕ → List ℕ → List ℕ
 stepBuffer stand file old = over (stepOf stand file (length old) .bytes) old
+
+-- ---- a reader stepped to its stop
+
+-- the records' bytes in order, and why it stopped
+pub record Gathered : Type 0 where
+  pub bytes : List ℕ
+  pub verdict : Verdict
+
+abbrev pub afterStep : StepOutcome → List ℕ → Gathered → Gathered
+afterStep (wrote n) record-bytes rest = record { bytes = record-bytes ++ rest .bytes; verdict = rest .verdict }
+afterStep nothing record-bytes rest = rest
+afterStep ends record-bytes rest = record { bytes = []; verdict = good }
+afterStep (refuses n p) record-bytes rest = record { bytes = []; verdict = refusal n p }
+
+-- at most so many steps, each into a buffer of so much room
+unfoldable pub gathered : ℕ → Stand → List ℕ → ℕ → Gathered
+gathered zero stand file room = record { bytes = []; verdict = good }
+gathered (suc n) stand file room =
+    let s = stepOf stand file room in
+    afterStep (s .answer) (s .bytes) (gathered n (s .stand) file room)

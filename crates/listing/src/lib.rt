@@ -435,19 +435,8 @@ pub fn list_sheet(sheet: &[u8], version: u8, out: &mut [u8]) -> usize
     sheet_lines(sheet, version, out)
 }
 
-// Writes the last line over the front of out where it fits, and answers its length either
-// way.
-pub fn put_end(out: &mut [u8], records: usize) -> usize
-    ensures { λ r. ⌜ Wrote (endLine records) (now (out .entry)) r (now (out .exit)) × (r ≤ lineLimit) ⌝ }
-{
-    let size = end_line(&mut out[0..0], 0, records);
-    if out.len() < size {
-        return size;
-    }
-    end_line(out, 0, records)
-}
-
-// The same for a refusal's line, which stands alone.
+// Writes a refusal's line over the front of out where it fits, and answers its length
+// either way. It stands alone.
 pub fn put_refusal(out: &mut [u8], refused: u8, place: usize) -> usize
     ensures { λ r. ⌜ Wrote (refusalLine refused place) (now (out .entry)) r (now (out .exit)) × (r ≤ lineLimit) ⌝ }
 {

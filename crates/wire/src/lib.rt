@@ -2,7 +2,7 @@
 ghost use mathlib.Core.Path.{_≡_};
 ghost use Prim.Native.Nat.{_≤_, _<_};
 ghost use lib.ListN.{length, take};
-ghost use Rattle.format.specs.Bytes.{le16, le32, be16, be32, toLe16, toLe32, toBe16, toBe32, same, over};
+ghost use Rattle.format.specs.Bytes.{le16, le32, be16, be32, toLe16, toLe32, toBe32, same, over};
 ghost use Rattle.format.specs.Header.{lineEnd};
 ghost use Rattle.format.specs.Writing.{common};
 ghost use Rattle.wire.specs.Begun.{Four, Begun};
@@ -81,14 +81,6 @@ pub fn le32_bytes(n: u32) -> [u8; 4]
         (n / 65536 % 256) as u8,
         (n / 16777216 % 256) as u8,
     ]
-}
-
-// The lowest 16 bits of n as bytes, the highest first.
-pub fn be16_bytes(n: u32) -> [u8; 2]
-    ensures { λ r. ⌜ r ≡ toBe16 n ⌝ }
-{
-    let low = le16_bytes(n);
-    [low[1], low[0]]
 }
 
 // n as bytes, the highest first.

@@ -32,7 +32,7 @@ use Rattle.sheet.specs.Seen.{labelOf, Inside, EntryTold}
 use Rattle.sheet.specs.declared.Entry.{Entry as Found}
 use Rattle.sheet.specs.declared.Entry.the-variants.{Flawed, Whole}
 use Rattle.part.specs.Lays.{Puts}
-use Rattle.codes.specs.Pieces.{closingOver}
+use Rattle.write.specs.Passing.{closingOver}
 use Rattle.format.specs.Fields.{stateOf}
 use Rattle.write.specs.Passing.{handAfter, faultOf, faultAt, bounded, roomy, finalOutcome, Finished, encoded, restOutcome, Rest}
 use Rattle.write.specs.declared.Hand.{Hand}

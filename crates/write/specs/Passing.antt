@@ -2,7 +2,7 @@
 use Prim.Native.Nat.{ℕ, zero, suc, _+_, _≤_}
 use mathlib.Core.Path.{_≡_}
 use mathlib.Core.Bool.{Bool, _&&_, not}
-use mathlib.Core.List.{List}
+use mathlib.Core.List.{List, [], _∷_}
 use lib.ListN.{length}
 use lib.Dec.{eqb, ltb}
 use Rattle.format.specs.Bytes.{pick, over}
@@ -16,9 +16,14 @@ use Rattle.format.specs.declared.Answer.{Answer}
 use Rattle.format.specs.declared.Fields.{Fields}
 use Rattle.format.specs.declared.Fields.the-variants.{Leg, Station, Section, Error}
 use Rattle.format.specs.declared.Position.the-variants.{Stands}
-use Rattle.codes.specs.Pieces.{closingOver}
 use Rattle.write.specs.declared.Hand.{Hand}
 use Rattle.wire.specs.Laid.{laid}
+
+-- ---- the end of a file
+
+-- "Close: 00 unless the style is normal, then 00"
+abbrev pub closingOver : ℕ → List ℕ
+closingOver style = pick (eqb style 0) (0 ∷ []) (0 ∷ 0 ∷ [])
 
 -- ---- from record to record
 

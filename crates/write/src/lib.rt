@@ -6,10 +6,38 @@ ghost use Prim.Native.Nat.{ℕ, _+_, _≤_};
 ghost use lib.ListN.{length, drop};
 ghost use Rattle.format.specs.Sheet.{orElse, recordsOf};
 ghost use Rattle.format.specs.Answers.{answerOf};
-ghost use Rattle.format.specs.Writing.{writeOutcome, writeBuffer};
+ghost use Rattle.format.specs.Writing.{headerCodes, writeOutcome, writeBuffer};
+ghost use Rattle.part.specs.Lays.{Puts};
 ghost use Rattle.format.specs.declared.Dated.the-variants.{Undated};
 ghost use Rattle.format.specs.declared.Position.the-variants.{Unset};
-ghost use Rattle.write.specs.Passing.{handAfter, faultOf, faultAt, bounded, Finished, Rest, Passed};
+ghost use Rattle.write.specs.Passing.{closingOver, handAfter, faultOf, faultAt, bounded, Finished, Rest, Passed};
+
+// ---- the header and the closing codes
+
+fn put_header(out: &mut [u8], extended: u8, title: &[u8], time: &[u8]) -> usize
+    requires { ⌜ (extended ≤ 1) × (length (now title) ≤ 4096) × (length (now time) ≤ 64) ⌝ }
+    ensures { λ r. ⌜ Puts (now (out .entry)) (now (out .exit)) (headerCodes (record { extended = extended; title = now (title .entry); time = now (time .entry) })) 4187 r ⌝ }
+{
+    let a = part::put(out, 0, b"Survex 3D Image File\nv8\n");
+    let b = part::put(out, a, title);
+    let linefeed = [10];
+    let c = part::put(out, b, &linefeed);
+    let d = part::put(out, c, time);
+    let last = [10, extended * 128];
+    part::put(out, d, &last)
+}
+
+// 00 unless the style is normal, then 00.
+fn put_closing(out: &mut [u8], style: u8) -> usize
+    ensures { λ r. ⌜ Puts (now (out .entry)) (now (out .exit)) (closingOver style) 2 r ⌝ }
+{
+    if style == 0 {
+        let code = [0];
+        return part::put(out, 0, &code);
+    }
+    let code = [0, 0];
+    part::put(out, 0, &code)
+}
 
 // ---- the records of a sheet
 
@@ -133,7 +161,7 @@ fn finish(out: &mut [u8], style: u8, total: usize, number: usize, fault: usize) 
         };
     }
     let start = within(total, out.len());
-    let n = codes::put_closing(&mut out[start..], style);
+    let n = put_closing(&mut out[start..], style);
     let bytes = total + n;
     if 16777216 < bytes {
         return format::Answer::Refused {
@@ -208,7 +236,7 @@ fn pass(sheet: &[u8], out: &mut [u8]) -> format::Answer
         } => {
             let middle = 7 + title;
             let begin = middle + time;
-            let head = codes::put_header(out, extended, &sheet[7..middle], &sheet[middle..begin]);
+            let head = put_header(out, extended, &sheet[7..middle], &sheet[middle..begin]);
             put_records(sheet, begin, out, head)
         }
     }
