@@ -77,7 +77,7 @@ fn fresh(phase: Phase, version: u8, place: usize) -> Stand
 
 // Where a reader of the file stands at first. After a refused opening every step answers
 // that refusal.
-pub fn open_at(file: &[u8]) -> Stand
+fn open_at(file: &[u8]) -> Stand
     ensures { λ r. ⌜ (standSeen r ≡ openStand (now (file .entry))) × Inside r (now (file .entry)) ⌝ }
 {
     let o = opened(file);
@@ -199,7 +199,7 @@ fn step_item(file: &[u8], stand: Stand, out: &mut [u8]) -> Taken
 
 // One step: exactly one item, or the end or the refusal again. 11 leaves the stand as it
 // was.
-pub fn step_at(file: &[u8], stand: Stand, out: &mut [u8]) -> Taken
+fn step_at(file: &[u8], stand: Stand, out: &mut [u8]) -> Taken
     requires { ⌜ Inside stand (now file) ⌝ }
     ensures { λ r. ⌜ Steps stand (now (file .entry)) (now (out .entry)) r (now (out .exit)) ⌝ }
 {
