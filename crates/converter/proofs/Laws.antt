@@ -12,7 +12,7 @@ use Rattle.format.specs.Sheet.{orElse, sheetResult, frontHeader}
 use Rattle.format.specs.Reading.{Outcome, accepted, refused, readOutcome, readBuffer}
 use Rattle.format.specs.Writing.{fileOf, styleVerdict, sizeVerdict, writtenOutcome, writeOutcome}
 use Rattle.format.specs.Editing.{convertedOutcome, convertOutcome, convertBuffer}
-use Rattle.format.proofs.RoundTrip.{accepted-means}
+use Rattle.format.proofs.RoundTrip.{accepted-means, accepted-fits}
 use Rattle.listing.specs.Lines.{refusalLine, tooLongLine}
 use Rattle.listing.specs.Puts.{fitted, Wrote}
 use Rattle.converter.specs.Output.{output}
@@ -30,10 +30,7 @@ unfolding writeOutcome writtenOutcome
 write-room sheet room b n v e =
     let x = sheetResult sheet in
     let file = fileOf (frontHeader sheet) (x .records) in
-    let A = accepted-means (orElse (x .verdict) (orElse (styleVerdict 0 start (x .records)) (sizeVerdict (length file)))) (length file) (length (x .records)) 8 room b n v (sym e) in
-    let q = A .bytes-are in
-    let r = A .fits in
-    omega arith
+    accepted-fits (accepted-means (orElse (x .verdict) (orElse (styleVerdict 0 start (x .records)) (sizeVerdict (length file)))) (length file) (length (x .records)) 8 room b n v (sym e))
 
 module _ (file sheet out : List ℕ) where
   pub output-long : 16384 < length file → output file sheet out ≡ tooLongLine

@@ -22,7 +22,7 @@ use Rattle.format.specs.declared.Dated.{Dated}
 use Rattle.format.specs.declared.Dated.the-variants.{Undated, Day, Range}
 use Rattle.format.specs.declared.Position.{Position}
 use Rattle.format.specs.declared.Position.the-variants.{Unset, Stands}
-use Rattle.format.proofs.Basics.{pick-case}
+use Rattle.format.proofs.Basics.{pick-case, neither}
 use Rattle.format.proofs.IterateLaws.{iter-ind}
 use Rattle.format.proofs.LabelLaws.{ShortLabelled, label-bound}
 use Rattle.format.proofs.SheetLaws.{bytes-drop}
@@ -215,10 +215,6 @@ GoodNext (bad k) = Unit
 GoodNext end = Unit
 GoodNext (on n st) = GoodState st
 GoodNext (made n r st) = WellFormed r × GoodState st
-
-neither : (a b : Bool) → a || b ≡ false → (a ≡ false) × (b ≡ false)
-neither true b e = absurd (let z : _≡_ {A = ℕ} 0 1 = cc in omega arith)
-neither false b e = (refl, e)
 
 date-good : (first last : ℕ) → badDates first last ≡ false → GoodDated (dateOf first last)
 unfolding badDates dateOf

@@ -50,6 +50,10 @@ accepted-means good bytes records version room b n w e = go (ltb room bytes) ref
     go false q e = record { fine = refl; bytes-are = cc; records-are = cc; version-is = cc; fits = ltb-false _ _ q }
 accepted-means (refusal k p) bytes records version room b n w e = absurd (let z : _≡_ {A = ℕ} 0 1 = cc in omega arith)
 
+-- what is accepted fits
+pub accepted-fits : {v : Verdict} {bytes records version room b n w : ℕ} → Accepted v bytes records version room b n w → b ≤ room
+accepted-fits A = let q = A .bytes-are in let r = A .fits in omega arith
+
 -- ---- a file that was written, read
 
 module _ (h : Header) (g : GoodHeader h) (rs : List Record) (w : AllWellFormed rs) (s : styleVerdict 0 start rs ≡ good) (fits : length (fileOf h rs) ≤ fileLimit) where
