@@ -22,9 +22,9 @@ ghost use Rattle.codes.specs.Pieces.{styleOver, dateOver, moveOver, line
 fn point_bytes(p: format::Point) -> [u8; 12]
     ensures { λ r. ⌜ r ≡ pointBytes toLe32 p ⌝ }
 {
-    let x = wire::le32_bytes(p.x);
-    let y = wire::le32_bytes(p.y);
-    let z = wire::le32_bytes(p.z);
+    let x = number::le32_bytes(p.x);
+    let y = number::le32_bytes(p.y);
+    let z = number::le32_bytes(p.z);
     [
         x[0],
         x[1],
@@ -45,10 +45,10 @@ fn point_bytes(p: format::Point) -> [u8; 12]
 fn short_bytes(d: format::Dimensions) -> [u8; 8]
     ensures { λ r. ⌜ r ≡ dimensionBytes toLe16 d ⌝ }
 {
-    let l = wire::le16_bytes(d.left);
-    let r = wire::le16_bytes(d.right);
-    let u = wire::le16_bytes(d.up);
-    let w = wire::le16_bytes(d.down);
+    let l = number::le16_bytes(d.left);
+    let r = number::le16_bytes(d.right);
+    let u = number::le16_bytes(d.up);
+    let w = number::le16_bytes(d.down);
     [l[0], l[1], r[0], r[1], u[0], u[1], w[0], w[1]]
 }
 
@@ -56,10 +56,10 @@ fn short_bytes(d: format::Dimensions) -> [u8; 8]
 fn long_bytes(d: format::Dimensions) -> [u8; 16]
     ensures { λ r. ⌜ r ≡ dimensionBytes toLe32 d ⌝ }
 {
-    let l = wire::le32_bytes(d.left);
-    let r = wire::le32_bytes(d.right);
-    let u = wire::le32_bytes(d.up);
-    let w = wire::le32_bytes(d.down);
+    let l = number::le32_bytes(d.left);
+    let r = number::le32_bytes(d.right);
+    let u = number::le32_bytes(d.up);
+    let w = number::le32_bytes(d.down);
     [
         l[0],
         l[1],
@@ -83,11 +83,11 @@ fn long_bytes(d: format::Dimensions) -> [u8; 16]
 fn traverse_bytes(t: format::Traverse) -> [u8; 20]
     ensures { λ r. ⌜ r ≡ traverseBytes toLe32 t ⌝ }
 {
-    let l = wire::le32_bytes(t.legs);
-    let n = wire::le32_bytes(t.total);
-    let e = wire::le32_bytes(t.e);
-    let h = wire::le32_bytes(t.h);
-    let v = wire::le32_bytes(t.v);
+    let l = number::le32_bytes(t.legs);
+    let n = number::le32_bytes(t.total);
+    let e = number::le32_bytes(t.e);
+    let h = number::le32_bytes(t.h);
+    let v = number::le32_bytes(t.v);
     [
         l[0],
         l[1],
@@ -183,13 +183,13 @@ fn put_range(out: &mut [u8], at: usize, first: u16, last: u16) -> usize
     requires { ⌜ (at ≤ 32768) × (first ≤ last) ⌝ }
     ensures { λ r. ⌜ Lays (now (out .entry)) (now (out .exit)) at (dateCodes (Range first last)) 5 r ⌝ }
 {
-    let d = wire::le16_bytes(wide_day(first));
+    let d = number::le16_bytes(wide_day(first));
     let span = last - first;
     if span <= 255 {
         let code = [18, d[0], d[1], span as u8];
         return put(out, at, &code);
     }
-    let e = wire::le16_bytes(wide_day(last));
+    let e = number::le16_bytes(wide_day(last));
     let code = [19, d[0], d[1], e[0], e[1]];
     put(out, at, &code)
 }
@@ -204,7 +204,7 @@ fn put_date(out: &mut [u8], at: usize, date: format::Dated) -> usize
             put(out, at, &code)
         }
         format::Dated::Day { day } => {
-            let d = wire::le16_bytes(wide_day(day));
+            let d = number::le16_bytes(wide_day(day));
             let code = [17, d[0], d[1]];
             put(out, at, &code)
         }

@@ -5,6 +5,7 @@ ghost use Prim.Native.Nat.{_≤_};
 ghost use lib.ListN.{length, take};
 ghost use Rattle.converter.specs.Output.{output};
 use format::Answer;
+use listing::Told;
 
 // The output for an input, over the front of out, and its length.
 fn output_of(file: &[u8], sheet: &mut [u8], out: &mut [u8]) -> usize
@@ -12,11 +13,13 @@ fn output_of(file: &[u8], sheet: &mut [u8], out: &mut [u8]) -> usize
     ensures { λ r. ⌜ (r ≤ 16384) × (take r (now (out .exit)) ≡ output (now (file .entry)) (now (sheet .entry)) (now (out .entry))) ⌝ }
 {
     if 16384 < file.len() {
-        return listing::put_too_long(out);
+        return listing::list(Told::TooLong, &file[0..0], out);
     }
     let a = convert::convert(file, sheet, out);
     match a {
-        Answer::Refused { number, place } => listing::put_refusal(out, number, place),
+        Answer::Refused { number, place } => {
+            listing::list(Told::Refused { number, place }, &file[0..0], out)
+        }
         Answer::Done {
             bytes,
             records: _,

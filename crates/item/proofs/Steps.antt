@@ -23,11 +23,12 @@ use Rattle.label.specs.Seen.{cutOf, relabelledSeen, Tells as LabelTells}
 use Rattle.label.specs.declared.Cut.{Cut as Cutting}
 use Rattle.label.specs.declared.Cut.the-variants.{Back}
 use Rattle.label.specs.declared.Relabelled.the-variants.{TooShort, TooLong, Fits}
-use Rattle.item.specs.Seen.{itemSeen, relabelItem, dropped, Suits, Reads, seen, Short, Tells, madeOf, Does}
-use Rattle.item.specs.declared.Body.{Body}
-use Rattle.item.specs.declared.Body.the-variants.{Only, Section as SectionBody, Station as StationBody, Line as LineBody}
-use Rattle.item.specs.declared.Item.{Item as Told}
-use Rattle.item.specs.declared.Item.the-variants.{Faulty, Stop, Style, Move, NoDate, Date, Error as ErrorTold, Relabel}
+use Rattle.decode.specs.Seen.{itemSeen, relabelItem, dropped, Suits, Reads}
+use Rattle.item.specs.Seen.{seen, Short, Tells, madeOf, Does}
+use Rattle.decode.specs.declared.Body.{Body}
+use Rattle.decode.specs.declared.Body.the-variants.{Only, Section as SectionBody, Station as StationBody, Line as LineBody}
+use Rattle.decode.specs.declared.Item.{Item as Told}
+use Rattle.decode.specs.declared.Item.the-variants.{Faulty, Stop, Style, Move, NoDate, Date, Error as ErrorTold, Relabel}
 use Rattle.format.specs.Fields.{stateOf}
 use Rattle.format.specs.declared.Setting.{Setting}
 use Rattle.format.specs.declared.Fields.{Fields}

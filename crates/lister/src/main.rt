@@ -4,6 +4,7 @@ ghost use lib.ListN.{length};
 ghost use Rattle.listing.specs.Puts.{Wrote};
 ghost use Rattle.lister.specs.Text.{printed};
 use format::Answer;
+use listing::Told;
 
 // The text for an input, over the front of out where it fits; its length either way. No
 // text is longer than 262,144 bytes.
@@ -12,16 +13,18 @@ fn text_of(file: &[u8], sheet: &mut [u8], out: &mut [u8]) -> usize
     ensures { λ r. ⌜ Wrote (printed (now (file .entry)) (now (sheet .entry))) (now (out .entry)) r (now (out .exit)) × (r ≤ 262144) ⌝ }
 {
     if 16384 < file.len() {
-        return listing::put_too_long(out);
+        return listing::list(Told::TooLong, &file[0..0], out);
     }
     let a = read::read(file, sheet);
     match a {
-        Answer::Refused { number, place } => listing::put_refusal(out, number, place),
+        Answer::Refused { number, place } => {
+            listing::list(Told::Refused { number, place }, &file[0..0], out)
+        }
         Answer::Done {
             bytes,
             records: _,
             version,
-        } => listing::list_sheet(&sheet[..bytes], version, out),
+        } => listing::list(Told::Sheet { version }, &sheet[..bytes], out),
     }
 }
 

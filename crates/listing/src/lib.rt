@@ -6,11 +6,11 @@ use format::Dimensions;
 use format::Fields;
 use format::Point;
 use format::Traverse;
+use number::index;
 use sheet::Entry;
 use sheet::Front;
 use sheet::read_entry;
 use sheet::read_front;
-use wire::index;
 use wire::same_bytes;
 ghost use mathlib.Core.Path.{_≡_};
 ghost use mathlib.Core.List.{[], _∷_, _++_};
@@ -19,10 +19,19 @@ ghost use lib.ListN.{length, drop};
 ghost use Rattle.listing.specs.Text.{decimalText, signedText, hexDigit, plain, escapedByte, escaped, textOf, spaced};
 ghost use Rattle.listing.specs.Lines.{legWord, versionWord, titleWord, dateText, pointWords, dimensionWords, traverseWords, legLine, stationLine, sectionLine, errorLine, recordLine, headerLine, endLine, refusalLine, tooLongLine, restOf, sheetListing};
 ghost use Rattle.listing.specs.Puts.{Put, Wrote, lineLimit};
+ghost use Rattle.listing.specs.Told.{toldText, toldLimit};
 ghost use Rattle.format.specs.Fields.{recordOf};
 ghost use Rattle.format.specs.Sheet.{recordsOf};
 ghost use Rattle.format.specs.Label.{labelLimit};
 ghost use Rattle.format.specs.Header.{titleLimit, timeLimit};
+
+// What is to be printed: that the input is too long; a refusal; or a sheet, read from a
+// file of that version.
+pub enum Told {
+    TooLong,
+    Refused { number: u8, place: usize },
+    Sheet { version: u8 },
+}
 
 // Puts a byte at an index.
 fn put(out: &mut [u8], at: usize, b: u8) -> usize
@@ -424,7 +433,7 @@ fn sheet_lines(sheet: &[u8], version: u8, out: &mut [u8]) -> usize
 
 // Writes the listing of a sheet, read from a file of that version, over the front of out
 // where it fits, and answers its length either way.
-pub fn list_sheet(sheet: &[u8], version: u8, out: &mut [u8]) -> usize
+fn list_sheet(sheet: &[u8], version: u8, out: &mut [u8]) -> usize
     requires { ⌜ length (now sheet) < 2 ^ 55 ⌝ }
     ensures { λ r. ⌜ Wrote (sheetListing version (now (sheet .entry))) (now (out .entry)) r (now (out .exit)) × (r ≤ 4 * length (now (sheet .entry)) + 2 * lineLimit) ⌝ }
 {
@@ -437,7 +446,7 @@ pub fn list_sheet(sheet: &[u8], version: u8, out: &mut [u8]) -> usize
 
 // Writes a refusal's line over the front of out where it fits, and answers its length
 // either way. It stands alone.
-pub fn put_refusal(out: &mut [u8], refused: u8, place: usize) -> usize
+fn put_refusal(out: &mut [u8], refused: u8, place: usize) -> usize
     ensures { λ r. ⌜ Wrote (refusalLine refused place) (now (out .entry)) r (now (out .exit)) × (r ≤ lineLimit) ⌝ }
 {
     let size = refusal_line(&mut out[0..0], 0, refused, place);
@@ -448,7 +457,7 @@ pub fn put_refusal(out: &mut [u8], refused: u8, place: usize) -> usize
 }
 
 // The same for an input that is too long.
-pub fn put_too_long(out: &mut [u8]) -> usize
+fn put_too_long(out: &mut [u8]) -> usize
     ensures { λ r. ⌜ Wrote tooLongLine (now (out .entry)) r (now (out .exit)) × (r ≤ lineLimit) ⌝ }
 {
     let text = b"too long\n";
@@ -456,4 +465,16 @@ pub fn put_too_long(out: &mut [u8]) -> usize
         return 9;
     }
     word(out, 0, text)
+}
+
+// Writes the text over the front of out where it fits, and answers its length either way.
+pub fn list(told: Told, sheet: &[u8], out: &mut [u8]) -> usize
+    requires { ⌜ length (now sheet) < 2 ^ 55 ⌝ }
+    ensures { λ r. ⌜ Wrote (toldText told (now (sheet .entry))) (now (out .entry)) r (now (out .exit)) × (r ≤ toldLimit told (length (now (sheet .entry)))) ⌝ }
+{
+    match told {
+        Told::TooLong => put_too_long(out),
+        Told::Refused { number, place } => put_refusal(out, number, place),
+        Told::Sheet { version } => list_sheet(sheet, version, out),
+    }
 }

@@ -37,7 +37,7 @@ fn put_length(out: &mut [u8], at: usize, n: usize) -> usize
         let code = [n as u8];
         return put(out, at, &code);
     }
-    let b = wire::le32_bytes(n as u32);
+    let b = number::le32_bytes(n as u32);
     let code = [255, b[0], b[1], b[2], b[3]];
     put(out, at, &code)
 }

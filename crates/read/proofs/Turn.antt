@@ -300,12 +300,6 @@ module _ (file old : List ℕ) (v p e t m : ℕ) (O : Opens file v p e t m) wher
           buffer = q ∙ lay-behind (1 ∷ headerLayout h) (layoutAll (x .records)) old (x .records) front refl front-length k ∙ simp (O .due, w .0, sheet-bytes, le-ltb _ _ l);
         }
 
--- ---- the first pass is lent no byte, and so leaves the sheet as it was
-
-pub none-before : (y old : List ℕ) → length y ≡ 0 → y ++ old ≡ old
-none-before [] old h = refl
-none-before (a ∷ y) old h = absurd (omega arith)
-
 -- a refused opening
 pub read-shut : (file old : List ℕ) (k q : ℕ) → shut k q ≡ openingOf file → ReadsTo file old (AnswerRefused k q) old
 unfolding readOutcome readBuffer

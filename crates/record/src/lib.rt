@@ -147,7 +147,7 @@ fn put_word(out: &mut [u8], k: usize, n: u32)
     requires { ⌜ k + 4 ≤ length (now out) ⌝ }
     ensures { λ _. ⌜ now (out .exit) ≡ laid (now (out .entry)) k (toBe32 n) ⌝ }
 {
-    let bytes = wire::be32_bytes(n);
+    let bytes = number::be32_bytes(n);
     put_at(out, k, &bytes);
 }
 

@@ -52,9 +52,9 @@ fn point(s: &[u8]) -> format::Point
     ensures { λ r. ⌜ r ≡ pointOf be32 (now (s .entry)) ⌝ }
 {
     format::Point {
-        x: wire::get_be32(s),
-        y: wire::get_be32(&s[4..]),
-        z: wire::get_be32(&s[8..]),
+        x: number::get_be32(s),
+        y: number::get_be32(&s[4..]),
+        z: number::get_be32(&s[8..]),
     }
 }
 
@@ -64,10 +64,10 @@ fn dimensions(s: &[u8]) -> format::Dimensions
     ensures { λ r. ⌜ r ≡ dimensionsOf 4 be32 (now (s .entry)) ⌝ }
 {
     format::Dimensions {
-        left: wire::get_be32(s),
-        right: wire::get_be32(&s[4..]),
-        up: wire::get_be32(&s[8..]),
-        down: wire::get_be32(&s[12..]),
+        left: number::get_be32(s),
+        right: number::get_be32(&s[4..]),
+        up: number::get_be32(&s[8..]),
+        down: number::get_be32(&s[12..]),
     }
 }
 
@@ -77,11 +77,11 @@ fn traverse(s: &[u8]) -> format::Traverse
     ensures { λ r. ⌜ r ≡ traverseOf be32 (now (s .entry)) ⌝ }
 {
     format::Traverse {
-        legs: wire::get_be32(s),
-        total: wire::get_be32(&s[4..]),
-        e: wire::get_be32(&s[8..]),
-        h: wire::get_be32(&s[12..]),
-        v: wire::get_be32(&s[16..]),
+        legs: number::get_be32(s),
+        total: number::get_be32(&s[4..]),
+        e: number::get_be32(&s[8..]),
+        h: number::get_be32(&s[12..]),
+        v: number::get_be32(&s[16..]),
     }
 }
 
@@ -148,8 +148,8 @@ fn leg_entry(s: &[u8], n: usize) -> Entry
     if 5 < s[4] {
         return Entry::Flawed;
     }
-    let first = day_of(wire::get_be16(&s[6..]));
-    let last = day_of(wire::get_be16(&s[8..]));
+    let first = day_of(number::get_be16(&s[6..]));
+    let last = day_of(number::get_be16(&s[8..]));
     if !good_date(s[5], first, last) {
         return Entry::Flawed;
     }
@@ -225,7 +225,7 @@ fn is_framed(s: &[u8]) -> bool
     if s.len() < 3 {
         return false;
     }
-    let n = size_of(wire::get_be16(s));
+    let n = size_of(number::get_be16(s));
     1 <= n && 2 + n <= s.len()
 }
 
@@ -236,7 +236,7 @@ pub fn read_entry(s: &[u8]) -> Entry
     if !is_framed(s) {
         return Entry::Flawed;
     }
-    let n = size_of(wire::get_be16(s));
+    let n = size_of(number::get_be16(s));
     let kind = s[2];
     if kind == 1 {
         return leg_entry(s, n);
@@ -288,7 +288,7 @@ fn header(t: &[u8], n: usize) -> Front
     if 1 < extended {
         return Front::Flawed;
     }
-    let title = size_of(wire::get_be16(&t[2..]));
+    let title = size_of(number::get_be16(&t[2..]));
     let behind = 4 + title;
     if n < behind {
         return Front::Flawed;
@@ -320,7 +320,7 @@ pub fn read_front(sheet: &[u8]) -> Front
     if !is_framed(s) {
         return Front::Flawed;
     }
-    let n = size_of(wire::get_be16(s));
+    let n = size_of(number::get_be16(s));
     if n < 4 {
         return Front::Flawed;
     }

@@ -17,6 +17,13 @@ use Rattle.format.specs.Header.{lineEnd}
 use Rattle.format.specs.Writing.{common}
 use Rattle.wire.specs.Laid.{laid, laidIf}
 
+-- ---- a part of no bytes
+
+-- what a function that was lent none leaves before the rest
+pub none-before : (y old : List ℕ) → length y ≡ 0 → y ++ old ≡ old
+none-before [] old h = refl
+none-before (a ∷ y) old h = absurd (omega arith)
+
 -- ---- `copy` and `over`
 
 pub copy-step : (s d : List ℕ) (i : ℕ) → i < length s → i < length d → set (take i s ++ drop i d) i (getD s i 0) ≡ take (i + 1) s ++ drop (i + 1) d

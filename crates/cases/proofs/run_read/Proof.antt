@@ -30,18 +30,18 @@ array-share-prefix-sheet c =
     let k = R .kept .1 .0 in
     omega arith
 
-slice-aggregate-list-sheet : tie.Need-slice-aggregate-list-sheet
-slice-aggregate-list-sheet c =
+slice-aggregate-list : tie.Need-slice-aggregate-list
+slice-aggregate-list c =
     let R = c .before .before .before .before .before .read in
     let h = read-room _ _ _ _ _ (rw (c .before .before .a2 .given .1) at (R .ensures .0)) in
     let k = R .kept .1 .0 in
     sym (length-take-le _ _ (omega arith))
 
-slice-aggregate-list-sheet-2 : tie.Need-slice-aggregate-list-sheet-2
-slice-aggregate-list-sheet-2 c = search needs
+slice-aggregate-list-2 : tie.Need-slice-aggregate-list-2
+slice-aggregate-list-2 c = search needs
 
-list-sheet-requires : tie.Need-list-sheet-requires
-list-sheet-requires c κs =
+list-requires : tie.Need-list-requires
+list-requires c κs =
     let R = c .before .before .before .before .before .before .read in
     let h = read-room _ _ _ _ _ (rw (c .before .before .before .a2 .given .1) at (R .ensures .0)) in
     let k = R .kept .1 .0 in
@@ -69,9 +69,9 @@ run-read-spec =
     print-refusal-requires
     enum-known-a-2
     array-share-prefix-sheet
-    slice-aggregate-list-sheet
-    slice-aggregate-list-sheet-2
-    list-sheet-requires
+    slice-aggregate-list
+    slice-aggregate-list-2
+    list-requires
     slice-aggregate-print-line
     print-line-requires
     returns

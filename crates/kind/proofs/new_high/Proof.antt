@@ -3,7 +3,7 @@ use borrow.Author.Tests.{lt-ltb, le-ltb}
 use Rattle.format.specs.Bytes.{pick}
 use mathlib.Core.Path.{_∙_}
 use Rattle.format.specs.Items.{newHighItem, stationItem, lineItem}
-use Rattle.kind.specs.Parts.{labelledBy}
+use Rattle.kind.specs.Kinds.{labelledBy}
 use Rattle.format.specs.Items.{newPart}
 use borrow.Author.Needs.{needs}
 use Rattle.kind.proofs.new_high.Statement.{statement}

@@ -2,7 +2,7 @@
 use borrow.Author.Tests.{lt-ltb, le-ltb}
 use Rattle.format.specs.Bytes.{pick}
 use Rattle.format.specs.Items.{sectionItem}
-use Rattle.kind.specs.Parts.{labelledBy}
+use Rattle.kind.specs.Kinds.{labelledBy}
 use Rattle.kind.proofs.section.Statement.{statement}
 use Rattle.kind.proofs.section.Tie as tie
 

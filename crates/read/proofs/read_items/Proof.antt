@@ -7,7 +7,8 @@ use mathlib.Core.List.{List}
 use lib.ListN.{length, length-append}
 use Rattle.format.specs.Reading.{itemsOf}
 use Rattle.read.specs.Pass.{lay}
-use Rattle.read.proofs.Turn.{title-length, time-length, read-refused, read-small, front-fits, read-done, none-before}
+use Rattle.read.proofs.Turn.{title-length, time-length, read-refused, read-small, front-fits, read-done}
+use Rattle.wire.proofs.Laws.{none-before}
 use Rattle.read.proofs.read_items.Statement.{statement}
 use Rattle.read.proofs.read_items.Tie as tie
 

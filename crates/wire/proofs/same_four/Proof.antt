@@ -7,17 +7,17 @@ use Rattle.wire.proofs.Laws.{four-same, four-other}
 use Rattle.wire.proofs.same_four.Statement.{statement}
 use Rattle.wire.proofs.same_four.Tie as tie
 
-word-requires : tie.Need-word-requires
-word-requires c κs = search needs
+get-le32-requires : tie.Need-get-le32-requires
+get-le32-requires c κs = search needs
 
-word-requires-2 : tie.Need-word-requires-2
-word-requires-2 c κs = search needs
+get-le32-requires-2 : tie.Need-get-le32-requires-2
+get-le32-requires-2 c κs = search needs
 
 returns : tie.Need-returns
 returns c =
     let x = c .before .before .before .before .before .args in
-    let e = c .before .before .word .ensures .0 in
-    four-other (x .a .now) (x .b .now) (omega arith) (omega arith) (λ q. c .if1 .taken (e ∙ q ∙ sym (c .before .word2 .ensures .0)))
+    let e = c .before .before .get-le32 .ensures .0 in
+    four-other (x .a .now) (x .b .now) (omega arith) (omega arith) (λ q. c .if1 .taken (e ∙ q ∙ sym (c .before .get-le322 .ensures .0)))
 
 returns-2 : tie.Need-returns-2
 unfolding le32
@@ -26,4 +26,4 @@ returns-2 c =
     four-same (x .a .now) (x .b .now) (omega arith) (omega arith) (omega arith) (omega arith) (omega arith) (omega arith)
 
 pub same-four-spec : {M : Type 1} → statement M
-same-four-spec = tie.close (tie.spec word-requires word-requires-2 returns returns-2)
+same-four-spec = tie.close (tie.spec get-le32-requires get-le32-requires-2 returns returns-2)

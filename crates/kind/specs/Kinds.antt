@@ -1,0 +1,58 @@
+-- What the code's enums say of kinds of items. Assumes nothing.
+use Prim.Native.Nat.{ℕ}
+use mathlib.Core.Path.{_≡_}
+use mathlib.Core.List.{List}
+use mathlib.Core.Bool.{Bool}
+use lib.ListN.{drop}
+use Rattle.format.specs.Bytes.{pick, le16, le32, widened}
+use Rattle.format.specs.Items.{Item, Stop as stopItem, Shorten as shortenItem, Style as styleItem, NoDate as noDateItem, Xsect, Station as stationPlaced, Line as linePlaced, Decoded, whole, reserved, Part, part, labelledItem, pointOf, dimensionsOf, moveItem, errorItem, dayItem, spanItem, daysItem, secondsItem, twoSecondsItem}
+use Rattle.label.specs.Seen.{cutOf}
+use Rattle.kind.specs.declared.Tail.{Tail}
+use Rattle.kind.specs.declared.Tail.the-variants.{Short, Long, Station, Line}
+use Rattle.kind.specs.declared.Kind.{Kind}
+use Rattle.kind.specs.declared.Kind.the-variants.{Reserved, Stop, Shorten, Style, Move, NoDate, Day, Span, Days, Seconds, TwoSeconds, Error, Labelled}
+
+-- ---- what follows the label
+
+-- how many bytes
+abbrev pub tailOf : Tail → ℕ
+tailOf (Short last) = 8
+tailOf (Long last) = 16
+tailOf (Station flags) = 12
+tailOf (Line flags) = 12
+
+-- the item, of D, the bytes to append and what follows them
+abbrev pub makeOf : Tail → ℕ → List ℕ → List ℕ → Item
+makeOf (Short last) d added rest = Xsect last (dimensionsOf 2 (λ s. widened (le16 s)) rest) d added
+makeOf (Long last) d added rest = Xsect last (dimensionsOf 4 le32 rest) d added
+makeOf (Station flags) d added rest = stationPlaced flags (pointOf le32 rest) d added
+makeOf (Line flags) d added rest = linePlaced flags (pointOf le32 rest) d added
+
+-- ---- kinds
+
+-- an item with a label, after its code; a bare one has no label part
+unfoldable pub labelledBy : Bool → Tail → (List ℕ → Part) → List ℕ → Decoded
+labelledBy bare tail p t = labelledItem (pick bare (part 0 0 0) (p t)) t (tailOf tail) (makeOf tail)
+
+-- the item at the front of s, where its code is of the kind, and p reads a label part
+abbrev pub kindItem : Kind → (List ℕ → Part) → List ℕ → Decoded
+kindItem Reserved p s = reserved
+kindItem Stop p s = whole 1 stopItem
+kindItem (Shorten cut) p s = whole 1 (shortenItem (cutOf cut))
+kindItem (Style style) p s = whole 1 (styleItem style)
+kindItem Move p s = moveItem s
+kindItem NoDate p s = whole 1 noDateItem
+kindItem Day p s = dayItem s
+kindItem Span p s = spanItem s
+kindItem Days p s = daysItem s
+kindItem Seconds p s = secondsItem s
+kindItem TwoSeconds p s = twoSecondsItem s
+kindItem Error p s = errorItem s
+kindItem (Labelled bare tail) p s = labelledBy bare tail p (drop 1 s)
+
+-- a kind says what f does of every s, where p reads a label part; and so for every p
+abbrev pub SaysBy : (List ℕ → Part) → Kind → (List ℕ → Decoded) → Type 0
+SaysBy p k f = (s : List ℕ) → kindItem k p s ≡ f s
+
+abbrev pub Says : Kind → ((List ℕ → Part) → List ℕ → Decoded) → Type 0
+Says k f = (p : List ℕ → Part) → SaysBy p k (f p)
