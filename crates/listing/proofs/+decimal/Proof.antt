@@ -9,6 +9,7 @@ use borrow.Fn.PlainCycle.{Measures, is, falls, and}
 use Rattle.listing.proofs.decimal.Reads as decimal
 use Rattle.listing.proofs.decimal.Kinds as decimal-kinds
 use Rattle.listing.proofs.+decimal.Lts-decimal as decimal-lts
+use Rattle.listing.proofs.put.Reads as put-reads
 use Rattle.listing.proofs.+decimal.{statement}
 use Rattle.listing.proofs.+decimal.Tie.{close}
 
