@@ -3,8 +3,8 @@ use borrow.Author.Needs.{needs}
 use Rattle.write.proofs.hand_after.Statement.{statement}
 use Rattle.write.proofs.hand_after.Tie as tie
 
-setting-after-requires : tie.Need-setting-after-requires
-setting-after-requires c κs = search needs
+enum-known-fields : tie.Need-enum-known-fields
+enum-known-fields c = search needs
 
 enum-told : tie.Need-enum-told
 enum-told c = search needs
@@ -15,17 +15,14 @@ enum-told-2 c = search needs
 enum-told-3 : tie.Need-enum-told-3
 enum-told-3 c = search needs
 
-enum-told-4 : tie.Need-enum-told-4
-enum-told-4 c = search needs
-
 returns : tie.Need-returns
-returns c = rw (c .before .before .setting-after .ensures, c .enum-told .given .1)
+returns c = rw (c .before .fields .given .1)
 
 returns-2 : tie.Need-returns-2
-returns-2 c = rw (c .before .before .setting-after .ensures, c .enum-told2 .given .1)
+returns-2 c = rw (c .before .enum-told .given .1)
 
 returns-3 : tie.Need-returns-3
-returns-3 c = rw (c .before .before .setting-after .ensures, c .enum-told3 .given .1)
+returns-3 c = rw (c .before .enum-told2 .given .1)
 
 returns-4 : tie.Need-returns-4
 returns-4 c = search needs
@@ -34,11 +31,10 @@ pub hand-after-spec : {M : Type 1} → statement M
 hand-after-spec =
     tie.close
     (tie.spec
-    setting-after-requires
+    enum-known-fields
     enum-told
     enum-told-2
     enum-told-3
-    enum-told-4
     returns
     returns-2
     returns-3

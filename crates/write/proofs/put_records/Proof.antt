@@ -3,16 +3,15 @@ use borrow.Author.Needs.{needs}
 use native.Mathlib.Omega.{arith}
 use Prim.Native.Nat.{_-_}
 use lib.ListN.{length}
-use Rattle.tally.proofs.Left.{rest-refused, left-end}
-use Rattle.write.proofs.Turn.{Going, named-short, going-none, going-end, going-fits, going-flawed, whole-formed, whole-size, going-more}
+use Rattle.write.proofs.Turn.{Going, named-short, going-none, going-end, going-flawed, whole-formed, whole-size, going-more, rest-refused, left-end}
 use Rattle.write.proofs.put_records.Statement.{statement}
 use Rattle.write.proofs.put_records.Tie as tie
 
 abbrev Inv-loop : tie.InvT-loop
-Inv-loop sheet begin out₀ head at₀ hand₀ count₀ out at hand count = Going sheet begin head out₀ out at count hand
+Inv-loop sheet begin out₀ head at₀ total₀ number₀ fault₀ hand₀ out at total number fault hand = Going sheet begin head out₀ out at total number fault hand
 
 abbrev μ-loop : tie.MeasureT-loop
-μ-loop sheet begin out₀ head at₀ hand₀ count₀ out at hand count = length sheet - at
+μ-loop sheet begin out₀ head at₀ total₀ number₀ fault₀ hand₀ out at total number fault hand = length sheet - at
 
 fresh-requires : tie.Need-fresh-requires Inv-loop μ-loop
 fresh-requires c κs = search needs
@@ -46,86 +45,108 @@ returns : tie.Need-returns Inv-loop μ-loop
 returns c =
     let l = c .before .before .before .before .before in
     let T = rw (c .enum-told .given .1) at (c .before .before .read-entry .ensures) in
-    rest-refused _ _ _ _ (l .loop .inv .kept) 12 _ (going-flawed _ _ _ _ _ _ _ _ (l .loop .inv) (c .before .before .before .before .loop-test .taken) T)
+    rest-refused _ _ _ _ (l .loop .inv .kept) 12 _ (going-flawed _ _ _ _ _ _ _ _ _ _ (l .loop .inv) (c .before .before .before .before .loop-test .taken) T)
 
 add-name : tie.Need-add-name Inv-loop μ-loop
 add-name c =
     let l = c .before .before .before .before .before .before in
     let T = rw (c .before .entry .given .1) at (c .before .before .before .read-entry .ensures) in
-    let w = whole-size _ _ _ _ _ _ _ _ (l .loop .inv) (c .before .before .before .before .before .loop-test .taken) _ _ _ T in
+    let w = whole-size _ _ _ _ _ _ _ _ _ _ (l .loop .inv) (c .before .before .before .before .before .loop-test .taken) _ _ _ T in
     omega (arith, w, T .inside .from-within)
 
 add-end : tie.Need-add-end Inv-loop μ-loop
 add-end c =
     let l = c .before .before .before .before .before .before in
     let T = rw (c .before .entry .given .1) at (c .before .before .before .read-entry .ensures) in
-    let w = whole-size _ _ _ _ _ _ _ _ (l .loop .inv) (c .before .before .before .before .before .loop-test .taken) _ _ _ T in
+    let w = whole-size _ _ _ _ _ _ _ _ _ _ (l .loop .inv) (c .before .before .before .before .before .loop-test .taken) _ _ _ T in
     omega (arith, w, T .inside .from-within)
 
-sub-put-next : tie.Need-sub-put-next Inv-loop μ-loop
-sub-put-next c =
-    let N = c .before .before .before .before .before .before .before .loop .inv .named in
+within-requires : tie.Need-within-requires Inv-loop μ-loop
+within-requires c κs = search needs
+
+sub-put-record : tie.Need-sub-put-record Inv-loop μ-loop
+sub-put-record c = omega (arith, c .within .ensures .0)
+
+part-put-record-start : tie.Need-part-put-record-start Inv-loop μ-loop
+part-put-record-start c = omega (arith, c .within .ensures .0)
+
+part-put-record-end : tie.Need-part-put-record-end Inv-loop μ-loop
+part-put-record-end c = omega (arith, c .within .ensures .0)
+
+sub-put-record-2 : tie.Need-sub-put-record-2 Inv-loop μ-loop
+sub-put-record-2 c =
+    let N = c .before .before .before .before .before .before .before .before .before .loop .inv .named in
     omega (arith, N .ordered, N .inside)
 
-part-put-next-start : tie.Need-part-put-next-start Inv-loop μ-loop
-part-put-next-start c =
-    let N = c .before .before .before .before .before .before .before .loop .inv .named in
+part-put-record-start-2 : tie.Need-part-put-record-start-2 Inv-loop μ-loop
+part-put-record-start-2 c =
+    let N = c .before .before .before .before .before .before .before .before .before .loop .inv .named in
     omega (arith, N .ordered, N .inside)
 
-part-put-next-end : tie.Need-part-put-next-end Inv-loop μ-loop
-part-put-next-end c =
-    let N = c .before .before .before .before .before .before .before .loop .inv .named in
+part-put-record-end-2 : tie.Need-part-put-record-end-2 Inv-loop μ-loop
+part-put-record-end-2 c =
+    let N = c .before .before .before .before .before .before .before .before .before .loop .inv .named in
     omega (arith, N .ordered, N .inside)
 
-sub-put-next-2 : tie.Need-sub-put-next-2 Inv-loop μ-loop
-sub-put-next-2 c =
-    let l = c .before .before .before .before .before .before .before .before in
-    let T = rw (c .before .before .before .entry .given .1) at (c .before .before .before .before .before .read-entry .ensures) in
-    let w = whole-size _ _ _ _ _ _ _ _ (l .loop .inv) (c .before .before .before .before .before .before .before .loop-test .taken) _ _ _ T in
+sub-put-record-3 : tie.Need-sub-put-record-3 Inv-loop μ-loop
+sub-put-record-3 c =
+    let l = c .before .before .before .before .before .before .before .before .before .before in
+    let T = rw (c .before .before .before .before .before .entry .given .1) at (c .before .before .before .before .before .before .before .read-entry .ensures) in
+    let w = whole-size _ _ _ _ _ _ _ _ _ _ (l .loop .inv) (c .before .before .before .before .before .before .before .before .before .loop-test .taken) _ _ _ T in
     omega (arith, w, T .inside .from-within)
 
-part-put-next-start-2 : tie.Need-part-put-next-start-2 Inv-loop μ-loop
-part-put-next-start-2 c =
-    let l = c .before .before .before .before .before .before .before .before in
-    let T = rw (c .before .before .before .entry .given .1) at (c .before .before .before .before .before .read-entry .ensures) in
-    let w = whole-size _ _ _ _ _ _ _ _ (l .loop .inv) (c .before .before .before .before .before .before .before .loop-test .taken) _ _ _ T in
+part-put-record-start-3 : tie.Need-part-put-record-start-3 Inv-loop μ-loop
+part-put-record-start-3 c =
+    let l = c .before .before .before .before .before .before .before .before .before .before in
+    let T = rw (c .before .before .before .before .before .entry .given .1) at (c .before .before .before .before .before .before .before .read-entry .ensures) in
+    let w = whole-size _ _ _ _ _ _ _ _ _ _ (l .loop .inv) (c .before .before .before .before .before .before .before .before .before .loop-test .taken) _ _ _ T in
     omega (arith, w, T .inside .from-within)
 
-part-put-next-end-2 : tie.Need-part-put-next-end-2 Inv-loop μ-loop
-part-put-next-end-2 c =
-    let l = c .before .before .before .before .before .before .before .before in
-    let T = rw (c .before .before .before .entry .given .1) at (c .before .before .before .before .before .read-entry .ensures) in
-    let w = whole-size _ _ _ _ _ _ _ _ (l .loop .inv) (c .before .before .before .before .before .before .before .loop-test .taken) _ _ _ T in
+part-put-record-end-3 : tie.Need-part-put-record-end-3 Inv-loop μ-loop
+part-put-record-end-3 c =
+    let l = c .before .before .before .before .before .before .before .before .before .before in
+    let T = rw (c .before .before .before .before .before .entry .given .1) at (c .before .before .before .before .before .before .before .read-entry .ensures) in
+    let w = whole-size _ _ _ _ _ _ _ _ _ _ (l .loop .inv) (c .before .before .before .before .before .before .before .before .before .loop-test .taken) _ _ _ T in
     omega (arith, w, T .inside .from-within)
 
-put-next-requires : tie.Need-put-next-requires Inv-loop μ-loop
-put-next-requires c κs =
-    let l = c .before .before .before .before .before .before .before .before .before in
-    let T = rw (c .before .before .before .before .entry .given .1) at (c .before .before .before .before .before .before .read-entry .ensures) in
-    let m = c .before .before .before .before .before .before .before .before .before .before .before .before .before .good in
-    (going-fits _ _ _ _ _ _ _ _ (l .loop .inv) (omega (arith, m)), named-short _ _ (l .loop .inv .named), whole-formed _ _ _ _ _ _ _ _ (l .loop .inv) (c .before .before .before .before .before .before .before .before .loop-test .taken) _ _ _ T)
+put-record-requires : tie.Need-put-record-requires Inv-loop μ-loop
+put-record-requires c κs =
+    let l = c .before .before .before .before .before .before .before .before .before .before .before in
+    let T = rw (c .before .before .before .before .before .before .entry .given .1) at (c .before .before .before .before .before .before .before .before .read-entry .ensures) in
+    (named-short _ _ (l .loop .inv .named), whole-formed _ _ _ _ _ _ _ _ _ _ (l .loop .inv) (c .before .before .before .before .before .before .before .before .before .before .loop-test .taken) _ _ _ T)
+
+more-requires : tie.Need-more-requires Inv-loop μ-loop
+more-requires c κs =
+    (omega (arith, c .before .before .before .before .before .before .before .before .before .before .before .before .before .before .loop .inv .few), c .before .before .put-record .ensures .most)
+
+first-fault-requires : tie.Need-first-fault-requires Inv-loop μ-loop
+first-fault-requires c κs =
+    omega (arith, c .before .before .before .before .before .before .before .before .before .before .before .before .before .before .before .loop .inv .counted, c .before .before .before .before .before .before .before .before .before .before .before .before .before .before .before .loop .inv .inside)
 
 hand-after-requires : tie.Need-hand-after-requires Inv-loop μ-loop
 hand-after-requires c κs = search needs
 
+add-number : tie.Need-add-number Inv-loop μ-loop
+add-number c =
+    omega (arith, c .before .before .before .before .before .before .before .before .before .before .before .before .before .before .before .before .before .loop .inv .counted, c .before .before .before .before .before .before .before .before .before .before .before .before .before .before .before .before .loop-test .taken, c .before .before .before .before .before .before .before .before .before .before .before .before .before .before .before .before .before .before .before .before .before .good)
+
 loop-less : tie.Need-loop-less Inv-loop μ-loop
 loop-less c =
-    let l = c .before .before .before .before .before .before .before .before .before .before .before .before .before in
-    let T = rw (c .before .before .before .before .before .before .before .before .entry .given .1) at (c .before .before .before .before .before .before .before .before .before .before .read-entry .ensures) in
-    let w = whole-size _ _ _ _ _ _ _ _ (l .loop .inv) (c .before .before .before .before .before .before .before .before .before .before .before .before .loop-test .taken) _ _ _ T in
+    let l = c .before .before .before .before .before .before .before .before .before .before .before .before .before .before .before .before .before in
+    let T = rw (c .before .before .before .before .before .before .before .before .before .before .before .before .entry .given .1) at (c .before .before .before .before .before .before .before .before .before .before .before .before .before .before .read-entry .ensures) in
+    let w = whole-size _ _ _ _ _ _ _ _ _ _ (l .loop .inv) (c .before .before .before .before .before .before .before .before .before .before .before .before .before .before .before .before .loop-test .taken) _ _ _ T in
     omega (arith, w)
 
 loop-again : tie.Need-loop-again Inv-loop μ-loop
 loop-again c =
-    let l = c .before .before .before .before .before .before .before .before .before .before .before .before .before in
-    let T = rw (c .before .before .before .before .before .before .before .before .entry .given .1) at (c .before .before .before .before .before .before .before .before .before .before .read-entry .ensures) in
-    rw (c .hand-after .ensures)
-    (going-more _ _ _ _ _ _ _ _ (l .loop .inv) (c .before .before .before .before .before .before .before .before .before .before .before .before .loop-test .taken) _ _ _ T _ _ (c .before .before .before .put-next .ensures))
+    let l = c .before .before .before .before .before .before .before .before .before .before .before .before .before .before .before .before .before in
+    let T = rw (c .before .before .before .before .before .before .before .before .before .before .before .before .entry .given .1) at (c .before .before .before .before .before .before .before .before .before .before .before .before .before .before .read-entry .ensures) in
+    let W = c .before .before .before .before .before .before .before .before .before .within .ensures in
+    rw (c .hand-after .ensures, c .before .before .more .ensures)
+    (going-more _ _ _ _ _ _ _ _ _ _ (l .loop .inv) (c .before .before .before .before .before .before .before .before .before .before .before .before .before .before .before .before .loop-test .taken) _ _ _ T _ _ _ _ (W .0) (W .1) (c .before .before .before .before .before .put-record .ensures) (c .before .first-fault .ensures))
 
 finish-requires : tie.Need-finish-requires Inv-loop μ-loop
-finish-requires c κs =
-    let l = c .before .before .before in
-    going-fits _ _ _ _ _ _ _ _ (l .loop .inv) (omega (arith, c .before .before .before .before .before .before .before .good))
+finish-requires c κs = c .before .before .before .loop .inv .few
 
 same-length-2 : tie.Need-same-length-2 Inv-loop μ-loop
 same-length-2 c = search needs
@@ -133,8 +154,8 @@ same-length-2 c = search needs
 returns-2 : tie.Need-returns-2 Inv-loop μ-loop
 returns-2 c =
     let l = c .before .before .before .before .before .before in
-    let L = going-end _ _ _ _ _ _ _ _ (l .loop .inv) (c .before .before .before .before .before .loop-test .left) in
-    left-end _ _ _ _ _ _ _ _ (l .loop .inv .kept) L (c .before .before .finish .ensures)
+    let L = going-end _ _ _ _ _ _ _ _ _ _ (l .loop .inv) (c .before .before .before .before .before .loop-test .left) in
+    left-end _ _ _ _ _ _ _ _ _ _ (l .loop .inv .kept) L (c .before .before .finish .ensures)
 
 pub put-records-spec : {M : Type 1} → statement M
 put-records-spec =
@@ -154,14 +175,21 @@ put-records-spec =
     returns
     add-name
     add-end
-    sub-put-next
-    part-put-next-start
-    part-put-next-end
-    sub-put-next-2
-    part-put-next-start-2
-    part-put-next-end-2
-    put-next-requires
+    within-requires
+    sub-put-record
+    part-put-record-start
+    part-put-record-end
+    sub-put-record-2
+    part-put-record-start-2
+    part-put-record-end-2
+    sub-put-record-3
+    part-put-record-start-3
+    part-put-record-end-3
+    put-record-requires
+    more-requires
+    first-fault-requires
     hand-after-requires
+    add-number
     loop-less
     loop-again
     finish-requires

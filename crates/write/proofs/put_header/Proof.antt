@@ -1,11 +1,11 @@
--- `ends::put_header` meets its contract. Assumes nothing.
+-- `write::put_header` meets its contract. Assumes nothing.
 use native.Mathlib.Omega.{arith}
 use Rattle.format.specs.Header.{magic}
 use Rattle.format.specs.Writing.{headerCodes}
 use Rattle.part.proofs.Laying.{lays-within, lays-then, puts-front}
 use borrow.Author.Needs.{needs}
-use Rattle.ends.proofs.put_header.Statement.{statement}
-use Rattle.ends.proofs.put_header.Tie as tie
+use Rattle.write.proofs.put_header.Statement.{statement}
+use Rattle.write.proofs.put_header.Tie as tie
 
 slice-aggregate-put : tie.Need-slice-aggregate-put
 slice-aggregate-put c = search needs

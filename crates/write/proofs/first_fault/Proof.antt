@@ -1,11 +1,11 @@
--- `tally::first_fault` meets its contract. Assumes nothing.
+-- `write::first_fault` meets its contract. Assumes nothing.
 use mathlib.Core.Path.{_∙_}
-use Rattle.tally.proofs.Faults.{fault-stays, fault-here}
+use Rattle.write.proofs.Faults.{fault-stays, fault-here}
 use borrow.Author.Tests.{eq-eqb, ne-eqb}
 use Rattle.format.specs.Bytes.{pick}
 use borrow.Author.Needs.{needs}
-use Rattle.tally.proofs.first_fault.Statement.{statement}
-use Rattle.tally.proofs.first_fault.Tie as tie
+use Rattle.write.proofs.first_fault.Statement.{statement}
+use Rattle.write.proofs.first_fault.Tie as tie
 
 returns : tie.Need-returns
 returns c = fault-stays (c .before .args .fault) _ (c .if1 .taken)

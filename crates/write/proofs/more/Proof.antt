@@ -1,10 +1,10 @@
--- `tally::more` meets its contract. Assumes nothing.
+-- `write::more` meets its contract. Assumes nothing.
 use borrow.Author.Tests.{lt-ltb, le-ltb}
 use Rattle.format.specs.Bytes.{pick}
-use Rattle.tally.specs.Tallies.{bounded}
+use Rattle.write.specs.Passing.{bounded}
 use borrow.Author.Needs.{needs}
-use Rattle.tally.proofs.more.Statement.{statement}
-use Rattle.tally.proofs.more.Tie as tie
+use Rattle.write.proofs.more.Statement.{statement}
+use Rattle.write.proofs.more.Tie as tie
 
 returns : tie.Need-returns
 unfolding bounded pick

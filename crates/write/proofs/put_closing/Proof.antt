@@ -1,12 +1,12 @@
--- `ends::put_closing` meets its contract. Assumes nothing.
+-- `write::put_closing` meets its contract. Assumes nothing.
 use native.Mathlib.Omega.{arith}
 use mathlib.Core.Path.{sym}
 use borrow.Author.Tests.{eq-eqb, ne-eqb}
 use Rattle.format.proofs.Basics.{pick-true, pick-false}
 use Rattle.part.proofs.Laying.{lays-as, lays-within, puts-front}
 use borrow.Author.Needs.{needs}
-use Rattle.ends.proofs.put_closing.Statement.{statement}
-use Rattle.ends.proofs.put_closing.Tie as tie
+use Rattle.write.proofs.put_closing.Statement.{statement}
+use Rattle.write.proofs.put_closing.Tie as tie
 
 slice-aggregate-put : tie.Need-slice-aggregate-put
 slice-aggregate-put c = search needs

@@ -3,7 +3,7 @@ use Prim.Native.Nat.{ℕ, zero, suc, _+_}
 use mathlib.Core.Path.{_≡_, refl}
 use native.Mathlib.Numerals.{add-one}
 use Rattle.format.specs.Sheet.{Verdict, refusal, orElse}
-use Rattle.tally.specs.Tallies.{faultOf}
+use Rattle.write.specs.Passing.{faultOf}
 
 pub fault-stays : (f : ℕ) (v : Verdict) → (f ≡ 0 → ⊥) → faultOf f ≡ orElse (faultOf f) v
 fault-stays zero v h = absurd (h refl)
