@@ -4,9 +4,11 @@ use mathlib.Core.Path.{_≡_}
 use mathlib.Core.List.{List}
 use mathlib.Core.Bool.{Bool}
 use lib.ListN.{drop}
+use lib.Dec.{ltb}
 use Rattle.format.specs.Bytes.{pick, le16, le32, widened}
-use Rattle.format.specs.Items.{Item, Stop as stopItem, Shorten as shortenItem, Style as styleItem, NoDate as noDateItem, Xsect, Station as stationPlaced, Line as linePlaced, Decoded, whole, reserved, Part, part, labelledItem, pointOf, dimensionsOf, moveItem, errorItem, dayItem, spanItem, daysItem, secondsItem, twoSecondsItem}
+use Rattle.format.specs.Items.{Item, Stop as stopItem, Shorten as shortenItem, Style as styleItem, NoDate as noDateItem, Xsect, Station as stationPlaced, Line as linePlaced, Decoded, whole, reserved, Part, part, labelledItem, pointOf, dimensionsOf, moveItem, errorItem, dayItem, spanItem, daysItem, secondsItem, twoSecondsItem, newLowItem, newHighItem}
 use Rattle.label.specs.Seen.{cutOf}
+use Rattle.length.specs.Parts.{finished}
 use Rattle.kind.specs.declared.Tail.{Tail}
 use Rattle.kind.specs.declared.Tail.the-variants.{Short, Long, Station, Line}
 use Rattle.kind.specs.declared.Kind.{Kind}
@@ -34,6 +36,10 @@ makeOf (Line flags) d added rest = linePlaced flags (pointOf le32 rest) d added
 unfoldable pub labelledBy : Bool → Tail → (List ℕ → Part) → List ℕ → Decoded
 labelledBy bare tail p t = labelledItem (pick bare (part 0 0 0) (p t)) t (tailOf tail) (makeOf tail)
 
+-- the label part of an item at the front of s, where it is finished and the rest of the item is there
+abbrev pub partThere : Bool → Tail → (List ℕ → Part) → List ℕ → Part
+partThere bare tail p s = finished (pick bare (part 0 0 0) (p (drop 1 s))) (drop 1 s) (tailOf tail)
+
 -- the item at the front of s, where its code is of the kind, and p reads a label part
 abbrev pub kindItem : Kind → (List ℕ → Part) → List ℕ → Decoded
 kindItem Reserved p s = reserved
@@ -56,3 +62,25 @@ SaysBy p k f = (s : List ℕ) → kindItem k p s ≡ f s
 
 abbrev pub Says : Kind → ((List ℕ → Part) → List ℕ → Decoded) → Type 0
 Says k f = (p : List ℕ → Part) → SaysBy p k (f p)
+
+-- ---- v8
+
+-- a kind that v8 has
+abbrev pub Newer : Kind → Type 0
+Newer Reserved = Unit
+Newer Stop = ⊥
+Newer (Shorten cut) = ⊥
+Newer (Style style) = Unit
+Newer Move = Unit
+Newer NoDate = Unit
+Newer Day = Unit
+Newer Span = Unit
+Newer Days = Unit
+Newer Seconds = ⊥
+Newer TwoSeconds = ⊥
+Newer Error = Unit
+Newer (Labelled bare tail) = Unit
+
+-- the item of a code in v8, at the front of s
+unfoldable pub newItem : ℕ → List ℕ → Decoded
+newItem code s = pick (ltb code 48) (newLowItem code s) (newHighItem code (drop 1 s))

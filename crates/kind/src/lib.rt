@@ -7,7 +7,7 @@ ghost use Prim.Native.Nat.{ℕ, _≤_};
 ghost use lib.ListN.{length, drop, getD};
 ghost use Rattle.format.specs.Items.{sectionItem, oldPart, newPart, oldDateItem, v7DateItem, oldMiddleItem, oldLowItem, oldHighItem, newDateItem, newLowItem, newHighItem, itemOf};
 ghost use Rattle.length.specs.Parts.{partAt};
-ghost use Rattle.kind.specs.Kinds.{tailOf, kindItem, SaysBy, Says};
+ghost use Rattle.kind.specs.Kinds.{tailOf, kindItem, SaysBy, Says, Newer, newItem};
 
 // What follows a label part: i16 or i32 dimensions, or a place.
 pub enum Tail {
@@ -111,7 +111,7 @@ fn old_middle(version: u8, code: u8) -> Kind
 
 // 30-33
 fn section(code: u8) -> Kind
-    ensures { λ r. ⌜ Says r (λ p s. sectionItem code (p (drop 1 s)) (drop 1 s)) ⌝ }
+    ensures { λ r. ⌜ Says r (λ p s. sectionItem code (p (drop 1 s)) (drop 1 s)) × Newer r ⌝ }
 {
     let last = code % 2;
     if code < 50 {
@@ -159,7 +159,7 @@ fn old_high(version: u8, code: u8) -> Kind
 
 // v8, 10-13
 fn new_date(code: u8) -> Kind
-    ensures { λ r. ⌜ Says r (λ p s. newDateItem code s) ⌝ }
+    ensures { λ r. ⌜ Says r (λ p s. newDateItem code s) × Newer r ⌝ }
 {
     if code == 16 {
         return Kind::NoDate;
@@ -175,7 +175,7 @@ fn new_date(code: u8) -> Kind
 
 // v8, 00-2f
 fn new_low(code: u8) -> Kind
-    ensures { λ r. ⌜ Says r (λ p s. newLowItem code s) ⌝ }
+    ensures { λ r. ⌜ Says r (λ p s. newLowItem code s) × Newer r ⌝ }
 {
     if code < 5 {
         return Kind::Style { style: code };
@@ -197,7 +197,7 @@ fn new_low(code: u8) -> Kind
 
 // v8, 30-ff
 fn new_high(code: u8) -> Kind
-    ensures { λ r. ⌜ SaysBy newPart r (λ s. newHighItem code (drop 1 s)) ⌝ }
+    ensures { λ r. ⌜ SaysBy newPart r (λ s. newHighItem code (drop 1 s)) × Newer r ⌝ }
 {
     if code < 52 {
         return section(code);
@@ -229,6 +229,16 @@ fn new_high(code: u8) -> Kind
     }
 }
 
+// What a code says in v8.
+pub fn new_kind(code: u8) -> Kind
+    ensures { λ r. ⌜ SaysBy newPart r (newItem code) × Newer r ⌝ }
+{
+    if code < 48 {
+        return new_low(code);
+    }
+    new_high(code)
+}
+
 // What a code says in a version.
 pub fn kind_of(version: u8, code: u8) -> Kind
     ensures { λ r. ⌜ ((s : List ℕ) → 1 ≤ length s → getD s 0 0 ≡ code → kindItem r (partAt version) s ≡ itemOf version s) ⌝ }
@@ -242,10 +252,7 @@ pub fn kind_of(version: u8, code: u8) -> Kind
         }
         return old_high(version, code);
     }
-    if code < 48 {
-        return new_low(code);
-    }
-    new_high(code)
+    new_kind(code)
 }
 
 // ---- what follows a label

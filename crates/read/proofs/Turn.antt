@@ -1,18 +1,18 @@
 -- A turn of a pass's loop, and the two passes together, on plain values. Assumes nothing.
-use mathlib.Core.Path.{_≡_, refl, sym, ap, _∙_, subst}
+use mathlib.Core.Path.{_≡_, refl, sym, ap, _∙_}
 use mathlib.Core.List.{List, [], _∷_, _++_}
 use Prim.Native.Nat.{ℕ, _+_, _-_, _*_, _≤_, _<_}
-use native.Mathlib.Nat.{zero-add, add-zero, add-assoc}
+use native.Mathlib.Nat.{zero-add}
 use native.Mathlib.Omega.{arith}
 use lib.ListN.{length, take, drop, length-drop, length-append}
 use lib.Seq.{drop-drop, length-take-le}
 use borrow.Rule.Slice.PartAt.{part-to-end}
 use borrow.Author.Tests.{lt-ltb, le-ltb, ltb-false}
 use Rattle.format.specs.Bytes.{pick, over}
-use Rattle.format.specs.Header.{Header, Opening, shut, opened, openingOf, fileLimit}
-use Rattle.format.specs.State.{State, start, Record, Next, bad, end, on, made}
-use Rattle.format.specs.Sheet.{Verdict, good, refusal, Result, stop, also, layout, layoutAll, headerLayout, sheetOf}
-use Rattle.format.specs.Reading.{next, ended, afterItem, run, itemsOf, Outcome, accepted, refused, outcomeOf, bufferOf, readFrom, sheetFrom, readOutcome, readBuffer}
+use Rattle.format.specs.Header.{Header, shut, openingOf}
+use Rattle.format.specs.State.{State, start, Record, Next}
+use Rattle.format.specs.Sheet.{Verdict, good, refusal, Result, layout, layoutAll, headerLayout, sheetOf}
+use Rattle.format.specs.Reading.{next, ended, afterItem, run, itemsOf, readOutcome, readBuffer}
 use Rattle.format.specs.Fields.{recordOf, stateOf}
 use Rattle.format.specs.declared.Fields.{Fields}
 use Rattle.format.proofs.Basics.{pick-case}
@@ -21,7 +21,7 @@ use Rattle.format.proofs.ReadingLaws.{SizedNext, next-sized, run-eq}
 use Rattle.wire.specs.Laid.{laid, laidIf}
 use Rattle.wire.proofs.Laws.{length-over, laid-nil, laid-zero, laid-next, length-laid, laid-some}
 use Rattle.label.specs.declared.Label.{Label}
-use Rattle.item.specs.Seen.{seen, Short, Tells}
+use Rattle.item.specs.Seen.{seen, Tells}
 use Rattle.format.specs.declared.Setting.{Setting}
 use Rattle.item.specs.declared.Step.{Step}
 use Rattle.item.specs.declared.Step.the-variants.{Bad, End, On, Made}
@@ -30,25 +30,13 @@ use types.Run.{OneOf, miss}
 use denote.Enum.Declared.{tagOf}
 use Rattle.record.specs.Size.{recordSize}
 use Rattle.record.proofs.Laws.{size-is}
-use Rattle.read.specs.Pass.{laidBy, lay, passedBy, passOf, Starts, Opens, ReadsTo}
-use Rattle.header.specs.Head.{saying, Room}
+use Rattle.measure.specs.Totals.{passedBy, passOf}
+use Rattle.measure.specs.declared.Passed.{Passed}
+use Rattle.measure.specs.declared.Passed.the-variants.{Refused, Done}
+use Rattle.measure.proofs.Sums.{pass-also, pass-stop}
+use Rattle.read.specs.Pass.{laidBy, lay, Starts, Opens, ReadsTo}
+use Rattle.header.specs.Head.{saying}
 use Rattle.format.specs.declared.Answer.the-variants.{Done as AnswerDone, Refused as AnswerRefused}
-use Rattle.read.specs.declared.Passed.{Passed}
-use Rattle.read.specs.declared.Passed.the-variants.{Refused, Done}
-
--- ---- the answer to one record more, and to the stop
-
-pass-also : (b n : ℕ) (r : Record) (x : Result) → passOf b n (also r x) ≡ passOf (b + length (layout r)) (n + 1) x
-unfolding passOf layoutAll
-pass-also b n r x =
-    let e1 : b + length (layout r ++ layoutAll (x .records)) ≡ b + length (layout r) + length (layoutAll (x .records)) = simp (length-append, add-assoc) in
-    let e2 : n + (1 + length (x .records)) ≡ n + 1 + length (x .records) = omega arith in
-    let e3 : n + length (r ∷ x .records) ≡ n + 1 + length (x .records) = omega arith in
-    rw (e1, e3)
-
-pass-stop : (b n : ℕ) (v : Verdict) → passOf b n (stop v) ≡ passedBy v b n
-unfolding passOf layoutAll
-pass-stop b n v = simp add-zero
 
 -- ---- a record is laid in just where one is made
 

@@ -1,9 +1,9 @@
--- A pass over the items of a file: what it answers, and the records laid into a sheet as they are made. Assumes nothing.
+-- A pass over the items of a file: the records laid into a sheet as they are made. Assumes nothing.
 use Prim.Native.Nat.{ℕ, _+_}
 use mathlib.Core.List.{List, [], _∷_}
 use lib.ListN.{length}
 use Rattle.format.specs.State.{Record, Next, bad, end, on, made}
-use Rattle.format.specs.Sheet.{Verdict, good, refusal, Result, layout, layoutAll}
+use Rattle.format.specs.Sheet.{layout}
 use Rattle.wire.specs.Laid.{laidIf}
 use mathlib.Core.Path.{_≡_}
 use Rattle.format.specs.declared.Dated.the-variants.{Undated}
@@ -14,8 +14,6 @@ use Rattle.format.specs.Reading.{readOutcome, readBuffer}
 use Rattle.format.specs.Answers.{answerOf}
 use Rattle.format.specs.declared.Answer.{Answer}
 use Rattle.header.specs.Head.{saying, Room}
-use Rattle.read.specs.declared.Passed.{Passed}
-use Rattle.read.specs.declared.Passed.the-variants.{Refused, Done}
 
 -- d with the record that an item makes, if any, in it from k on, where it fits
 abbrev pub laidBy : Next → List ℕ → ℕ → List ℕ
@@ -28,14 +26,6 @@ laidBy (made n r st) d k = laidIf d k (layout r)
 unfoldable pub lay : List ℕ → ℕ → List Record → List ℕ
 lay d k [] = d
 lay d k (r ∷ rs) = lay (laidIf d k (layout r)) (k + length (layout r)) rs
-
-abbrev pub passedBy : Verdict → ℕ → ℕ → Passed
-passedBy good bytes records = Done bytes records
-passedBy (refusal number place) bytes records = Refused number place
-
--- the answer to a result with so many bytes and records before it
-unfoldable pub passOf : ℕ → ℕ → Result → Passed
-passOf bytes records x = passedBy (x .verdict) (bytes + length (layoutAll (x .records))) (records + length (x .records))
 
 -- "At the start .. the date none, the style "not said" (5 ..), the position unset"
 pub record Starts (setting : Setting) : Type 0 where

@@ -1,5 +1,5 @@
 // Reading a whole file into a sheet: a first pass judges every item and measures the
-// sheet, a second lays the records in. One loop serves both.
+// sheet, a second lays the records in.
 ghost use mathlib.Core.Path.{_≡_};
 ghost use mathlib.Core.List.{List, []};
 ghost use Prim.Native.Nat.{ℕ, _+_, _^_, _≤_, _<_};
@@ -8,19 +8,15 @@ ghost use Rattle.format.specs.Reading.{next, itemsOf, readOutcome, readBuffer};
 ghost use Rattle.format.specs.Answers.{answerOf};
 ghost use Rattle.format.specs.Fields.{stateOf};
 ghost use Rattle.item.specs.Seen.{Tells};
-ghost use Rattle.read.specs.Pass.{laidBy, lay, passOf, Starts, Opens, ReadsTo};
+ghost use Rattle.measure.specs.Totals.{passOf};
+ghost use Rattle.read.specs.Pass.{laidBy, lay, Starts, Opens, ReadsTo};
 use format::Answer;
 use format::Dated;
 use format::Position;
 use format::Setting;
 use header::Head;
 use item::Step;
-
-// What a pass over the items comes to: a refusal; or the sheet's bytes and records.
-pub enum Passed {
-    Refused { number: u8, place: usize },
-    Done { bytes: usize, records: usize },
-}
+use measure::Passed;
 
 // Style, date and position at the start of a file.
 fn start() -> Setting
@@ -119,6 +115,19 @@ fn pass(file: &[u8], version: u8, place: usize, sheet: &mut [u8], front: usize) 
     }
 }
 
+// The first pass: the answer for a sheet with room enough, whose first record goes to
+// `front`. The sheet stays as it was.
+fn measured(file: &[u8], version: u8, place: usize, sheet: &mut [u8], front: usize) -> Passed
+    requires { ⌜ (length (now file) ≤ 16777216) × (place ≤ length (now file)) × (front ≤ 4167) × (version ≤ 8) ⌝ }
+    ensures answer { λ r. ⌜ r ≡ passOf front 0 (itemsOf version place (now (file .entry))) ⌝ }
+    ensures sheet { λ _. ⌜ now (sheet .exit) ≡ now (sheet .entry) ⌝ }
+{
+    if version < 8 {
+        return pass(file, version, place, &mut sheet[..0], front);
+    }
+    measure::measure(file, place, front)
+}
+
 // Reads the items of a file that was opened, in two passes: 11 comes last.
 fn read_items(
     file: &[u8],
@@ -133,8 +142,8 @@ fn read_items(
     ensures { λ r. ⌜ ReadsTo (now (file .entry)) (now (sheet .entry)) r (now (sheet .exit)) ⌝ }
 {
     let front = 7 + title + time;
-    let measured = pass(file, version, place, &mut sheet[..0], front);
-    match measured {
+    let total = measured(file, version, place, sheet, front);
+    match total {
         Passed::Refused { number, place: at } => Answer::Refused { number, place: at },
         Passed::Done { bytes, records } => {
             if sheet.len() < bytes {

@@ -4,7 +4,8 @@ use borrow.Rule.Slice.PartAt.{part-to-end}
 use Prim.Native.Nat.{_-_}
 use lib.ListN.{length-drop}
 use Rattle.length.specs.Parts.{partAt}
-use Rattle.decode.proofs.Labelled.{labelled-there, labelled-fits, labelled-short, labelled-whole, suits-back}
+use Rattle.kind.proofs.Labelled.{labelled-there, labelled-fits, labelled-short}
+use Rattle.decode.proofs.Labelled.{labelled-whole, suits-back}
 use borrow.Author.Needs.{needs}
 use Rattle.decode.proofs.labelled_item.Statement.{statement}
 use Rattle.decode.proofs.labelled_item.Tie as tie

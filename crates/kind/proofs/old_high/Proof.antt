@@ -20,7 +20,7 @@ section-requires c κs = search needs
 returns-2 : tie.Need-returns-2
 unfolding oldHighItem stationItem lineItem labelledBy pick
 returns-2 c s =
-    c .section .ensures oldPart s ∙ simp (lt-ltb _ _ (c .before .before .if1 .taken), le-ltb _ _ (c .before .if2 .left))
+    c .section .ensures .0 oldPart s ∙ simp (lt-ltb _ _ (c .before .before .if1 .taken), le-ltb _ _ (c .before .if2 .left))
 
 returns-3 : tie.Need-returns-3
 unfolding oldHighItem stationItem lineItem labelledBy pick

@@ -8,11 +8,11 @@ use Rattle.kind.proofs.section.Tie as tie
 
 returns : tie.Need-returns
 unfolding sectionItem labelledBy pick
-returns c p s = simp (lt-ltb _ _ (c .if1 .taken))
+returns c = (λ p s. simp (lt-ltb _ _ (c .if1 .taken)), tt)
 
 returns-2 : tie.Need-returns-2
 unfolding sectionItem labelledBy pick
-returns-2 c p s = simp (le-ltb _ _ (c .if1 .left))
+returns-2 c = (λ p s. simp (le-ltb _ _ (c .if1 .left)), tt)
 
 pub section-spec : {M : Type 1} → statement M
 section-spec = tie.close (tie.spec returns returns-2)

@@ -1,14 +1,12 @@
 -- `read::read_items` meets its contract. Assumes nothing.
-use borrow.Author.Needs.{needs}
 use native.Mathlib.Omega.{arith}
-use Prim.Native.Nat.{ℕ, _+_, _-_, _≤_}
+use Prim.Native.Nat.{ℕ, _+_, _-_}
 use mathlib.Core.Path.{_≡_, sym, ap, _∙_}
 use mathlib.Core.List.{List}
-use lib.ListN.{length, length-append}
 use Rattle.format.specs.Reading.{itemsOf}
 use Rattle.read.specs.Pass.{lay}
 use Rattle.read.proofs.Turn.{title-length, time-length, read-refused, read-small, front-fits, read-done}
-use Rattle.wire.proofs.Laws.{none-before}
+use borrow.Author.Needs.{needs}
 use Rattle.read.proofs.read_items.Statement.{statement}
 use Rattle.read.proofs.read_items.Tie as tie
 
@@ -18,36 +16,24 @@ add-front c = search needs
 add-front-2 : tie.Need-add-front-2
 add-front-2 c = search needs
 
-slice-relend-prefix-pass : tie.Need-slice-relend-prefix-pass
-slice-relend-prefix-pass c = search needs
+measured-requires : tie.Need-measured-requires
+measured-requires c κs = search needs
 
-slice-aggregate-pass : tie.Need-slice-aggregate-pass
-slice-aggregate-pass c = search needs
+enum-known-total : tie.Need-enum-known-total
+enum-known-total c = search needs
 
-pass-requires : tie.Need-pass-requires
-pass-requires c κs = search needs
-
-enum-known-measured : tie.Need-enum-known-measured
-enum-known-measured c = search needs
-
-enum-known-measured-2 : tie.Need-enum-known-measured-2
-enum-known-measured-2 c = search needs
+enum-known-total-2 : tie.Need-enum-known-total-2
+enum-known-total-2 c = search needs
 
 same-length : tie.Need-same-length
 same-length c = search needs
 
 returns : tie.Need-returns
 returns c =
-    let d = c .before .before .before .before .before .before in
     let a = c .before .before .before .before .before .before .before .before .before .before in
-    let O = a .pre in
-    let file = a .args .file .now in
-    let old = a .args .sheet .now in
-    let y = d .pass .last .1 .1 .1 .0 in
-    let hy : length y ≡ 0 = omega (arith, d .pass .kept .1 .1 .1 .0) in
-    let e = sym (c .before .before .measured2 .given .1) ∙ d .pass .ensures .0 in
-    let r = read-small file old _ _ _ _ _ O _ _ e (omega (arith, length-append y old, c .if1 .taken)) in
-    rw (none-before y old hy) r
+    let m = c .before .before .before .before .before .before .measured .ensures in
+    let e = sym (c .before .before .total2 .given .1) ∙ m .0 in
+    rw (m .1) (read-small (a .args .file .now) (a .args .sheet .now) _ _ _ _ _ (a .pre) _ _ e (rw (m .1) at (c .if1 .taken)))
 
 add-ends : tie.Need-add-ends
 add-ends c = search needs
@@ -78,64 +64,53 @@ part-put-front-end-2 c = search needs
 
 put-front-requires : tie.Need-put-front-requires
 put-front-requires c κs =
-    let d = c .before .before .before .before .before .before .before .before .before in
     let a = c .before .before .before .before .before .before .before .before .before .before .before .before .before in
-    let O = a .pre in
     let file = a .args .file .now in
     let old = a .args .sheet .now in
-    let y = d .pass .last .1 .1 .1 .0 in
-    let hy : length y ≡ 0 = omega (arith, d .pass .kept .1 .1 .1 .0) in
-    let e = sym (c .before .before .before .before .before .measured2 .given .1) ∙ d .pass .ensures .0 in
+    let O = a .pre in
     let t = a .args .title in
-    let m = a .args .time in
+    let n = a .args .time in
     let r = O .room in
-    let h : c .before .before .before .before .before .measured2 .given .0 .0 ≤ length old = omega (arith, length-append y old, c .before .before .before .if1 .left) in
-    let k = front-fits file old _ _ _ _ _ O _ _ e h in
+    let m = c .before .before .before .before .before .before .before .before .before .measured .ensures in
+    let e = sym (c .before .before .before .before .before .total2 .given .1) ∙ m .0 in
+    let k = front-fits file old _ _ _ _ _ O _ _ e (rw (m .1) at (c .before .before .before .if1 .left)) in
     let z1 : 24 + t - 24 ≡ t = omega arith in
-    let z2 : 24 + t + 1 + m - (24 + t + 1) ≡ m = omega arith in
+    let z2 : 24 + t + 1 + n - (24 + t + 1) ≡ n = omega arith in
     let z3 : 24 + t + 1 ≡ 25 + t = omega arith in
-    rw (z2, z3, z1, title-length file old _ _ _ _ _ O, time-length file old _ _ _ _ _ O) (r .title-fits, r .time-fits, omega (arith, length-append y old, k))
+    rw (z2, z3, z1, title-length file old _ _ _ _ _ O, time-length file old _ _ _ _ _ O, m .1) (r .title-fits, r .time-fits, k)
 
-pass-requires-2 : tie.Need-pass-requires-2
-pass-requires-2 c κs = search needs
+pass-requires : tie.Need-pass-requires
+pass-requires c κs = search needs
 
 same-length-2 : tie.Need-same-length-2
 same-length-2 c = search needs
 
 returns-2 : tie.Need-returns-2
 returns-2 c =
-    let d = c .before .before .before .before .before in
     let a = c .before .before .before .before .before .before .before .before .before in
-    let O = a .pre in
-    let file = a .args .file .now in
-    let old = a .args .sheet .now in
-    let y = d .pass .last .1 .1 .1 .0 in
-    let hy : length y ≡ 0 = omega (arith, d .pass .kept .1 .1 .1 .0) in
-    let e = sym (c .before .measured .given .1) ∙ d .pass .ensures .0 in
-    rw (none-before y old hy) (read-refused file old _ _ _ _ _ O _ _ e)
+    let m = c .before .before .before .before .before .measured .ensures in
+    let e = sym (c .before .total .given .1) ∙ m .0 in
+    rw (m .1) (read-refused (a .args .file .now) (a .args .sheet .now) _ _ _ _ _ (a .pre) _ _ e)
 
 same-length-3 : tie.Need-same-length-3
 same-length-3 c = search needs
 
 returns-3 : tie.Need-returns-3
 returns-3 c =
-    let d = c .before .before .before .before .before .before .before .before .before .before .before .before .before .before .before .before in
     let a = c .before .before .before .before .before .before .before .before .before .before .before .before .before .before .before .before .before .before .before .before in
-    let O = a .pre in
     let file = a .args .file .now in
     let old = a .args .sheet .now in
-    let y = d .pass .last .1 .1 .1 .0 in
-    let hy : length y ≡ 0 = omega (arith, d .pass .kept .1 .1 .1 .0) in
-    let e = sym (c .before .before .before .before .before .before .before .before .before .before .before .before .measured2 .given .1) ∙ d .pass .ensures .0 in
     let t = a .args .title in
-    let m = a .args .time in
-    let h : c .before .before .before .before .before .before .before .before .before .before .before .before .measured2 .given .0 .0 ≤ length old = omega (arith, length-append y old, c .before .before .before .before .before .before .before .before .before .before .if1 .left) in
+    let n = a .args .time in
+    let m = c .before .before .before .before .before .before .before .before .before .before .before .before .before .before .before .before .measured .ensures in
+    let e = sym (c .before .before .before .before .before .before .before .before .before .before .before .before .total2 .given .1) ∙ m .0 in
+    let h = rw (m .1) at (c .before .before .before .before .before .before .before .before .before .before .if1 .left) in
     let z1 : 24 + t - 24 ≡ t = omega arith in
-    let z2 : 24 + t + 1 + m - (24 + t + 1) ≡ m = omega arith in
+    let z2 : 24 + t + 1 + n - (24 + t + 1) ≡ n = omega arith in
     let z3 : 24 + t + 1 ≡ 25 + t = omega arith in
-    let p = rw (z2, z3, z1, none-before y old hy) at (c .before .before .before .before .before .before .put-front .ensures) in
-    let q = c .before .before .pass2 .ensures .1 ∙ ap (λ (s : List ℕ). lay s (7 + t + m) (itemsOf (a .args .version) (a .args .place) file .records)) p in
-    read-done file old _ _ _ _ _ O _ _ e h _ q
+    let p = rw (z2, z3, z1, m .1) at (c .before .before .before .before .before .before .put-front .ensures) in
+    let q = c .before .before .pass .ensures .1 ∙ ap (λ (s : List ℕ). lay s (7 + t + n) (itemsOf (a .args .version) (a .args .place) file .records)) p in
+    read-done file old _ _ _ _ _ (a .pre) _ _ e h _ q
 
 pub read-items-spec : {M : Type 1} → statement M
 read-items-spec =
@@ -143,11 +118,9 @@ read-items-spec =
     (tie.spec
     add-front
     add-front-2
-    slice-relend-prefix-pass
-    slice-aggregate-pass
-    pass-requires
-    enum-known-measured
-    enum-known-measured-2
+    measured-requires
+    enum-known-total
+    enum-known-total-2
     same-length
     returns
     add-ends
@@ -160,7 +133,7 @@ read-items-spec =
     part-put-front-start-2
     part-put-front-end-2
     put-front-requires
-    pass-requires-2
+    pass-requires
     same-length-2
     returns-2
     same-length-3

@@ -1,0 +1,198 @@
+-- `measure::measure` meets its contract. Assumes nothing.
+use borrow.Author.Needs.{needs}
+use Rattle.measure.specs.declared.Measured.the-variants.{Styled, Moved, Passes, Made}
+use native.Mathlib.Omega.{arith}
+use Prim.Native.Nat.{_-_}
+use lib.ListN.{length, length-drop}
+use Rattle.measure.proofs.Turn.{Going, going-first, found, ends-bad, ends-after, ends-done, goes-size, going-on, makes-size, going-made}
+use Rattle.measure.proofs.measure.Statement.{statement}
+use Rattle.measure.proofs.measure.Tie as tie
+
+abbrev Inv-loop : tie.InvT-loop
+Inv-loop file place front at₀ out₀ records₀ len₀ style₀ placed₀ at out records len style placed = Going file place front at out records len style placed
+
+abbrev μ-loop : tie.MeasureT-loop
+μ-loop file place front at₀ out₀ records₀ len₀ style₀ placed₀ at out records len style placed = length file - at
+
+loop-holds : tie.Need-loop-holds Inv-loop μ-loop
+loop-holds c = going-first _ _ _ (c .before .pre .1)
+
+sub-rest : tie.Need-sub-rest Inv-loop μ-loop
+sub-rest c = search needs
+
+part-rest-start : tie.Need-part-rest-start Inv-loop μ-loop
+part-rest-start c = search needs
+
+part-rest-end : tie.Need-part-rest-end Inv-loop μ-loop
+part-rest-end c = search needs
+
+measure-item-requires : tie.Need-measure-item-requires Inv-loop μ-loop
+measure-item-requires c κs = c .before .loop .inv .short
+
+enum-known-it : tie.Need-enum-known-it Inv-loop μ-loop
+enum-known-it c = search needs
+
+returns : tie.Need-returns Inv-loop μ-loop
+returns c =
+    let G = c .before .before .before .before .before .loop .inv in
+    let f = rw (c .before .it .given .1) at (c .before .before .before .measure-item .ensures) in
+    ends-bad _ _ _ _ _ _ _ _ _ G _ (f .1)
+
+enum-told : tie.Need-enum-told Inv-loop μ-loop
+enum-told c = search needs
+
+add-t23 : tie.Need-add-t23 Inv-loop μ-loop
+add-t23 c =
+    omega (arith, c .before .before .before .before .before .loop .inv .inside, c .before .before .before .before .before .before .before .pre .0)
+
+returns-2 : tie.Need-returns-2 Inv-loop μ-loop
+returns-2 c =
+    let G = c .before .before .before .before .before .loop .inv in
+    let f = rw (c .before .enum-told .given .1) at (c .before .before .before .measure-item .ensures) in
+    ends-after _ _ _ _ _ _ _ _ _ G (f .1) (simp length-drop (omega arith))
+
+returns-3 : tie.Need-returns-3 Inv-loop μ-loop
+returns-3 c =
+    let G = c .before .before .before .before .before .loop .inv in
+    let f = rw (c .before .enum-told .given .1) at (c .before .before .before .measure-item .ensures) in
+    ends-done _ _ _ _ _ _ _ _ _ G (f .1) (simp length-drop (omega arith))
+
+enum-known-it-2 : tie.Need-enum-known-it-2 Inv-loop μ-loop
+enum-known-it-2 c = search needs
+
+add-at : tie.Need-add-at Inv-loop μ-loop
+add-at c =
+    let G = c .before .before .before .before .before .loop .inv in
+    let f = rw (c .before .it2 .given .1) at (c .before .before .before .measure-item .ensures) in
+    let z = goes-size _ _ _ _ _ _ _ _ _ G _ _ _ _ (found _ _ _ _ _ _ _ _ _ G (Styled _) (f .1)) in
+    omega (arith, z, c .before .before .before .before .before .before .before .pre .0)
+
+loop-less : tie.Need-loop-less Inv-loop μ-loop
+loop-less c =
+    let G = c .before .before .before .before .before .loop .inv in
+    let f = rw (c .before .it2 .given .1) at (c .before .before .before .measure-item .ensures) in
+    let z = goes-size _ _ _ _ _ _ _ _ _ G _ _ _ _ (found _ _ _ _ _ _ _ _ _ G (Styled _) (f .1)) in
+    omega (arith, z, c .before .before .before .before .before .before .before .pre .0)
+
+loop-again : tie.Need-loop-again Inv-loop μ-loop
+loop-again c =
+    let G = c .before .before .before .before .before .loop .inv in
+    let f = rw (c .before .it2 .given .1) at (c .before .before .before .measure-item .ensures) in
+    going-on _ _ _ _ _ _ _ _ _ G _ _ _ _ (found _ _ _ _ _ _ _ _ _ G (Styled _) (f .1)) (G .short)
+
+enum-told-2 : tie.Need-enum-told-2 Inv-loop μ-loop
+enum-told-2 c = search needs
+
+add-at-2 : tie.Need-add-at-2 Inv-loop μ-loop
+add-at-2 c =
+    let G = c .before .before .before .before .loop .inv in
+    let f = rw (c .enum-told2 .given .1) at (c .before .before .measure-item .ensures) in
+    let z = goes-size _ _ _ _ _ _ _ _ _ G _ _ _ _ (found _ _ _ _ _ _ _ _ _ G Moved (f .1)) in
+    omega (arith, z, c .before .before .before .before .before .before .pre .0)
+
+loop-less-2 : tie.Need-loop-less-2 Inv-loop μ-loop
+loop-less-2 c =
+    let G = c .before .before .before .before .loop .inv in
+    let f = rw (c .enum-told2 .given .1) at (c .before .before .measure-item .ensures) in
+    let z = goes-size _ _ _ _ _ _ _ _ _ G _ _ _ _ (found _ _ _ _ _ _ _ _ _ G Moved (f .1)) in
+    omega (arith, z, c .before .before .before .before .before .before .pre .0)
+
+loop-again-2 : tie.Need-loop-again-2 Inv-loop μ-loop
+loop-again-2 c =
+    let G = c .before .before .before .before .loop .inv in
+    let f = rw (c .enum-told2 .given .1) at (c .before .before .measure-item .ensures) in
+    going-on _ _ _ _ _ _ _ _ _ G _ _ _ _ (found _ _ _ _ _ _ _ _ _ G Moved (f .1)) (G .short)
+
+enum-known-it-3 : tie.Need-enum-known-it-3 Inv-loop μ-loop
+enum-known-it-3 c = search needs
+
+add-at-3 : tie.Need-add-at-3 Inv-loop μ-loop
+add-at-3 c =
+    let G = c .before .before .before .before .before .loop .inv in
+    let f = rw (c .before .it3 .given .1) at (c .before .before .before .measure-item .ensures) in
+    let z = goes-size _ _ _ _ _ _ _ _ _ G _ _ _ _ (found _ _ _ _ _ _ _ _ _ G (Passes _) (f .1)) in
+    omega (arith, z, c .before .before .before .before .before .before .before .pre .0)
+
+loop-less-3 : tie.Need-loop-less-3 Inv-loop μ-loop
+loop-less-3 c =
+    let G = c .before .before .before .before .before .loop .inv in
+    let f = rw (c .before .it3 .given .1) at (c .before .before .before .measure-item .ensures) in
+    let z = goes-size _ _ _ _ _ _ _ _ _ G _ _ _ _ (found _ _ _ _ _ _ _ _ _ G (Passes _) (f .1)) in
+    omega (arith, z, c .before .before .before .before .before .before .before .pre .0)
+
+loop-again-3 : tie.Need-loop-again-3 Inv-loop μ-loop
+loop-again-3 c =
+    let G = c .before .before .before .before .before .loop .inv in
+    let f = rw (c .before .it3 .given .1) at (c .before .before .before .measure-item .ensures) in
+    going-on _ _ _ _ _ _ _ _ _ G _ _ _ _ (found _ _ _ _ _ _ _ _ _ G (Passes _) (f .1)) (G .short)
+
+enum-known-it-4 : tie.Need-enum-known-it-4 Inv-loop μ-loop
+enum-known-it-4 c = search needs
+
+add-out : tie.Need-add-out Inv-loop μ-loop
+add-out c =
+    let G = c .before .before .before .before .before .loop .inv in
+    let f = rw (c .before .it4 .given .1) at (c .before .before .before .measure-item .ensures) in
+    omega (arith, G .out-few, G .inside, f .0 .1, c .before .before .before .before .before .before .before .pre)
+
+add-records : tie.Need-add-records Inv-loop μ-loop
+add-records c =
+    let G = c .before .before .before .before .before .loop .inv in
+    let f = rw (c .before .it4 .given .1) at (c .before .before .before .measure-item .ensures) in
+    omega (arith, G .records-few, G .inside, c .before .before .before .before .before .before .before .pre)
+
+add-at-4 : tie.Need-add-at-4 Inv-loop μ-loop
+add-at-4 c =
+    let G = c .before .before .before .before .before .loop .inv in
+    let f = rw (c .before .it4 .given .1) at (c .before .before .before .measure-item .ensures) in
+    let z = makes-size _ _ _ _ _ _ _ _ _ G _ _ _ (found _ _ _ _ _ _ _ _ _ G (Made _ _ _) (f .1)) in
+    omega (arith, z, c .before .before .before .before .before .before .before .pre .0)
+
+loop-less-4 : tie.Need-loop-less-4 Inv-loop μ-loop
+loop-less-4 c =
+    let G = c .before .before .before .before .before .loop .inv in
+    let f = rw (c .before .it4 .given .1) at (c .before .before .before .measure-item .ensures) in
+    let z = makes-size _ _ _ _ _ _ _ _ _ G _ _ _ (found _ _ _ _ _ _ _ _ _ G (Made _ _ _) (f .1)) in
+    omega (arith, z, c .before .before .before .before .before .before .before .pre .0)
+
+loop-again-4 : tie.Need-loop-again-4 Inv-loop μ-loop
+loop-again-4 c =
+    let G = c .before .before .before .before .before .loop .inv in
+    let f = rw (c .before .it4 .given .1) at (c .before .before .before .measure-item .ensures) in
+    going-made _ _ _ _ _ _ _ _ _ G _ _ _ (found _ _ _ _ _ _ _ _ _ G (Made _ _ _) (f .1)) (f .0 .0) (f .0 .1)
+
+pub measure-spec : {M : Type 1} → statement M
+measure-spec =
+    tie.close
+    (tie.spec
+    Inv-loop
+    μ-loop
+    loop-holds
+    sub-rest
+    part-rest-start
+    part-rest-end
+    measure-item-requires
+    enum-known-it
+    returns
+    enum-told
+    add-t23
+    returns-2
+    returns-3
+    enum-known-it-2
+    add-at
+    loop-less
+    loop-again
+    enum-told-2
+    add-at-2
+    loop-less-2
+    loop-again-2
+    enum-known-it-3
+    add-at-3
+    loop-less-3
+    loop-again-3
+    enum-known-it-4
+    add-out
+    add-records
+    add-at-4
+    loop-less-4
+    loop-again-4)

@@ -1,0 +1,275 @@
+// The bytes and records of a v8 file's sheet, before any is written. Only the lengths of
+// labels count here, so no label is kept: v3 to v7 look for dots, and v8 does not.
+use kind::Kind;
+use kind::Tail;
+use kind::new_kind;
+use kind::tail_size;
+use length::Part;
+use length::part_of;
+use length::whole_part;
+use number::get_le16;
+use number::wide;
+ghost use mathlib.Core.Path.{_≡_};
+ghost use mathlib.Core.Bool.{Bool};
+ghost use Prim.Native.Nat.{ℕ, _≤_};
+ghost use lib.ListN.{length, drop};
+ghost use Rattle.format.specs.Items.{Date as dateItem, Style as styleItem, moveItem, dayItem, spanItem, daysItem, errorItem, newPart};
+ghost use Rattle.format.specs.State.{apply, nextOf};
+ghost use Rattle.format.specs.Reading.{next, itemsOf};
+ghost use Rattle.kind.specs.Kinds.{labelledBy};
+ghost use Rattle.measure.specs.Measures.{Keeps, Comes, ComesIn, Small, Tailed};
+ghost use Rattle.measure.specs.Totals.{passOf};
+
+// What the items of a file come to: a refusal; or the sheet's bytes and records.
+pub enum Passed {
+    Refused { number: u8, place: usize },
+    Done { bytes: usize, records: usize },
+}
+
+// What an item comes to: a refusal; the end; another style; a position; its size, where
+// it makes no record; its size, the label's new length and its record's bytes.
+enum Measured {
+    Bad {
+        number: u8,
+    },
+    End,
+    Styled {
+        style: u8,
+    },
+    Moved,
+    Passes {
+        size: usize,
+    },
+    Made {
+        size: usize,
+        len: usize,
+        bytes: usize,
+    },
+}
+
+// ---- items without a label; s begins with the code
+
+// A style, after another; normal where it is normal already is the end.
+fn styled(style: u8, old: u8) -> Measured
+    ensures { λ r. ⌜ Small r × ((len : ℕ) (placed : Bool) → ComesIn r len old placed (λ st. apply st 1 (styleItem style))) ⌝ }
+{
+    if style != 0 {
+        return Measured::Styled { style };
+    }
+    if old != 0 {
+        return Measured::Styled { style };
+    }
+    Measured::End
+}
+
+fn moved(s: &[u8]) -> Measured
+    ensures { λ r. ⌜ Small r × Comes r (λ st. nextOf st (moveItem (now (s .entry)))) ⌝ }
+{
+    if s.len() < 13 {
+        return Measured::Bad { number: 5 };
+    }
+    Measured::Moved
+}
+
+// Two days, of an item of so many bytes.
+fn dated(size: usize, first: u32, last: u32) -> Measured
+    ensures { λ r. ⌜ Small r × Comes r (λ st. apply st size (dateItem first last)) ⌝ }
+{
+    if last < first {
+        return Measured::Bad { number: 9 };
+    }
+    if 65535 < last {
+        return Measured::Bad { number: 9 };
+    }
+    Measured::Passes { size }
+}
+
+fn day(s: &[u8]) -> Measured
+    ensures { λ r. ⌜ Small r × Comes r (λ st. nextOf st (dayItem (now (s .entry)))) ⌝ }
+{
+    if s.len() < 3 {
+        return Measured::Bad { number: 5 };
+    }
+    let day = get_le16(&s[1..]);
+    dated(3, day, day)
+}
+
+fn span(s: &[u8]) -> Measured
+    ensures { λ r. ⌜ Small r × Comes r (λ st. nextOf st (spanItem (now (s .entry)))) ⌝ }
+{
+    if s.len() < 4 {
+        return Measured::Bad { number: 5 };
+    }
+    let first = get_le16(&s[1..]);
+    let days = wide(s[3]);
+    dated(4, first, first + days)
+}
+
+fn days(s: &[u8]) -> Measured
+    ensures { λ r. ⌜ Small r × Comes r (λ st. nextOf st (daysItem (now (s .entry)))) ⌝ }
+{
+    if s.len() < 5 {
+        return Measured::Bad { number: 5 };
+    }
+    let first = get_le16(&s[1..]);
+    let last = get_le16(&s[3..]);
+    dated(5, first, last)
+}
+
+fn error(s: &[u8], len: usize) -> Measured
+    requires { ⌜ len ≤ 4096 ⌝ }
+    ensures { λ r. ⌜ Small r × ((style : ℕ) (placed : Bool) → ComesIn r len style placed (λ st. nextOf st (errorItem (now (s .entry))))) ⌝ }
+{
+    if s.len() < 21 {
+        return Measured::Bad { number: 5 };
+    }
+    Measured::Made {
+        size: 21,
+        len,
+        bytes: 23,
+    }
+}
+
+// ---- items with a label
+
+// What an item of so many bytes comes to once its label has len.
+fn tailed(tail: Tail, placed: bool, size: usize, len: usize) -> Measured
+    requires { ⌜ len ≤ 4096 ⌝ }
+    ensures { λ r. ⌜ Small r × Tailed r tail placed size len ⌝ }
+{
+    match tail {
+        Tail::Short { last: _ } => Measured::Made {
+            size,
+            len,
+            bytes: 20 + len,
+        },
+        Tail::Long { last: _ } => Measured::Made {
+            size,
+            len,
+            bytes: 20 + len,
+        },
+        Tail::Station { flags: _ } => Measured::Made {
+            size,
+            len,
+            bytes: 16 + len,
+        },
+        Tail::Line { flags: _ } => {
+            if !placed {
+                return Measured::Bad { number: 8 };
+            }
+            Measured::Made {
+                size,
+                len,
+                bytes: 34 + len,
+            }
+        }
+    }
+}
+
+// 5, then 6 and 7, and then the position.
+fn labelled(s: &[u8], bare: bool, tail: Tail, len: usize, placed: bool) -> Measured
+    requires { ⌜ (1 ≤ length (now s)) × (len ≤ 4096) ⌝ }
+    ensures { λ r. ⌜ Small r × ((style : ℕ) → ComesIn r len style placed (λ st. nextOf st (labelledBy bare tail newPart (drop 1 (now (s .entry)))))) ⌝ }
+{
+    let t = &s[1..];
+    let n = tail_size(tail);
+    let p = part_of(8, bare, t);
+    let q = whole_part(p, t, n);
+    match q {
+        Part::Unfinished => Measured::Bad { number: 5 },
+        Part::Numbers { size, drop, add } => {
+            if len < drop {
+                return Measured::Bad { number: 6 };
+            }
+            let keep = len - drop;
+            if 4096 - keep < add {
+                return Measured::Bad { number: 7 };
+            }
+            tailed(tail, placed, 1 + (size + add + n), keep + add)
+        }
+    }
+}
+
+// ---- the items of a file
+
+// What the item at the front of s comes to.
+fn measure_item(s: &[u8], len: usize, style: u8, placed: bool) -> Measured
+    requires { ⌜ len ≤ 4096 ⌝ }
+    ensures { λ r. ⌜ Small r × ComesIn r len style placed (λ st. next 8 (now (s .entry)) st) ⌝ }
+{
+    if s.len() < 1 {
+        return Measured::Bad { number: 5 };
+    }
+    let kind = new_kind(s[0]);
+    match kind {
+        Kind::Reserved => Measured::Bad { number: 4 },
+        Kind::Stop => Measured::Bad { number: 4 },
+        Kind::Shorten { cut: _ } => Measured::Bad { number: 4 },
+        Kind::Style { style: to } => styled(to, style),
+        Kind::Move => moved(s),
+        Kind::NoDate => Measured::Passes { size: 1 },
+        Kind::Day => day(s),
+        Kind::Span => span(s),
+        Kind::Days => days(s),
+        Kind::Seconds => Measured::Bad { number: 4 },
+        Kind::TwoSeconds => Measured::Bad { number: 4 },
+        Kind::Error => error(s, len),
+        Kind::Labelled { bare, tail } => labelled(s, bare, tail, len, placed),
+    }
+}
+
+// The items of a v8 file from `place` on: the answer for a sheet with room enough, whose
+// first record goes to `front`.
+pub fn measure(file: &[u8], place: usize, front: usize) -> Passed
+    requires { ⌜ (length (now file) ≤ 16777216) × (place ≤ length (now file)) × (front ≤ 4167) ⌝ }
+    ensures { λ r. ⌜ r ≡ passOf front 0 (itemsOf 8 place (now (file .entry))) ⌝ }
+{
+    let mut at = place;
+    let mut out = front;
+    let mut records: usize = 0;
+    let mut len: usize = 0;
+    let mut style: u8 = 5;
+    let mut placed = false;
+    loop {
+        let rest = &file[at..];
+        let it = measure_item(rest, len, style, placed);
+        match it {
+            Measured::Bad { number } => {
+                return Passed::Refused { number, place: at };
+            }
+            Measured::End => {
+                if 1 < rest.len() {
+                    return Passed::Refused {
+                        number: 10,
+                        place: at + 1,
+                    };
+                }
+                return Passed::Done {
+                    bytes: out,
+                    records,
+                };
+            }
+            Measured::Styled { style: to } => {
+                style = to;
+                at += 1;
+            }
+            Measured::Moved => {
+                placed = true;
+                at += 13;
+            }
+            Measured::Passes { size } => {
+                at += size;
+            }
+            Measured::Made {
+                size,
+                len: m,
+                bytes,
+            } => {
+                len = m;
+                out += bytes;
+                records += 1;
+                at += size;
+            }
+        }
+    }
+}
