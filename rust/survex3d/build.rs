@@ -1,52 +1,53 @@
 //! Looks which functions the proved library has, and links it.
 //!
-//! `rt staticlib capi` builds the archive. Without it, or without one of its
-//! functions, the second implementation stands in; with CI=true a missing
-//! function of `EXPECTED` fails the build.
+//! `rt staticlib capi` and `rt staticlib capi_edit` build the archives.
+//! Without them, or without one of their functions, the second implementation
+//! stands in; with CI=true a missing function fails the build.
 
 use std::path::PathBuf;
 use std::{env, fs};
 
-/// Every function of the C interface, after `cockledrift_`.
-const FUNCTIONS: [&str; 4] = ["read", "write", "convert", "compare"];
-
-/// Those that CI must find.
-const EXPECTED: &[&str] = &["read", "write", "convert", "compare"];
+/// The archives, and the functions of each after `cockledrift_`.
+const ARCHIVES: [(&str, &[&str]); 2] =
+    [("capi", &["read", "write", "convert", "compare"]), ("capi_edit", &["edit"])];
 
 fn main() {
-    let folder = folder();
-    let path = folder.join("libcapi.a");
-    println!("cargo::rerun-if-changed={}", path.display());
     println!("cargo::rerun-if-env-changed=CI");
+    let missing: Vec<&str> =
+        ARCHIVES.iter().flat_map(|(name, functions)| link(name, functions)).collect();
+    report_missing(&missing);
+}
+
+/// Links an archive and answers which of the functions it lacks.
+fn link<'f>(name: &str, functions: &[&'f str]) -> Vec<&'f str> {
+    let folder = folder();
+    let path = folder.join(format!("lib{name}.a"));
+    println!("cargo::rerun-if-changed={}", path.display());
     let archive = fs::read(&path).unwrap_or_default();
-    let mut found = Vec::new();
-    for name in FUNCTIONS {
-        println!("cargo::rustc-check-cfg=cfg(has_{name})");
-        if holds(&archive, name) {
-            println!("cargo::rustc-cfg=has_{name}");
-            found.push(name);
-        }
+    let (found, missing): (Vec<_>, Vec<_>) =
+        functions.iter().copied().partition(|function| holds(&archive, function));
+    for function in functions {
+        println!("cargo::rustc-check-cfg=cfg(has_{function})");
+    }
+    for function in &found {
+        println!("cargo::rustc-cfg=has_{function}");
     }
     if !found.is_empty() {
         println!("cargo::rustc-link-search=native={}", folder.display());
-        println!("cargo::rustc-link-lib=static=capi");
+        println!("cargo::rustc-link-lib=static={name}");
     }
-    report_missing(&found);
+    missing
 }
 
-/// Says which functions `second` stands in for; in CI, none of the expected.
-fn report_missing(found: &[&str]) {
-    let lacks = |names: &[&'static str]| -> Vec<&str> {
-        names.iter().filter(|name| !found.contains(name)).copied().collect()
-    };
-    let expected = lacks(EXPECTED);
-    if !expected.is_empty() && env::var("CI").as_deref() == Ok("true") {
-        panic!("the proved library lacks {expected:?}: build it with `rt staticlib capi`");
+/// Says which functions `second` stands in for; in CI, none may.
+fn report_missing(missing: &[&str]) {
+    if missing.is_empty() {
+        return;
     }
-    let missing = lacks(&FUNCTIONS);
-    if !missing.is_empty() {
-        println!("cargo::warning=second stands in for the proved library's {missing:?}");
+    if env::var("CI").as_deref() == Ok("true") {
+        panic!("the proved library lacks {missing:?}: build it with `rt staticlib`");
     }
+    println!("cargo::warning=second stands in for the proved library's {missing:?}");
 }
 
 /// `target/staticlib`, beside the workspace.

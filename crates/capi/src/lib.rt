@@ -7,20 +7,11 @@ ghost use Rattle.format.specs.Editing.{convertOutcome, convertBuffer};
 ghost use Rattle.format.specs.Times.{compareOf, laterPart};
 ghost use Rattle.format.specs.Answers.{laterOf};
 ghost use Rattle.timeline.specs.Handing.{partSeen};
-ghost use Rattle.capi.specs.Told.{told, toldOf, comparedOf};
-use format::Answer;
+ghost use Rattle.told.specs.Numbers.{toldOf};
+ghost use Rattle.capi.specs.Compares.{comparedOf};
 use format::Later;
 use timeline::Part;
-
-// An answer. Number 0 is success, with bytes, records and version; any other is the
-// refusal's number, with its place in `bytes`.
-#[repr(C)]
-pub struct Told {
-    pub number: u64,
-    pub bytes: usize,
-    pub records: usize,
-    pub version: u64,
-}
+use told::Told;
 
 // Which file is later: 1 the first, 2 the second, with the place and the length of its
 // time line; 0 neither; or 3 and the file that is refused, 1 or 2, with the refusal's
@@ -34,36 +25,6 @@ pub struct Compared {
     pub length: usize,
 }
 
-// A byte as a number of the interface.
-fn long(x: u8) -> u64
-    ensures { λ r. ⌜ r ≡ x ⌝ }
-{
-    x as u64
-}
-
-fn tell(a: Answer) -> Told
-    ensures { λ r. ⌜ r ≡ told a ⌝ }
-{
-    match a {
-        Answer::Done {
-            bytes,
-            records,
-            version,
-        } => Told {
-            number: 0,
-            bytes,
-            records,
-            version: long(version),
-        },
-        Answer::Refused { number, place } => Told {
-            number: long(number),
-            bytes: place,
-            records: 0,
-            version: 0,
-        },
-    }
-}
-
 // Reads a file into the lent sheet.
 #[no_mangle]
 pub extern "C" fn cockledrift_read(file: &[u8], sheet: &mut [u8]) -> Told
@@ -71,7 +32,7 @@ pub extern "C" fn cockledrift_read(file: &[u8], sheet: &mut [u8]) -> Told
     ensures sheet { λ _. ⌜ now (sheet .exit) ≡ readBuffer (now (file .entry)) (now (sheet .entry)) ⌝ }
 {
     let a = read::read(file, sheet);
-    tell(a)
+    told::tell(a)
 }
 
 // Writes a sheet as a v8 file into the lent buffer.
@@ -81,7 +42,7 @@ pub extern "C" fn cockledrift_write(sheet: &[u8], out: &mut [u8]) -> Told
     ensures file { λ _. ⌜ now (out .exit) ≡ writeBuffer (now (sheet .entry)) (now (out .entry)) ⌝ }
 {
     let a = write::write(sheet, out);
-    tell(a)
+    told::tell(a)
 }
 
 // Reads a file to the lent sheet, then writes it as v8.
@@ -92,7 +53,7 @@ pub extern "C" fn cockledrift_convert(file: &[u8], sheet: &mut [u8], out: &mut [
     ensures file { λ _. ⌜ now (out .exit) ≡ convertBuffer (now (file .entry)) (now (sheet .entry)) (now (out .entry)) ⌝ }
 {
     let a = convert::convert(file, sheet, out);
-    tell(a)
+    told::tell(a)
 }
 
 // A comparison with no refusal.
@@ -115,7 +76,7 @@ fn refused(file: u64, number: u8, place: usize) -> Compared
     Compared {
         which: 3,
         file,
-        number: long(number),
+        number: told::long(number),
         place,
         length: 0,
     }

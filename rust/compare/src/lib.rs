@@ -5,8 +5,9 @@ mod lent;
 mod run;
 
 pub use lent::{disagree, hex, same, Call, Difference, Fills};
-pub use run::{files_wanted, seed, sheets_wanted, Tally};
+pub use run::{edits_wanted, files_wanted, seed, sheets_wanted, Tally};
 
+use generate::Edit;
 use second::{Answer, Later};
 
 /// Reading, at several buffer lengths. Answers what an ample buffer gives.
@@ -104,6 +105,21 @@ pub fn convert_by(proved: Converter, file: &[u8]) -> Result<Answer, Difference> 
         same(sheet, out)?;
     }
     same(sheet + 1 + sheet % 40, out + 1 + out % 40)
+}
+
+type Editor<'r> = &'r dyn Fn(&[u8], usize, usize, &[u8], &mut [u8]) -> Answer;
+
+/// Editing, at several buffer lengths.
+pub fn edit(file: &[u8], edit: &Edit) -> Result<Answer, Difference> {
+    edit_by(&survex3d::edit, file, edit)
+}
+
+pub fn edit_by(proved: Editor, file: &[u8], edit: &Edit) -> Result<Answer, Difference> {
+    let Edit { first, count, new } = edit;
+    let by = |editor: Editor, out: &mut [u8]| editor(file, *first, *count, new, out);
+    let needed = need(by(&second::edit, &mut []));
+    let ample = file.len() + new.len() + 100;
+    one_buffer(needed, ample, &|out, _| by(proved, out), &|out, _| by(&second::edit, out))
 }
 
 /// Which is later: the answer, and the very same part of the same file.

@@ -7,6 +7,7 @@ use std::fmt::Debug;
 
 const FILES: usize = 500_000;
 const SHEETS: usize = 200_000;
+const EDITS: usize = 200_000;
 const SEED: u64 = 0x3d19_0001;
 
 /// Files in a run; COCKLEDRIFT_FILES asks for another count.
@@ -17,6 +18,11 @@ pub fn files_wanted() -> usize {
 /// Sheets in a run; COCKLEDRIFT_SHEETS asks for another count.
 pub fn sheets_wanted() -> usize {
     number("COCKLEDRIFT_SHEETS").map_or(SHEETS, |count| count as usize)
+}
+
+/// Edits in a run; COCKLEDRIFT_EDITS asks for another count.
+pub fn edits_wanted() -> usize {
+    number("COCKLEDRIFT_EDITS").map_or(EDITS, |count| count as usize)
 }
 
 /// The seed; COCKLEDRIFT_SEED asks for another.

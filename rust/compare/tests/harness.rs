@@ -1,10 +1,11 @@
 //! Wrong answers must be found: each of these is a small lie of the kind a
 //! faulty library would tell.
 
-use compare::{convert_by, later_by, read_by, write_by, Difference};
+use compare::{convert_by, edit_by, later_by, read_by, write_by, Difference};
 use generate::sheets;
 use generate::times;
 use generate::valid::tour;
+use generate::Edit;
 use second::{Answer, Later};
 
 fn found(result: Result<Answer, Difference>) -> Difference {
@@ -138,4 +139,35 @@ fn a_difference_prints_both_answers() {
     let text = found(read_by(&lie, &file)).to_string();
     assert!(text.contains("proved: Refused { number: 4, place: 77 }"), "{text}");
     assert!(text.contains("second: Refused { number: 11"), "{text}");
+}
+
+/// An edit that keeps the run, one that refuses at another place, and one that
+/// copies the old file in.
+#[test]
+fn wrong_edits_are_found() {
+    let mut file = vec![0; 400];
+    let Answer::Done { bytes, .. } = second::write(&sheets::tour(), &mut file) else {
+        panic!("the tour is a good sheet");
+    };
+    file.truncate(bytes);
+    let cut = Edit { first: 1, count: 2, new: Vec::new() };
+    let keeps =
+        |file: &[u8], first, _, new: &[u8], out: &mut [u8]| second::edit(file, first, 0, new, out);
+    found(edit_by(&keeps, &file, &cut));
+    let copies = |file: &[u8], first, count, new: &[u8], out: &mut [u8]| {
+        let answer = second::edit(file, first, count, new, out);
+        if let Answer::Done { bytes, .. } = answer {
+            out[..bytes].copy_from_slice(&file[..bytes]);
+        }
+        answer
+    };
+    assert!(found(edit_by(&copies, &file, &cut)).byte.is_some());
+    let past = Edit { first: 99, count: 0, new: Vec::new() };
+    let off = |file: &[u8], first, count, new: &[u8], out: &mut [u8]| match second::edit(
+        file, first, count, new, out,
+    ) {
+        Answer::Refused { number: 15, place } => Answer::Refused { number: 15, place: place + 1 },
+        other => other,
+    };
+    found(edit_by(&off, &file, &past));
 }

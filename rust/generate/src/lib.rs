@@ -4,6 +4,7 @@
 pub mod coder;
 pub mod damage;
 pub mod edges;
+pub mod edits;
 pub mod files;
 pub mod heads;
 pub mod record;
@@ -13,6 +14,7 @@ pub mod sheets;
 pub mod times;
 pub mod valid;
 
+pub use edits::{Edit, EditKind};
 pub use files::Kind;
 pub use rng::Rng;
 pub use sheets::SheetKind;

@@ -6,17 +6,20 @@ pub const HAS_READ: bool = cfg!(has_read);
 pub const HAS_WRITE: bool = cfg!(has_write);
 pub const HAS_CONVERT: bool = cfg!(has_convert);
 pub const HAS_COMPARE: bool = cfg!(has_compare);
+pub const HAS_EDIT: bool = cfg!(has_edit);
 
 #[cfg(not(has_compare))]
 pub use second::compare;
 #[cfg(not(has_convert))]
 pub use second::convert;
+#[cfg(not(has_edit))]
+pub use second::edit;
 #[cfg(not(has_read))]
 pub use second::read;
 #[cfg(not(has_write))]
 pub use second::write;
 
-#[cfg(any(has_read, has_write, has_convert))]
+#[cfg(any(has_read, has_write, has_convert, has_edit))]
 mod told {
     use second::Answer;
 
@@ -156,5 +159,45 @@ mod proved_compare {
             }
             which => panic!("no answer has the number {which}"),
         }
+    }
+}
+
+#[cfg(has_edit)]
+pub use proved_edit::edit;
+#[cfg(has_edit)]
+mod proved_edit {
+    use super::told::Told;
+    use second::Answer;
+
+    extern "C" {
+        fn cockledrift_edit(
+            file: *const u8,
+            n: usize,
+            first: usize,
+            count: usize,
+            new: *const u8,
+            m: usize,
+            out: *mut u8,
+            k: usize,
+        ) -> Told;
+    }
+
+    /// Replaces `count` records of a house-written `file`, from `first` on, by
+    /// those of `new`, and writes the edited file to the front of `out`.
+    pub fn edit(file: &[u8], first: usize, count: usize, new: &[u8], out: &mut [u8]) -> Answer {
+        // SAFETY: each pointer is lent with its own length.
+        let told = unsafe {
+            cockledrift_edit(
+                file.as_ptr(),
+                file.len(),
+                first,
+                count,
+                new.as_ptr(),
+                new.len(),
+                out.as_mut_ptr(),
+                out.len(),
+            )
+        };
+        told.into()
     }
 }

@@ -1,6 +1,6 @@
 -- `capi::cockledrift_compare` meets its contract. Assumes nothing.
 use mathlib.Core.Path.{ap₂, _∙_}
-use Rattle.capi.specs.Told.{comparedOf}
+use Rattle.capi.specs.Compares.{comparedOf}
 use borrow.Author.Needs.{needs}
 use Rattle.capi.proofs.cockledrift_compare.Statement.{statement}
 use Rattle.capi.proofs.cockledrift_compare.Tie as tie

@@ -1,6 +1,6 @@
 -- `write::pass` meets its contract. Assumes nothing.
 use native.Mathlib.Omega.{arith}
-use Rattle.write.proofs.Whole.{pass-flawed, pass-whole}
+use Rattle.write.proofs.Whole.{pass-flawed, pass-sheet}
 use lib.ListN.{length-take, length-drop}
 use borrow.Author.Needs.{needs}
 use Rattle.write.proofs.pass.Statement.{statement}
@@ -75,7 +75,7 @@ same-length c = search needs
 returns-2 : tie.Need-returns-2
 returns-2 c =
     let F = rw (c .before .before .before .before .before .before .before .before .before .before .before .front .given .1) at (c .before .before .before .before .before .before .before .before .before .before .before .before .before .read-front .ensures) in
-    pass-whole _ _ _ _ _ _ _ _ _ F (c .before .before .before .before .before .before .put-header .ensures) (c .before .before .put-records .ensures)
+    pass-sheet _ _ _ _ _ _ _ _ _ F (c .before .before .before .before .before .before .put-header .ensures) (c .before .before .put-records .ensures)
 
 pub pass-spec : {M : Type 1} → statement M
 pass-spec =

@@ -1,9 +1,11 @@
+use Prim.Native.Nat.{_+_, _-_, _≤_}
 -- `write::put_records` meets its contract. Assumes nothing.
 use borrow.Author.Needs.{needs}
 use native.Mathlib.Omega.{arith}
-use Prim.Native.Nat.{_-_}
 use lib.ListN.{length}
-use Rattle.write.proofs.Turn.{Going, named-short, going-none, going-end, going-flawed, whole-formed, whole-size, going-more, rest-refused, left-end}
+use Rattle.sheet.proofs.EntryAt.{found-formed, found-size}
+use Rattle.tally.proofs.Left.{rest-refused, left-end}
+use Rattle.write.proofs.Turn.{Going, named-short, going-none, going-end, going-fits, going-flawed, going-more}
 use Rattle.write.proofs.put_records.Statement.{statement}
 use Rattle.write.proofs.put_records.Tie as tie
 
@@ -12,6 +14,13 @@ Inv-loop sheet begin out₀ head at₀ total₀ number₀ fault₀ hand₀ out a
 
 abbrev μ-loop : tie.MeasureT-loop
 μ-loop sheet begin out₀ head at₀ total₀ number₀ fault₀ hand₀ out at total number fault hand = length sheet - at
+
+-- the record that was found ends in the sheet, and its label starts in it
+sizes : (y : tie.After-entry Inv-loop μ-loop) → (3 ≤ y .entry .given .0 .0) × (y .before .before .before .before .before .loop .at + y .entry .given .0 .0 ≤ length (y .before .before .before .before .before .before .before .before .before .args .sheet .now)) × (y .entry .given .0 .1 .1 .0 ≤ y .entry .given .0 .0)
+sizes y =
+    let T = rw (y .entry .given .1) at (y .before .before .read-entry .ensures) in
+    let w = found-size (y .before .before .before .before .before .before .before .before .before .args .sheet .now) (y .before .before .before .before .before .loop .at) (y .before .before .before .before .loop-test .taken) _ _ _ T in
+    (w .0, w .1, T .inside .from-within)
 
 fresh-requires : tie.Need-fresh-requires Inv-loop μ-loop
 fresh-requires c κs = search needs
@@ -48,18 +57,10 @@ returns c =
     rest-refused _ _ _ _ (l .loop .inv .kept) 12 _ (going-flawed _ _ _ _ _ _ _ _ _ _ (l .loop .inv) (c .before .before .before .before .loop-test .taken) T)
 
 add-name : tie.Need-add-name Inv-loop μ-loop
-add-name c =
-    let l = c .before .before .before .before .before .before in
-    let T = rw (c .before .entry .given .1) at (c .before .before .before .read-entry .ensures) in
-    let w = whole-size _ _ _ _ _ _ _ _ _ _ (l .loop .inv) (c .before .before .before .before .before .loop-test .taken) _ _ _ T in
-    omega (arith, w, T .inside .from-within)
+add-name c = omega (arith, sizes (c .before))
 
 add-end : tie.Need-add-end Inv-loop μ-loop
-add-end c =
-    let l = c .before .before .before .before .before .before in
-    let T = rw (c .before .entry .given .1) at (c .before .before .before .read-entry .ensures) in
-    let w = whole-size _ _ _ _ _ _ _ _ _ _ (l .loop .inv) (c .before .before .before .before .before .loop-test .taken) _ _ _ T in
-    omega (arith, w, T .inside .from-within)
+add-end c = omega (arith, sizes (c .before))
 
 within-requires : tie.Need-within-requires Inv-loop μ-loop
 within-requires c κs = search needs
@@ -90,30 +91,21 @@ part-put-record-end-2 c =
 
 sub-put-record-3 : tie.Need-sub-put-record-3 Inv-loop μ-loop
 sub-put-record-3 c =
-    let l = c .before .before .before .before .before .before .before .before .before .before in
-    let T = rw (c .before .before .before .before .before .entry .given .1) at (c .before .before .before .before .before .before .before .read-entry .ensures) in
-    let w = whole-size _ _ _ _ _ _ _ _ _ _ (l .loop .inv) (c .before .before .before .before .before .before .before .before .before .loop-test .taken) _ _ _ T in
-    omega (arith, w, T .inside .from-within)
+    omega (arith, sizes (c .before .before .before .before .before))
 
 part-put-record-start-3 : tie.Need-part-put-record-start-3 Inv-loop μ-loop
 part-put-record-start-3 c =
-    let l = c .before .before .before .before .before .before .before .before .before .before in
-    let T = rw (c .before .before .before .before .before .entry .given .1) at (c .before .before .before .before .before .before .before .read-entry .ensures) in
-    let w = whole-size _ _ _ _ _ _ _ _ _ _ (l .loop .inv) (c .before .before .before .before .before .before .before .before .before .loop-test .taken) _ _ _ T in
-    omega (arith, w, T .inside .from-within)
+    omega (arith, sizes (c .before .before .before .before .before))
 
 part-put-record-end-3 : tie.Need-part-put-record-end-3 Inv-loop μ-loop
 part-put-record-end-3 c =
-    let l = c .before .before .before .before .before .before .before .before .before .before in
-    let T = rw (c .before .before .before .before .before .entry .given .1) at (c .before .before .before .before .before .before .before .read-entry .ensures) in
-    let w = whole-size _ _ _ _ _ _ _ _ _ _ (l .loop .inv) (c .before .before .before .before .before .before .before .before .before .loop-test .taken) _ _ _ T in
-    omega (arith, w, T .inside .from-within)
+    omega (arith, sizes (c .before .before .before .before .before))
 
 put-record-requires : tie.Need-put-record-requires Inv-loop μ-loop
 put-record-requires c κs =
     let l = c .before .before .before .before .before .before .before .before .before .before .before in
     let T = rw (c .before .before .before .before .before .before .entry .given .1) at (c .before .before .before .before .before .before .before .before .read-entry .ensures) in
-    (named-short _ _ (l .loop .inv .named), whole-formed _ _ _ _ _ _ _ _ _ _ (l .loop .inv) (c .before .before .before .before .before .before .before .before .before .before .loop-test .taken) _ _ _ T)
+    (named-short _ _ (l .loop .inv .named), found-formed _ _ (c .before .before .before .before .before .before .before .before .before .before .loop-test .taken) _ _ _ T)
 
 more-requires : tie.Need-more-requires Inv-loop μ-loop
 more-requires c κs =
@@ -121,21 +113,18 @@ more-requires c κs =
 
 first-fault-requires : tie.Need-first-fault-requires Inv-loop μ-loop
 first-fault-requires c κs =
-    omega (arith, c .before .before .before .before .before .before .before .before .before .before .before .before .before .before .before .loop .inv .counted, c .before .before .before .before .before .before .before .before .before .before .before .before .before .before .before .loop .inv .inside)
+    omega (arith, c .before .before .before .before .before .before .before .before .before .before .before .before .before .before .before .loop .inv .few-records, c .before .before .before .before .before .before .before .before .before .before .before .before .before .before .before .loop .inv .inside)
 
 hand-after-requires : tie.Need-hand-after-requires Inv-loop μ-loop
 hand-after-requires c κs = search needs
 
 add-number : tie.Need-add-number Inv-loop μ-loop
 add-number c =
-    omega (arith, c .before .before .before .before .before .before .before .before .before .before .before .before .before .before .before .before .before .loop .inv .counted, c .before .before .before .before .before .before .before .before .before .before .before .before .before .before .before .before .loop-test .taken, c .before .before .before .before .before .before .before .before .before .before .before .before .before .before .before .before .before .before .before .before .before .good)
+    omega (arith, c .before .before .before .before .before .before .before .before .before .before .before .before .before .before .before .before .before .loop .inv .few-records, c .before .before .before .before .before .before .before .before .before .before .before .before .before .before .before .before .loop-test .taken, c .before .before .before .before .before .before .before .before .before .before .before .before .before .before .before .before .before .before .before .before .before .good)
 
 loop-less : tie.Need-loop-less Inv-loop μ-loop
 loop-less c =
-    let l = c .before .before .before .before .before .before .before .before .before .before .before .before .before .before .before .before .before in
-    let T = rw (c .before .before .before .before .before .before .before .before .before .before .before .before .entry .given .1) at (c .before .before .before .before .before .before .before .before .before .before .before .before .before .before .read-entry .ensures) in
-    let w = whole-size _ _ _ _ _ _ _ _ _ _ (l .loop .inv) (c .before .before .before .before .before .before .before .before .before .before .before .before .before .before .before .before .loop-test .taken) _ _ _ T in
-    omega (arith, w)
+    omega (arith, sizes (c .before .before .before .before .before .before .before .before .before .before .before .before))
 
 loop-again : tie.Need-loop-again Inv-loop μ-loop
 loop-again c =
@@ -146,7 +135,8 @@ loop-again c =
     (going-more _ _ _ _ _ _ _ _ _ _ (l .loop .inv) (c .before .before .before .before .before .before .before .before .before .before .before .before .before .before .before .before .loop-test .taken) _ _ _ T _ _ _ _ (W .0) (W .1) (c .before .before .before .before .before .put-record .ensures) (c .before .first-fault .ensures))
 
 finish-requires : tie.Need-finish-requires Inv-loop μ-loop
-finish-requires c κs = c .before .before .before .loop .inv .few
+finish-requires c κs =
+    going-fits _ _ _ _ _ _ _ _ _ _ (c .before .before .before .loop .inv) (omega (arith, c .before .before .before .before .before .before .before .good))
 
 same-length-2 : tie.Need-same-length-2 Inv-loop μ-loop
 same-length-2 c = search needs
@@ -155,7 +145,7 @@ returns-2 : tie.Need-returns-2 Inv-loop μ-loop
 returns-2 c =
     let l = c .before .before .before .before .before .before in
     let L = going-end _ _ _ _ _ _ _ _ _ _ (l .loop .inv) (c .before .before .before .before .before .loop-test .left) in
-    left-end _ _ _ _ _ _ _ _ _ _ (l .loop .inv .kept) L (c .before .before .finish .ensures)
+    left-end _ _ _ _ _ _ _ _ (l .loop .inv .kept) L (c .before .before .finish .ensures)
 
 pub put-records-spec : {M : Type 1} → statement M
 put-records-spec =

@@ -1,0 +1,4 @@
+mod Chain
+mod NewRun
+mod OldRun
+mod Whole

@@ -1,0 +1,82 @@
+-- `edit::write_edited` meets its contract. Assumes nothing.
+use mathlib.Core.Path.{sym, _∙_}
+use Rattle.wire.proofs.Laws.{none-before}
+use Rattle.tally.proofs.Files.{file-refused, file-small, file-done}
+use Rattle.edit.specs.Runs.{headerOf, editedAt}
+use borrow.Author.Needs.{needs}
+use Rattle.edit.proofs.write_edited.Statement.{statement}
+use Rattle.edit.proofs.write_edited.Tie as tie
+
+slice-relend-prefix-pass : tie.Need-slice-relend-prefix-pass
+slice-relend-prefix-pass c = search needs
+
+slice-aggregate-pass : tie.Need-slice-aggregate-pass
+slice-aggregate-pass c = search needs
+
+pass-requires : tie.Need-pass-requires
+pass-requires c κs = c .before .before .before .before .pre
+
+enum-known-answer : tie.Need-enum-known-answer
+enum-known-answer c = search needs
+
+enum-known-answer-2 : tie.Need-enum-known-answer-2
+enum-known-answer-2 c = search needs
+
+same-length : tie.Need-same-length
+same-length c = search needs
+
+returns : tie.Need-returns
+returns c =
+    let a = c .before .before .before .before .before .before .before .before .before .before .before .args in
+    let p = c .before .before .before .before .before .before .pass .ensures in
+    let n = none-before (c .before .before .before .before .before .before .pass .last .1 .1 .1 .1 .0) (a .out .now) (p .kept) in
+    let e = rw (c .before .before .answer2 .given .1) at (p .answer) in
+    let x = file-small (headerOf (a .file .now) (a .old)) (editedAt (a .old .version) (a .file .now) (a .old .place) (a .run) (a .new .now)) (a .out .now) _ _ _ e (rw n at (c .if1 .taken)) in
+    record { answer = x .0; buffer = n ∙ x .1 }
+
+pass-requires-2 : tie.Need-pass-requires-2
+pass-requires-2 c κs =
+    c .before .before .before .before .before .before .before .before .before .before .before .before .pre
+
+same-length-2 : tie.Need-same-length-2
+same-length-2 c = search needs
+
+returns-2 : tie.Need-returns-2
+returns-2 c =
+    let a = c .before .before .before .before .before .before .before .before .before .before .args in
+    let p = c .before .before .before .before .before .pass .ensures in
+    let n = none-before (c .before .before .before .before .before .pass .last .1 .1 .1 .1 .0) (a .out .now) (p .kept) in
+    let e = rw (c .before .answer .given .1) at (p .answer) in
+    let x = file-refused (headerOf (a .file .now) (a .old)) (editedAt (a .old .version) (a .file .now) (a .old .place) (a .run) (a .new .now)) (a .out .now) _ _ e in
+    record { answer = x .0; buffer = n ∙ x .1 }
+
+same-length-3 : tie.Need-same-length-3
+same-length-3 c = search needs
+
+returns-3 : tie.Need-returns-3
+returns-3 c =
+    let a = c .before .before .before .before .before .before .before .before .before .before .before .before .before .before .before .args in
+    let p = c .before .before .before .before .before .before .before .before .before .before .pass .ensures in
+    let n = none-before (c .before .before .before .before .before .before .before .before .before .before .pass .last .1 .1 .1 .1 .0) (a .out .now) (p .kept) in
+    let e = rw (c .before .before .before .before .before .before .answer2 .given .1) at (p .answer) in
+    let h = rw n at (c .before .before .before .before .if1 .left) in
+    let x = file-done (headerOf (a .file .now) (a .old)) (editedAt (a .old .version) (a .file .now) (a .old .place) (a .run) (a .new .now)) (a .out .now) _ _ _ e h in
+    let q = rw n at (c .before .before .pass2 .ensures) in
+    record { answer = x .0; buffer = q .written _ _ _ (sym e) h ∙ x .1 }
+
+pub write-edited-spec : {M : Type 1} → statement M
+write-edited-spec =
+    tie.close
+    (tie.spec
+    slice-relend-prefix-pass
+    slice-aggregate-pass
+    pass-requires
+    enum-known-answer
+    enum-known-answer-2
+    same-length
+    returns
+    pass-requires-2
+    same-length-2
+    returns-2
+    same-length-3
+    returns-3)

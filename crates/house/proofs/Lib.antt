@@ -1,0 +1,2 @@
+mod Match
+pub mod Turn

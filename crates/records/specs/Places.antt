@@ -1,0 +1,60 @@
+-- Where reading stands, and the next record there. Assumes nothing.
+use Prim.Native.Nat.{ℕ, _≤_, _<_}
+use mathlib.Core.Path.{_≡_}
+use mathlib.Core.List.{List}
+use lib.ListN.{length, take, drop}
+use Rattle.format.specs.Label.{labelLimit}
+use Rattle.format.specs.State.{State}
+use Rattle.format.specs.Sheet.{good, refusal, Result, stop, also}
+use Rattle.format.specs.Reading.{run}
+use Rattle.format.specs.Fields.{recordOf, stateOf}
+use Rattle.format.specs.declared.Dated.the-variants.{Undated}
+use Rattle.format.specs.declared.Position.the-variants.{Unset}
+use Rattle.records.specs.declared.Place.{Place}
+use Rattle.records.specs.declared.Found.{Found}
+use Rattle.records.specs.declared.Found.the-variants.{Refused, End, Record as Next}
+
+-- ---- where reading stands; b is the label's buffer
+
+abbrev pub labelIn : Place → List ℕ → List ℕ
+labelIn p b = take (p .len) b
+
+-- the state there
+abbrev pub stateAt : Place → List ℕ → State
+stateAt p b = stateOf (p .setting) (labelIn p b)
+
+-- what the file comes to from there on
+abbrev pub leftAt : ℕ → List ℕ → Place → List ℕ → Result
+leftAt version file p b = run version (p .at) (drop (p .at) file) (stateAt p b)
+
+-- a place that reading of the file can have
+pub record Inside (file : List ℕ) (p : Place) (b : List ℕ) : Type 0 where
+  pub place-inside : p .at ≤ length file
+  pub label-short : p .len ≤ labelLimit
+  pub label-whole : length b ≡ 4096
+
+-- "At the start the label is empty, the date none, the style "not said" (5 ..), the position unset"
+pub record Starts (p : Place) (at : ℕ) : Type 0 where
+  pub place-is : p .at ≡ at
+  pub label-empty : p .len ≡ 0
+  pub style-is : p .setting .style ≡ 5
+  pub date-is : p .setting .date ≡ Undated
+  pub position-is : p .setting .position ≡ Unset
+
+-- ---- the next record
+
+-- what the file comes to, by an answer and the label's buffer after it
+abbrev pub foundResult : ℕ → List ℕ → Found → List ℕ → Result
+foundResult version file (Refused n p) b = stop (refusal n p)
+foundResult version file End b = stop good
+foundResult version file (Next p f) b = also (recordOf f (labelIn p b)) (leftAt version file p b)
+
+-- reading has gone on, and stands in the file
+abbrev pub Further : List ℕ → Place → Found → List ℕ → Type 0
+Further file was (Refused n p) b = length b ≡ 4096
+Further file was End b = length b ≡ 4096
+Further file was (Next p f) b = (was .at < p .at) × Inside file p b
+
+pub record Finds (version : ℕ) (file : List ℕ) (was : Place) (b : List ℕ) (r : Found) (b′ : List ℕ) : Type 0 where
+  pub same : leftAt version file was b ≡ foundResult version file r b′
+  pub further : Further file was r b′

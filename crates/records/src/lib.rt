@@ -1,0 +1,131 @@
+// The records of a file, one at a time: the items are read where they lie, up to the
+// next one that makes a record.
+use format::Dated;
+use format::Fields;
+use format::Position;
+use format::Setting;
+use item::Step;
+use label::Cut;
+use label::Relabelled;
+ghost use mathlib.Core.Path.{_≡_};
+ghost use Prim.Native.Nat.{_+_, _≤_};
+ghost use lib.ListN.{length};
+ghost use Rattle.records.specs.Places.{Starts, Finds};
+ghost use Rattle.records.specs.Keeping.{Swaps, Keeps};
+
+// Where reading stands: the next item's place, the label's length and the setting. The
+// label's bytes are lent beside it.
+pub struct Place {
+    pub at: usize,
+    pub len: usize,
+    pub setting: Setting,
+}
+
+// What comes next: a refusal; the end; or a record, whose label is in the buffer, and
+// where reading then stands.
+pub enum Found {
+    Refused { number: u8, place: usize },
+    End,
+    Record { place: Place, fields: Fields },
+}
+
+// Before the first item, in the state at the start of a file.
+pub fn first_place(at: usize) -> Place
+    ensures { λ r. ⌜ Starts r at ⌝ }
+{
+    let setting = Setting {
+        style: 5,
+        date: Dated::Undated,
+        position: Position::Unset,
+    };
+    Place {
+        at,
+        len: 0,
+        setting,
+    }
+}
+
+// The next record of the file.
+pub fn next_record(file: &[u8], version: u8, from: Place, bytes: &mut [u8; 4096]) -> Found
+    requires { ⌜ (from .at ≤ length (now file)) × (from .len ≤ 4096) × (length (now bytes) ≡ 4096) ⌝ }
+    ensures { λ r. ⌜ Finds version (now (file .entry)) from (now (bytes .entry)) r (now (bytes .exit)) ⌝ }
+{
+    let mut at = from.at;
+    let mut len = from.len;
+    let mut setting = from.setting;
+    loop {
+        let rest = &file[at..];
+        let it = item::take_item(version, rest, bytes, len, setting);
+        match it {
+            Step::Bad { number } => {
+                return Found::Refused { number, place: at };
+            }
+            Step::End => {
+                if 1 < rest.len() {
+                    return Found::Refused {
+                        number: 10,
+                        place: at + 1,
+                    };
+                }
+                return Found::End;
+            }
+            Step::On {
+                size,
+                len: m,
+                setting: after,
+            } => {
+                len = m;
+                setting = after;
+                at += size;
+            }
+            Step::Made {
+                size,
+                len: m,
+                setting: after,
+                fields,
+            } => {
+                return Found::Record {
+                    place: Place {
+                        at: at + size,
+                        len: m,
+                        setting: after,
+                    },
+                    fields,
+                };
+            }
+        }
+    }
+}
+
+// A label in a buffer that held another, of len bytes: answers its length.
+fn swap_label(bytes: &mut [u8; 4096], len: usize, name: &[u8]) -> usize
+    requires { ⌜ (len ≤ 4096) × (length (now bytes) ≡ 4096) × (length (now name) ≤ 4096) ⌝ }
+    ensures { λ r. ⌜ Swaps (now (bytes .exit)) (now (name .entry)) r ⌝ }
+{
+    let after = label::label_step(bytes, len, Cut::Back { bytes: len }, name);
+    match after {
+        Relabelled::TooShort => len,
+        Relabelled::TooLong => len,
+        Relabelled::Fits { len: m } => m,
+    }
+}
+
+// The label after a record of this name, in a buffer that held the one before, of len
+// bytes: answers its length. A traverse error leaves the label as it was.
+pub fn keep_label(bytes: &mut [u8; 4096], len: usize, name: &[u8], fields: Fields) -> usize
+    requires { ⌜ (len ≤ 4096) × (length (now bytes) ≡ 4096) × (length (now name) ≤ 4096) ⌝ }
+    ensures { λ r. ⌜ Keeps (now (bytes .entry)) (now (bytes .exit)) len (now (name .entry)) fields r ⌝ }
+{
+    match fields {
+        Fields::Leg {
+            flags: _,
+            style: _,
+            date: _,
+            from: _,
+            to: _,
+        } => swap_label(bytes, len, name),
+        Fields::Station { flags: _, place: _ } => swap_label(bytes, len, name),
+        Fields::Section { last: _, size: _ } => swap_label(bytes, len, name),
+        Fields::Error { traverse: _ } => len,
+    }
+}

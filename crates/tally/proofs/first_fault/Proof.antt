@@ -1,0 +1,70 @@
+-- `tally::first_fault` meets its contract. Assumes nothing.
+use mathlib.Core.Path.{_∙_}
+use Rattle.tally.proofs.Faults.{fault-stays, fault-here}
+use borrow.Author.Tests.{eq-eqb, ne-eqb}
+use Rattle.format.specs.Bytes.{pick}
+use borrow.Author.Needs.{needs}
+use Rattle.tally.proofs.first_fault.Statement.{statement}
+use Rattle.tally.proofs.first_fault.Tie as tie
+
+returns : tie.Need-returns
+returns c = fault-stays (c .before .args .fault) _ (c .if1 .taken)
+
+enum-known-fields : tie.Need-enum-known-fields
+enum-known-fields c = search needs
+
+returns-2 : tie.Need-returns-2
+unfolding pick
+returns-2 c =
+    rw (c .before .before .before .before .if1 .left, c .before .before .fields .given .1) (simp (ne-eqb _ _ (c .if2 .taken)))
+
+returns-3 : tie.Need-returns-3
+unfolding pick
+returns-3 c =
+    rw (c .before .before .before .before .before .if1 .left, c .before .before .before .fields .given .1) (simp (eq-eqb _ _ (c .before .if2 .left), eq-eqb _ _ (c .if3 .taken)))
+
+add-result : tie.Need-add-result
+add-result c = search needs
+
+enum-told : tie.Need-enum-told
+enum-told c = search needs
+
+enum-told-2 : tie.Need-enum-told-2
+enum-told-2 c = search needs
+
+enum-told-3 : tie.Need-enum-told-3
+enum-told-3 c = search needs
+
+returns-4 : tie.Need-returns-4
+unfolding pick
+returns-4 c =
+    rw (c .before .before .before .before .before .if1 .left, c .before .before .before .fields .given .1) (fault-here (c .before .before .before .before .before .before .args .number) ∙ simp (eq-eqb _ _ (c .before .if2 .left), ne-eqb _ _ (c .if3 .left)))
+
+returns-5 : tie.Need-returns-5
+returns-5 c =
+    rw (c .before .before .if1 .left, c .enum-told .given .1)
+
+returns-6 : tie.Need-returns-6
+returns-6 c =
+    rw (c .before .before .if1 .left, c .enum-told2 .given .1)
+
+returns-7 : tie.Need-returns-7
+returns-7 c =
+    rw (c .before .before .if1 .left, c .enum-told3 .given .1)
+
+pub first-fault-spec : {M : Type 1} → statement M
+first-fault-spec =
+    tie.close
+    (tie.spec
+    returns
+    enum-known-fields
+    returns-2
+    returns-3
+    add-result
+    enum-told
+    enum-told-2
+    enum-told-3
+    returns-4
+    returns-5
+    returns-6
+    returns-7)

@@ -1,0 +1,145 @@
+// Writing one record after another: the codes of each go behind those before it, and
+// bytes, records and the first fault are counted.
+use format::Answer;
+use format::Fields;
+use format::Position;
+use format::Setting;
+ghost use mathlib.Core.Path.{_≡_};
+ghost use Prim.Native.Nat.{_≤_};
+ghost use lib.ListN.{length};
+ghost use Rattle.format.specs.Fields.{recordOf, stateOf};
+ghost use Rattle.format.specs.Sheet.{orElse, WellFormed};
+ghost use Rattle.tally.specs.Tallies.{faultOf, faultAt, bounded, Fits, Adds, Finished, settingAfter};
+
+// The bytes so far, until they are over what refusal 16 allows; the records so far; and
+// the first record with style 5 after another style, as its number and one, or 0.
+pub struct Tally {
+    pub bytes: usize,
+    pub records: usize,
+    pub fault: usize,
+}
+
+// `old` is the style before the record with this number.
+pub fn first_fault(fault: usize, old: u8, fields: Fields, number: usize) -> usize
+    requires { ⌜ number ≤ 18446744073709551614 ⌝ }
+    ensures { λ r. ⌜ faultOf r ≡ orElse (faultOf fault) (faultAt old fields number) ⌝ }
+{
+    if fault != 0 {
+        return fault;
+    }
+    match fields {
+        Fields::Leg {
+            flags: _,
+            style,
+            date: _,
+            from: _,
+            to: _,
+        } => {
+            if style != 5 {
+                return 0;
+            }
+            if old == 5 {
+                return 0;
+            }
+            number + 1
+        }
+        Fields::Station { flags: _, place: _ } => 0,
+        Fields::Section { last: _, size: _ } => 0,
+        Fields::Error { traverse: _ } => 0,
+    }
+}
+
+// The sum, until it is over what refusal 16 allows: then it stays.
+pub fn more(total: usize, n: usize) -> usize
+    requires { ⌜ (total ≤ 33554432) × (n ≤ 4139) ⌝ }
+    ensures { λ r. ⌜ r ≡ bounded total n ⌝ }
+{
+    if 16777216 < total {
+        return total;
+    }
+    total + n
+}
+
+// The index, or the length where it is past it.
+pub fn within(index: usize, len: usize) -> usize
+    ensures { λ r. ⌜ (r ≤ len) × (index ≤ len → r ≡ index) ⌝ }
+{
+    if len < index {
+        return len;
+    }
+    index
+}
+
+// One record more: its codes are written into out behind the bytes so far, where they
+// fit. `last` is the previous label and `name` the record's own.
+pub fn put_next(
+    out: &mut [u8],
+    tally: Tally,
+    setting: Setting,
+    last: &[u8],
+    name: &[u8],
+    fields: Fields,
+) -> Tally
+    requires { ⌜ Fits tally × (length (now last) ≤ 4096) × WellFormed (recordOf fields (now name)) ⌝ }
+    ensures { λ r. ⌜ Adds (stateOf setting (now (last .entry))) (recordOf fields (now (name .entry))) (now (out .entry)) (now (out .exit)) tally r ⌝ }
+{
+    let start = within(tally.bytes, out.len());
+    let n = codes::put_record(&mut out[start..], setting, last, name, fields);
+    Tally {
+        bytes: more(tally.bytes, n),
+        records: tally.records + 1,
+        fault: first_fault(tally.fault, setting.style, fields, tally.records),
+    }
+}
+
+// The end of a file: the closing codes, written where they fit into out behind the
+// bytes so far, and the answer, for room enough.
+pub fn finish(out: &mut [u8], style: u8, tally: Tally) -> Answer
+    requires { ⌜ Fits tally ⌝ }
+    ensures { λ r. ⌜ Finished (now (out .entry)) (now (out .exit)) style tally r ⌝ }
+{
+    if tally.fault != 0 {
+        return Answer::Refused {
+            number: 13,
+            place: tally.fault - 1,
+        };
+    }
+    let start = within(tally.bytes, out.len());
+    let n = ends::put_closing(&mut out[start..], style);
+    let bytes = tally.bytes + n;
+    if 16777216 < bytes {
+        return Answer::Refused {
+            number: 16,
+            place: 0,
+        };
+    }
+    Answer::Done {
+        bytes,
+        records: tally.records,
+        version: 8,
+    }
+}
+
+// ---- what a record leaves
+
+// Only a leg changes style, date and position.
+pub fn setting_after(setting: Setting, fields: Fields) -> Setting
+    ensures { λ r. ⌜ r ≡ settingAfter setting fields ⌝ }
+{
+    match fields {
+        Fields::Leg {
+            flags: _,
+            style,
+            date,
+            from: _,
+            to: point,
+        } => Setting {
+            style,
+            date,
+            position: Position::Stands { point },
+        },
+        Fields::Station { flags: _, place: _ } => setting,
+        Fields::Section { last: _, size: _ } => setting,
+        Fields::Error { traverse: _ } => setting,
+    }
+}
