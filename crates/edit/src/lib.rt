@@ -261,7 +261,8 @@ fn close(out: &mut [u8], pen: Pen) -> Answer
     ensures { λ r. ⌜ Finished (now (out .entry)) (now (out .exit)) (pen .setting .style) (pen .count) r ⌝ }
 {
     let setting = pen.setting;
-    tally::finish(out, setting.style, pen.count)
+    let count = pen.count;
+    tally::finish(out, setting.style, count.bytes, count.records, count.fault)
 }
 
 // A pass over the edited sheet: the answer, for room enough, and each piece written

@@ -94,19 +94,19 @@ pub fn put_next(
 
 // The end of a file: the closing codes, written where they fit into out behind the
 // bytes so far, and the answer, for room enough.
-pub fn finish(out: &mut [u8], style: u8, tally: Tally) -> Answer
-    requires { ⌜ Fits tally ⌝ }
-    ensures { λ r. ⌜ Finished (now (out .entry)) (now (out .exit)) style tally r ⌝ }
+pub fn finish(out: &mut [u8], style: u8, total: usize, number: usize, fault: usize) -> Answer
+    requires { ⌜ total ≤ 16781355 ⌝ }
+    ensures { λ r. ⌜ Finished (now (out .entry)) (now (out .exit)) style (record { bytes = total; records = number; fault = fault }) r ⌝ }
 {
-    if tally.fault != 0 {
+    if fault != 0 {
         return Answer::Refused {
             number: 13,
-            place: tally.fault - 1,
+            place: fault - 1,
         };
     }
-    let start = within(tally.bytes, out.len());
+    let start = within(total, out.len());
     let n = ends::put_closing(&mut out[start..], style);
-    let bytes = tally.bytes + n;
+    let bytes = total + n;
     if 16777216 < bytes {
         return Answer::Refused {
             number: 16,
@@ -115,7 +115,7 @@ pub fn finish(out: &mut [u8], style: u8, tally: Tally) -> Answer
     }
     Answer::Done {
         bytes,
-        records: tally.records,
+        records: number,
         version: 8,
     }
 }

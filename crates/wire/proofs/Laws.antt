@@ -3,13 +3,13 @@
 use mathlib.Core.Path.{_≡_, refl, sym, ap, ap₂, _∙_}
 use mathlib.Core.List.{List, [], _∷_, _++_, append-assoc, append-nil}
 use mathlib.Core.Bool.{Bool, true, false}
-use Prim.Native.Nat.{ℕ, zero, suc, _+_, _-_, _*_, _≤_, _<_}
+use Prim.Native.Nat.{ℕ, suc, _+_, _-_, _*_, _≤_, _<_, min}
 use native.Mathlib.Nat.{le-of-lt, add-zero, zero-add, add-assoc}
 use native.Mathlib.Numerals.{add-one}
 use native.Mathlib.Omega.{arith}
 use borrow.Rule.Slice.PartAt.{part-to-end}
 use borrow.Author.Tests.{eq-eqb, ne-eqb, lt-ltb, le-ltb}
-use lib.ListN.{length, take, drop, getD, set, length-append, length-take, length-drop, take-append-drop, drop-of-length-le}
+use lib.ListN.{length, take, drop, getD, set, length-append, length-take, length-drop, take-append-drop}
 use lib.Seq.{drop-drop, take-at, drop-at, drop-length, drop-cons, take-suc, append-snoc, set-at, length-take-le}
 use Rattle.format.specs.Bytes.{pick, le32, over, same}
 use Rattle.format.proofs.Basics.{pick-case, same-true}
@@ -150,16 +150,12 @@ pub common-here : (s t : List ℕ) (i : ℕ) → i < length s → i < length t �
 unfolding common pick
 common-here s t i hs ht e = rw (drop-cons s i 0, drop-cons t i 0, ne-eqb _ _ e)
 
-pub common-first : (s t : List ℕ) → length s ≡ 0 → common s t ≡ 0
+-- nothing is left of one of them
+pub common-spent : (s t : List ℕ) → min (length s) (length t) ≡ 0 → common s t ≡ 0
 unfolding common
-common-first [] t h = refl
-common-first (x ∷ s) t h = absurd (omega arith)
-
-pub common-second : (s t : List ℕ) → length t ≡ 0 → common s t ≡ 0
-unfolding common
-common-second [] t h = refl
-common-second (x ∷ s) [] h = refl
-common-second (x ∷ s) (y ∷ t) h = absurd (omega arith)
+common-spent [] t h = refl
+common-spent (x ∷ s) [] h = refl
+common-spent (x ∷ s) (y ∷ t) h = absurd (omega arith)
 
 -- no more bytes are common than either has
 pub common-within : (s t : List ℕ) → (common s t ≤ length s) × (common s t ≤ length t)

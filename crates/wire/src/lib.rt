@@ -1,6 +1,6 @@
 // Slices of bytes: copied, compared and searched.
 ghost use mathlib.Core.Path.{_≡_};
-ghost use Prim.Native.Nat.{_≤_};
+ghost use Prim.Native.Nat.{_≤_, min};
 ghost use lib.ListN.{length, take};
 ghost use Rattle.format.specs.Bytes.{same, over};
 ghost use Rattle.format.specs.Header.{lineEnd};
@@ -50,12 +50,23 @@ fn same_four(a: &[u8], b: &[u8]) -> bool
     true
 }
 
-// How many of these bytes stand before the first four that differ: a part of them.
-fn same_fours(l: &[u8], m: &[u8]) -> usize
-    ensures { λ r. ⌜ Begun (now (l .entry)) (now (m .entry)) r ⌝ }
+// The lesser of two lengths.
+fn least(a: usize, b: usize) -> usize
+    ensures { λ r. ⌜ r ≡ min a b ⌝ }
+{
+    if a < b {
+        return a;
+    }
+    b
+}
+
+// How many of the first n bytes stand before the first four that differ: a part of them.
+fn same_fours(l: &[u8], m: &[u8], n: usize) -> usize
+    requires { ⌜ (n ≤ length (now l)) × (n ≤ length (now m)) ⌝ }
+    ensures { λ r. ⌜ Begun (now (l .entry)) (now (m .entry)) r × (r ≤ n) ⌝ }
 {
     let mut i = 0;
-    while 4 <= l.len() - i && 4 <= m.len() - i {
+    while 4 <= n - i {
         if !same_four(&l[i..], &m[i..]) {
             return i;
         }
@@ -68,8 +79,9 @@ fn same_fours(l: &[u8], m: &[u8]) -> usize
 pub fn common_start(l: &[u8], m: &[u8]) -> usize
     ensures { λ r. ⌜ r ≡ common (now (l .entry)) (now (m .entry)) ⌝ }
 {
-    let mut i = same_fours(l, m);
-    while i < l.len() && i < m.len() {
+    let n = least(l.len(), m.len());
+    let mut i = same_fours(l, m, n);
+    while i < n {
         if l[i] != m[i] {
             return i;
         }

@@ -17,7 +17,7 @@ use Rattle.sheet.specs.Seen.{EntryTold}
 use Rattle.sheet.specs.declared.Entry.the-variants.{Flawed, Whole}
 use Rattle.sheet.proofs.EntryAt.{part, none-at, flawed-at, found-at, found-size}
 use Rattle.part.specs.Lays.{Puts}
-use Rattle.tally.specs.Tallies.{faultOf, faultAt, bounded, Fits, Adds, restOutcome}
+use Rattle.tally.specs.Tallies.{faultOf, faultAt, bounded, Adds, restOutcome}
 use Rattle.tally.specs.declared.Tally.{Tally}
 use Rattle.tally.proofs.Left.{Left, left-none, left-more, left-flawed, adds-next, adds-few}
 use Rattle.write.specs.Passing.{handAfter}
@@ -92,10 +92,6 @@ module _ (sheet : List ℕ) (begin head : ℕ) (d₀ d : List ℕ) (at total num
   -- no record is left
   pub going-end : length sheet ≤ at → Left x₀ head d₀ d t st (stop good)
   going-end h = rw (none-at sheet at (G .place) number h) at (G .left)
-
-  -- the closing codes can be counted
-  pub going-fits : length sheet ≤ 9223372036854775807 → Fits t
-  going-fits h = record { few-bytes = G .few; few-records = omega (arith, G .few-records, G .inside) }
 
   module _ (h : at < length sheet) where
     -- no well-formed record is there

@@ -1,7 +1,6 @@
 // The v8 file of a sheet, in two passes. The codes are written where they fit, so the
 // same pass measures when it is lent no bytes.
 use format::Setting;
-use tally::Tally;
 ghost use mathlib.Core.Path.{_≡_};
 ghost use Prim.Native.Nat.{_≤_};
 ghost use lib.ListN.{length, drop};
@@ -108,13 +107,8 @@ fn put_records(sheet: &[u8], begin: usize, out: &mut [u8], head: usize) -> forma
         number += 1;
         at = end;
     }
-    let count = Tally {
-        bytes: total,
-        records: number,
-        fault,
-    };
     let setting = hand.setting;
-    tally::finish(out, setting.style, count)
+    tally::finish(out, setting.style, total, number, fault)
 }
 
 // A pass over the sheet: the answer, for room enough, and each piece written where

@@ -4,7 +4,6 @@ use Rattle.format.specs.Bytes.{pick}
 use mathlib.Core.Path.{_∙_}
 use Rattle.format.specs.Items.{itemOf}
 use Rattle.length.specs.Parts.{partAt}
-use Rattle.kind.specs.Kinds.{newItem}
 use borrow.Author.Needs.{needs}
 use Rattle.kind.proofs.kind_of.Statement.{statement}
 use Rattle.kind.proofs.kind_of.Tie as tie
@@ -33,13 +32,21 @@ unfolding itemOf partAt pick
 returns-3 c s h e =
     rw (lt-ltb _ _ (c .before .before .before .if1 .taken)) (c .old-high .ensures s ∙ simp (e, le-ltb _ _ h, le-ltb _ _ (c .before .before .if2 .left), le-ltb _ _ (c .before .if3 .left)))
 
-new-kind-requires : tie.Need-new-kind-requires
-new-kind-requires c κs = search needs
+new-low-requires : tie.Need-new-low-requires
+new-low-requires c κs = search needs
 
 returns-4 : tie.Need-returns-4
-unfolding itemOf newItem partAt pick
+unfolding itemOf partAt pick
 returns-4 c s h e =
-    rw (le-ltb _ _ (c .before .if1 .left)) (c .new-kind .ensures .0 s ∙ simp (e, le-ltb _ _ h))
+    c .new-low .ensures .0 (partAt (c .before .before .before .args .version)) s ∙ simp (e, le-ltb _ _ h, le-ltb _ _ (c .before .before .if1 .left), lt-ltb _ _ (c .before .if4 .taken))
+
+new-high-requires : tie.Need-new-high-requires
+new-high-requires c κs = search needs
+
+returns-5 : tie.Need-returns-5
+unfolding itemOf partAt pick
+returns-5 c s h e =
+    rw (le-ltb _ _ (c .before .before .if1 .left)) (c .new-high .ensures .0 s ∙ simp (e, le-ltb _ _ h, le-ltb _ _ (c .before .if4 .left)))
 
 pub kind-of-spec : {M : Type 1} → statement M
 kind-of-spec =
@@ -51,5 +58,7 @@ kind-of-spec =
     returns-2
     old-high-requires
     returns-3
-    new-kind-requires
-    returns-4)
+    new-low-requires
+    returns-4
+    new-high-requires
+    returns-5)

@@ -5,11 +5,13 @@ use borrow.Author.Needs.{needs}
 use Rattle.tally.proofs.finish.Statement.{statement}
 use Rattle.tally.proofs.finish.Tie as tie
 
-sub-t8 : tie.Need-sub-t8
-sub-t8 c = search needs
+sub-t10 : tie.Need-sub-t10
+sub-t10 c = search needs
 
 returns : tie.Need-returns
-returns c = finish-unsaid _ _ _ (c .before .if1 .taken)
+returns c =
+    let a = c .before .before .args in
+    finish-unsaid _ _ (record { bytes = a .total; records = a .number; fault = a .fault }) (c .if1 .taken)
 
 within-requires : tie.Need-within-requires
 within-requires c κs = search needs
@@ -27,29 +29,32 @@ put-closing-requires : tie.Need-put-closing-requires
 put-closing-requires c κs = search needs
 
 add-bytes : tie.Need-add-bytes
-add-bytes c = omega (arith, c .before .before .before .before .before .before .before .before .before .pre .few-bytes, c .before .before .before .put-closing .ensures .most)
+add-bytes c =
+    omega (arith, c .before .before .before .before .before .before .before .pre, c .before .before .put-closing .ensures .most)
 
 same-length : tie.Need-same-length
 same-length c = search needs
 
 returns-2 : tie.Need-returns-2
 returns-2 c =
-    let W = c .before .before .before .before .before .before .within .ensures in
-    finish-big _ _ _ _ _ _ (c .before .before .before .before .before .before .before .if1 .left) (W .0) (W .1) (c .before .before .before .before .put-closing .ensures) (c .if2 .taken)
+    let a = c .before .before .before .before .before .before .before .before .args in
+    let W = c .before .before .before .before .before .within .ensures in
+    finish-big _ _ (record { bytes = a .total; records = a .number; fault = a .fault }) _ _ _ (c .before .before .before .before .before .before .if1 .left) (W .0) (W .1) (c .before .before .before .put-closing .ensures) (c .if2 .taken)
 
 same-length-2 : tie.Need-same-length-2
 same-length-2 c = search needs
 
 returns-3 : tie.Need-returns-3
 returns-3 c =
-    let W = c .before .before .before .before .before .before .within .ensures in
-    finish-done _ _ _ _ _ _ (c .before .before .before .before .before .before .before .if1 .left) (W .0) (W .1) (c .before .before .before .before .put-closing .ensures) (c .if2 .left)
+    let a = c .before .before .before .before .before .before .before .before .args in
+    let W = c .before .before .before .before .before .within .ensures in
+    finish-done _ _ (record { bytes = a .total; records = a .number; fault = a .fault }) _ _ _ (c .before .before .before .before .before .before .if1 .left) (W .0) (W .1) (c .before .before .before .put-closing .ensures) (c .if2 .left)
 
 pub finish-spec : {M : Type 1} → statement M
 finish-spec =
     tie.close
     (tie.spec
-    sub-t8
+    sub-t10
     returns
     within-requires
     sub-put-closing

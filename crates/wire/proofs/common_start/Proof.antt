@@ -1,38 +1,43 @@
--- `common_start` meets its contract. Assumes nothing.
+-- `wire::common_start` meets its contract. Assumes nothing.
 use borrow.Author.Needs.{needs}
-use Prim.Native.Nat.{_+_, _-_, _≤_, _<_}
+use Prim.Native.Nat.{_-_, min}
 use mathlib.Core.Path.{_≡_}
 use lib.ListN.{length, drop, length-drop}
 use native.Mathlib.Omega.{arith}
-use borrow.Author.Tests.{ltb-true, ltb-false}
 use Rattle.wire.specs.Begun.{Begun}
-use Rattle.wire.proofs.Laws.{common-past, common-here, common-first, common-second}
+use Rattle.wire.proofs.Laws.{common-past, common-here, common-spent}
 use Rattle.wire.proofs.common_start.Statement.{statement}
 use Rattle.wire.proofs.common_start.Tie as tie
 
 abbrev Inv-loop : tie.InvT-loop
-Inv-loop l m i₀ i = Begun l m i
+Inv-loop l m n i₀ i = Begun l m i
 
 abbrev μ-loop : tie.MeasureT-loop
-μ-loop l m i₀ i = length l - i
+μ-loop l m n i₀ i = n - i
+
+least-requires : tie.Need-least-requires Inv-loop μ-loop
+least-requires c κs = search needs
 
 same-fours-requires : tie.Need-same-fours-requires Inv-loop μ-loop
-same-fours-requires c κs = search needs
+same-fours-requires c κs =
+    (omega (arith, c .least .ensures), omega (arith, c .least .ensures))
 
 loop-holds : tie.Need-loop-holds Inv-loop μ-loop
 loop-holds c = search needs
 
-shared-slice-read-if2 : tie.Need-shared-slice-read-if2 Inv-loop μ-loop
-shared-slice-read-if2 c = search needs
+shared-slice-read-if1 : tie.Need-shared-slice-read-if1 Inv-loop μ-loop
+shared-slice-read-if1 c =
+    omega (arith, c .before .before .before .before .least .ensures)
 
-shared-slice-read-if2-2 : tie.Need-shared-slice-read-if2-2 Inv-loop μ-loop
-shared-slice-read-if2-2 c = search needs
+shared-slice-read-if1-2 : tie.Need-shared-slice-read-if1-2 Inv-loop μ-loop
+shared-slice-read-if1-2 c =
+    omega (arith, c .before .before .before .before .before .least .ensures)
 
 returns : tie.Need-returns Inv-loop μ-loop
 returns c =
-    let l = c .before .before .before .before .before in
-    let hm : l .loop .i < length (l .before .before .before .before .args .m .now) = ltb-true _ _ (c .before .before .before .if1 .taken) in
-    omega (arith, common-here (l .before .before .before .before .args .l .now) (l .before .before .before .before .args .m .now) (l .loop .i) (omega arith) (omega arith) (c .if2 .taken))
+    let x = c .before .before .before .before .before .before .before .before .before .args in
+    let e = c .before .before .before .before .before .before .least .ensures in
+    omega (arith, common-here (x .l .now) (x .m .now) (c .before .before .before .before .loop .i) (omega arith) (omega arith) (c .if1 .taken))
 
 add-i : tie.Need-add-i Inv-loop μ-loop
 add-i c = search needs
@@ -42,24 +47,17 @@ loop-less c = search needs
 
 loop-again : tie.Need-loop-again Inv-loop μ-loop
 loop-again c =
-    let l = c .before .before .before .before .before in
-    let hm : l .loop .i < length (l .before .before .before .before .args .m .now) = ltb-true _ _ (c .before .before .before .if1 .taken) in
-    (omega arith, omega arith, omega (arith, common-past (l .before .before .before .before .args .l .now) (l .before .before .before .before .args .m .now) (l .loop .i) (omega arith) (omega arith) (c .if2 .left)))
+    let x = c .before .before .before .before .before .before .before .before .before .args in
+    let e = c .before .before .before .before .before .before .least .ensures in
+    (omega arith, omega arith, omega (arith, common-past (x .l .now) (x .m .now) (c .before .before .before .before .loop .i) (omega arith) (omega arith) (c .if1 .left)))
 
 returns-2 : tie.Need-returns-2 Inv-loop μ-loop
 returns-2 c =
     let x = c .before .before .before .before .before .before .args in
-    let i = c .before .before .loop .i in
-    let hm : length (x .m .now) ≤ i = ltb-false _ _ (c .if1 .left) in
-    let e : length (drop i (x .m .now)) ≡ 0 = simp length-drop (omega arith) in
-    omega (arith, common-second (drop i (x .l .now)) (drop i (x .m .now)) e)
-
-returns-3 : tie.Need-returns-3 Inv-loop μ-loop
-returns-3 c =
-    let x = c .before .before .before .before .before .args in
     let i = c .before .loop .i in
-    let e : length (drop i (x .l .now)) ≡ 0 = simp length-drop (omega arith) in
-    omega (arith, common-first (drop i (x .l .now)) (drop i (x .m .now)) e)
+    let e = c .before .before .before .least .ensures in
+    let z : min (length (drop i (x .l .now))) (length (drop i (x .m .now))) ≡ 0 = simp length-drop (omega arith) in
+    omega (arith, common-spent (drop i (x .l .now)) (drop i (x .m .now)) z)
 
 pub common-start-spec : {M : Type 1} → statement M
 common-start-spec =
@@ -67,13 +65,13 @@ common-start-spec =
     (tie.spec
     Inv-loop
     μ-loop
+    least-requires
     same-fours-requires
     loop-holds
-    shared-slice-read-if2
-    shared-slice-read-if2-2
+    shared-slice-read-if1
+    shared-slice-read-if1-2
     returns
     add-i
     loop-less
     loop-again
-    returns-2
-    returns-3)
+    returns-2)

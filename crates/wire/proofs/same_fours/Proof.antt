@@ -1,11 +1,11 @@
--- `same_fours` meets its contract. Assumes nothing.
+-- `wire::same_fours` meets its contract. Assumes nothing.
 use borrow.Author.Needs.{needs}
 use Prim.Native.Nat.{_-_, _≤_}
 use mathlib.Core.Path.{_≡_, sym, _∙_}
 use borrow.Rule.Slice.PartAt.{part-to-end}
 use mathlib.Core.Bool.{true}
-use lib.ListN.{length, take, drop, length-take, length-drop}
-use borrow.Author.Tests.{leb-true, not-false}
+use lib.ListN.{take, drop, length-take, length-drop}
+use borrow.Author.Tests.{not-false}
 use Rattle.format.specs.Bytes.{same}
 use native.Mathlib.Omega.{arith}
 use Rattle.wire.specs.Begun.{Begun}
@@ -14,19 +14,16 @@ use Rattle.wire.proofs.same_fours.Statement.{statement}
 use Rattle.wire.proofs.same_fours.Tie as tie
 
 abbrev Inv-loop : tie.InvT-loop
-Inv-loop l m i₀ i = Begun l m i
+Inv-loop l m n i₀ i = Begun l m i × (i ≤ n)
 
 abbrev μ-loop : tie.MeasureT-loop
-μ-loop l m i₀ i = length l - i
+μ-loop l m n i₀ i = n - i
 
 loop-holds : tie.Need-loop-holds Inv-loop μ-loop
 loop-holds c = search needs
 
 sub-loop : tie.Need-sub-loop Inv-loop μ-loop
 sub-loop c = search needs
-
-sub-if1 : tie.Need-sub-if1 Inv-loop μ-loop
-sub-if1 c = search needs
 
 sub-same-four : tie.Need-sub-same-four Inv-loop μ-loop
 sub-same-four c = search needs
@@ -48,8 +45,6 @@ part-same-four-end-2 c = search needs
 
 same-four-requires : tie.Need-same-four-requires Inv-loop μ-loop
 same-four-requires c κs =
-    let i = c .before .before .before .before .loop .i in
-    let h : 4 ≤ length (c .before .before .before .before .before .before .before .args .m .now) - i = leb-true _ _ (c .before .before .if1 .taken) in
     (simp (length-take, length-drop) (omega arith), simp (length-take, length-drop) (omega arith))
 
 returns : tie.Need-returns Inv-loop μ-loop
@@ -63,17 +58,13 @@ loop-less c = search needs
 
 loop-again : tie.Need-loop-again Inv-loop μ-loop
 loop-again c =
-    let x = c .before .before .before .before .before .before .before .before .before .args in
-    let i = c .before .before .before .before .before .before .loop .i in
-    let h : 4 ≤ length (x .m .now) - i = leb-true _ _ (c .before .before .before .before .if1 .taken) in
-    let e : same (take 4 (drop i (x .l .now))) (take 4 (drop i (x .m .now))) ≡ true = rw (← part-to-end (x .l .now) i, ← part-to-end (x .m .now) i) (sym (c .before .same-four .ensures) ∙ not-false _ (c .if2 .left)) in
-    (omega arith, omega arith, omega (arith, common-fours (x .l .now) (x .m .now) i (omega arith) (omega arith) e))
+    let x = c .before .before .before .before .before .before .before .before .args in
+    let i = c .before .before .before .before .before .loop .i in
+    let e : same (take 4 (drop i (x .l .now))) (take 4 (drop i (x .m .now))) ≡ true = rw (← part-to-end (x .l .now) i, ← part-to-end (x .m .now) i) (sym (c .before .same-four .ensures) ∙ not-false _ (c .if1 .left)) in
+    ((omega arith, omega arith, omega (arith, common-fours (x .l .now) (x .m .now) i (omega arith) (omega arith) e)), omega arith)
 
 returns-2 : tie.Need-returns-2 Inv-loop μ-loop
 returns-2 c = search needs
-
-returns-3 : tie.Need-returns-3 Inv-loop μ-loop
-returns-3 c = search needs
 
 pub same-fours-spec : {M : Type 1} → statement M
 same-fours-spec =
@@ -83,7 +74,6 @@ same-fours-spec =
     μ-loop
     loop-holds
     sub-loop
-    sub-if1
     sub-same-four
     part-same-four-start
     part-same-four-end
@@ -95,5 +85,4 @@ same-fours-spec =
     add-i
     loop-less
     loop-again
-    returns-2
-    returns-3)
+    returns-2)

@@ -5,7 +5,7 @@ use native.Mathlib.Omega.{arith}
 use lib.ListN.{length}
 use Rattle.sheet.proofs.EntryAt.{found-formed, found-size}
 use Rattle.tally.proofs.Left.{rest-refused, left-end}
-use Rattle.write.proofs.Turn.{Going, named-short, going-none, going-end, going-fits, going-flawed, going-more}
+use Rattle.write.proofs.Turn.{Going, named-short, going-none, going-end, going-flawed, going-more}
 use Rattle.write.proofs.put_records.Statement.{statement}
 use Rattle.write.proofs.put_records.Tie as tie
 
@@ -135,8 +135,7 @@ loop-again c =
     (going-more _ _ _ _ _ _ _ _ _ _ (l .loop .inv) (c .before .before .before .before .before .before .before .before .before .before .before .before .before .before .before .before .loop-test .taken) _ _ _ T _ _ _ _ (W .0) (W .1) (c .before .before .before .before .before .put-record .ensures) (c .before .first-fault .ensures))
 
 finish-requires : tie.Need-finish-requires Inv-loop μ-loop
-finish-requires c κs =
-    going-fits _ _ _ _ _ _ _ _ _ _ (c .before .before .before .loop .inv) (omega (arith, c .before .before .before .before .before .before .before .good))
+finish-requires c κs = c .before .before .before .loop .inv .few
 
 same-length-2 : tie.Need-same-length-2 Inv-loop μ-loop
 same-length-2 c = search needs
