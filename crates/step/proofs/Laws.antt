@@ -1,21 +1,22 @@
 -- One step, by what the item at the stand comes to, on plain values. Assumes nothing.
 use Prim.Native.Nat.{ℕ, _+_, _-_, _≤_, _<_}
-use native.Mathlib.Nat.{zero-add}
 use native.Mathlib.Omega.{arith}
 use mathlib.Core.Path.{_≡_, refl, sym, ap, _∙_}
-use mathlib.Core.List.{List, []}
+use mathlib.Core.List.{List}
 use lib.ListN.{length, take, drop, length-drop}
 use lib.Seq.{length-take-le}
 use borrow.Rule.Slice.PartAt.{part-to-end}
-use borrow.Author.Tests.{lt-ltb, le-ltb}
+use mathlib.Core.Bool.{Bool, true, false}
+use lib.Dec.{ltb}
+use borrow.Author.Tests.{ltb-true, ltb-false, lt-ltb, le-ltb}
 use Rattle.format.specs.Bytes.{pick, over}
-use Rattle.format.specs.Header.{Opening, shut, opened, openingOf}
-use Rattle.format.specs.State.{State, start, Record, Next, bad, end, on, made}
-use Rattle.format.specs.Sheet.{good, refusal, layout}
+use Rattle.format.specs.Header.{Opening, shut, opened}
+use Rattle.format.specs.State.{State, Record, Next}
+use Rattle.format.specs.Sheet.{layout}
 use Rattle.format.specs.Reading.{next, ended}
 use Rattle.format.specs.Fields.{recordOf, stateOf}
-use Rattle.format.specs.Stepping.{Stand, before, stopped, standOf, openStand, Step, stepNext, recorded, stepOf, stepBuffer}
-use Rattle.format.specs.Answers.{OpenOutcome, begun, unopened, openOutcome}
+use Rattle.format.specs.Stepping.{standOf, stepNext, recorded, stepOf, stepBuffer}
+use Rattle.format.specs.Answers.{begun, unopened, openOutcome}
 use Rattle.format.proofs.ReadingLaws.{SizedNext, next-sized}
 use Rattle.format.specs.declared.Setting.{Setting}
 use Rattle.format.specs.declared.Fields.{Fields}
@@ -27,10 +28,11 @@ use Rattle.item.specs.declared.Step.{Step as ItemStep}
 use Rattle.item.specs.declared.Step.the-variants.{Bad, End, On, Made}
 use Rattle.record.specs.Size.{recordSize}
 use Rattle.record.proofs.Laws.{size-is}
-use Rattle.step.specs.Standing.{standSeen, Inside, Fresh, Stays, Steps}
+use Rattle.step.specs.Standing.{standSeen, Inside, Fresh, Stays, Ends, behindItem, Records, Steps}
 use Rattle.step.specs.declared.Phase.{Phase}
 use Rattle.step.specs.declared.Phase.the-variants.{Going, Ended, Refused}
 use Rattle.step.specs.declared.Stand.{Stand as Held}
+use Rattle.step.specs.declared.Taken.{Taken}
 
 -- ---- opening
 
@@ -82,23 +84,27 @@ module _ (h : Held) (file old : List ℕ) (g : h .phase ≡ Going) (I : Inside h
   stays-inside t phase S =
       record { place-inside = rw (S .place-is) (I .place-inside); label-short = rw (S .label-is) (I .label-short); label-whole = rw (S .label-is) (I .label-whole) }
 
-  pub step-bad : (k : ℕ) (t : Held) → Found (Bad k) → Stays t h (Refused k (h .place)) → Steps h file old (record { answer = StepRefused k (h .place); stand = t }) old
+  pub step-bad : (k : ℕ) (t : Taken) → Found (Bad k) → (t .answer ≡ StepRefused k (h .place)) × Stays (t .stand) h (Refused k (h .place)) → Steps h file old t old
   unfolding stepBuffer over
-  step-bad k t T S = record { answer = rw (one (Bad k) T); stand = rw (S .phase-is, one (Bad k) T); buffer = rw (one (Bad k) T); inside = stays-inside t _ S }
+  step-bad k t T S =
+      record { answer = rw (S .0, one (Bad k) T); stand = rw (S .1 .phase-is, one (Bad k) T); buffer = rw (one (Bad k) T); inside = stays-inside (t .stand) _ (S .1) }
 
-  pub step-after : (t : Held) → Found End → 1 < length rest → Stays t h (Refused 10 (h .place + 1)) → Steps h file old (record { answer = StepRefused 10 (h .place + 1); stand = t }) old
+  step-after : (t : Taken) → Found End → 1 < length rest → (t .answer ≡ StepRefused 10 (h .place + 1)) × Stays (t .stand) h (Refused 10 (h .place + 1)) → Steps h file old t old
   unfolding stepBuffer over ended pick
   step-after t T l S =
-      record { answer = rw (one End T, lt-ltb _ _ l); stand = rw (S .phase-is, one End T, lt-ltb _ _ l); buffer = rw (one End T); inside = stays-inside t _ S }
+      record { answer = rw (S .0, one End T, lt-ltb _ _ l); stand = rw (S .1 .phase-is, one End T, lt-ltb _ _ l); buffer = rw (one End T); inside = stays-inside (t .stand) _ (S .1) }
 
-  pub step-end : (t : Held) → Found End → length rest ≤ 1 → Stays t h Ended → Steps h file old (record { answer = EndStep; stand = t }) old
+  step-last : (t : Taken) → Found End → length rest ≤ 1 → (t .answer ≡ EndStep) × Stays (t .stand) h Ended → Steps h file old t old
   unfolding stepBuffer over ended pick
-  step-end t T l S =
-      record { answer = rw (one End T, le-ltb _ _ l); stand = rw (S .phase-is, one End T, le-ltb _ _ l); buffer = rw (one End T); inside = stays-inside t _ S }
+  step-last t T l S =
+      record { answer = rw (S .0, one End T, le-ltb _ _ l); stand = rw (S .1 .phase-is, one End T, le-ltb _ _ l); buffer = rw (one End T); inside = stays-inside (t .stand) _ (S .1) }
 
-  -- where the reader stands after an item of n bytes that leaves a label of m
-  abbrev pub there : ℕ → ℕ → Setting → Held
-  there n m st = record { phase = Going; version = h .version; place = h .place + n; label = record { bytes = b; len = m }; setting = st }
+  pub step-end : (t : Taken) → Found End → Ends h (length rest) t → Steps h file old t old
+  step-end t T E = go (ltb 1 (length rest)) refl
+    where
+      go : (x : Bool) → ltb 1 (length rest) ≡ x → Steps h file old t old
+      go true e = let l = ltb-true 1 (length rest) e in step-after t T l (E .more l)
+      go false e = let l = ltb-false 1 (length rest) e in step-last t T l (E .none l)
 
   pub on-fits : (n m : ℕ) (st : Setting) → Found (On n m st) → h .place + n ≤ length file
   on-fits n m st T = let z = size (On n m st) T in omega (arith, z .1, I .place-inside)
@@ -106,7 +112,7 @@ module _ (h : Held) (file old : List ℕ) (g : h .phase ≡ Going) (I : Inside h
   pub made-fits : (n m : ℕ) (st : Setting) (f : Fields) → Found (Made n m st f) → h .place + n ≤ length file
   made-fits n m st f T = let z = size (Made n m st f) T in omega (arith, z .1, I .place-inside)
 
-  pub step-on : (n m : ℕ) (st : Setting) → Found (On n m st) → Steps h file old (record { answer = Nothing; stand = there n m st }) old
+  pub step-on : (n m : ℕ) (st : Setting) → Found (On n m st) → Steps h file old (record { answer = Nothing; stand = behindItem h n (record { bytes = b; len = m }) st }) old
   unfolding stepBuffer over
   step-on n m st T =
       record {
@@ -116,16 +122,19 @@ module _ (h : Held) (file old : List ℕ) (g : h .phase ≡ Going) (I : Inside h
         inside = record { place-inside = on-fits n m st T; label-short = T .short; label-whole = T .whole };
       }
 
-  module _ (n m k : ℕ) (st : Setting) (f : Fields) (T : Found (Made n m st f)) (q : k ≡ recordSize f m) where
+  module _ (n m : ℕ) (st : Setting) (f : Fields) (T : Found (Made n m st f)) where
+    abbrev k : ℕ
+    k = recordSize f m
+
     abbrev rec : Record
     rec = recordOf f (take m b)
 
     bytes-are : length (layout rec) ≡ k
     bytes-are =
         let l : length (take m b) ≡ m = length-take-le m b (omega (arith, T .short, T .whole)) in
-        size-is f (take m b) ∙ rw l (sym q)
+        size-is f (take m b) ∙ rw l
 
-    pub step-small : length old < k → Steps h file old (record { answer = StepRefused 11 k; stand = h }) old
+    step-small : length old < k → Steps h file old (record { answer = StepRefused 11 k; stand = h }) old
     unfolding stepBuffer over recorded pick
     step-small l =
         record {
@@ -135,9 +144,9 @@ module _ (h : Held) (file old : List ℕ) (g : h .phase ≡ Going) (I : Inside h
           inside = I;
         }
 
-    pub step-made : k ≤ length old → (new : List ℕ) → new ≡ laidIf old 0 (layout rec) → Steps h file old (record { answer = RecordStep k; stand = there n m st }) new
+    step-fits : k ≤ length old → (new : List ℕ) → new ≡ laidIf old 0 (layout rec) → Steps h file old (record { answer = RecordStep k; stand = behindItem h n (record { bytes = b; len = m }) st }) new
     unfolding stepBuffer recorded pick
-    step-made l new e =
+    step-fits l new e =
         let z : 0 + length (layout rec) ≤ length old = omega (arith, bytes-are) in
         let y : new ≡ over (layout rec) old = e ∙ laid-some old (layout rec) 0 z ∙ laid-zero old (layout rec) in
         record {
@@ -146,3 +155,10 @@ module _ (h : Held) (file old : List ℕ) (g : h .phase ≡ Going) (I : Inside h
           buffer = rw (one (Made n m st f) T, bytes-are, le-ltb _ _ l) y;
           inside = record { place-inside = made-fits n m st f T; label-short = T .short; label-whole = T .whole };
         }
+
+    pub step-made : (t : Taken) (new : List ℕ) → Records h n (record { bytes = b; len = m }) st f old t new → Steps h file old t new
+    step-made t new R = go (ltb (length old) k) refl
+      where
+        go : (x : Bool) → ltb (length old) k ≡ x → Steps h file old t new
+        go true e = let r = R .small (ltb-true (length old) k e) in rw (r .0, r .1) (step-small (ltb-true (length old) k e))
+        go false e = let r = R .fits (ltb-false (length old) k e) in rw (r .0) (step-fits (ltb-false (length old) k e) new (r .1))

@@ -1,17 +1,23 @@
 -- Where a step reader stands, as the code holds it. Assumes nothing.
-use Prim.Native.Nat.{ℕ, _≤_}
+use Prim.Native.Nat.{ℕ, _+_, _≤_, _<_}
 use mathlib.Core.Path.{_≡_}
 use mathlib.Core.List.{List}
 use lib.ListN.{length, take}
 use Rattle.format.specs.Label.{labelLimit}
-use Rattle.format.specs.Sheet.{good, refusal}
-use Rattle.format.specs.Fields.{stateOf}
-use Rattle.format.specs.Stepping.{Stand, before, stopped, StepOutcome, Step, stepOf, stepBuffer}
+use Rattle.format.specs.Sheet.{good, refusal, layout}
+use Rattle.format.specs.Fields.{recordOf, stateOf}
+use Rattle.format.specs.Stepping.{Stand, before, stopped, stepOf, stepBuffer}
 use Rattle.format.specs.Answers.{steppedOf}
 use Rattle.format.specs.declared.Opened.{Opened}
 use Rattle.format.specs.declared.Opened.the-variants.{At, Refused as OpenRefused}
+use Rattle.format.specs.declared.Setting.{Setting}
+use Rattle.format.specs.declared.Fields.{Fields}
+use Rattle.format.specs.declared.Stepped.the-variants.{Record as RecordStep, End as EndStep, Refused as StepRefused}
 use Rattle.format.specs.declared.Dated.the-variants.{Undated}
 use Rattle.format.specs.declared.Position.the-variants.{Unset}
+use Rattle.wire.specs.Laid.{laidIf}
+use Rattle.label.specs.declared.Label.{Label}
+use Rattle.record.specs.Size.{recordSize}
 use Rattle.step.specs.declared.Phase.{Phase}
 use Rattle.step.specs.declared.Phase.the-variants.{Going, Ended, Refused}
 use Rattle.step.specs.declared.Stand.{Stand as Held}
@@ -53,6 +59,23 @@ pub record Stays (h was : Held) (phase : Phase) : Type 0 where
   pub phase-is : h .phase ≡ phase
   pub place-is : h .place ≡ was .place
   pub label-is : h .label ≡ was .label
+
+-- ---- one step, by what the item comes to
+
+-- the end item, where `left` bytes are left: 10, or the end
+pub record Ends (h : Held) (left : ℕ) (t : Taken) : Type 0 where
+  pub more : 1 < left → (t .answer ≡ StepRefused 10 (h .place + 1)) × Stays (t .stand) h (Refused 10 (h .place + 1))
+  pub none : left ≤ 1 → (t .answer ≡ EndStep) × Stays (t .stand) h Ended
+
+-- where a reader stands behind an item of n bytes
+abbrev pub behindItem : Held → ℕ → Label → Setting → Held
+behindItem h n label setting = record { phase = Going; version = h .version; place = h .place + n; label = label; setting = setting }
+
+-- an item that makes a record: 11, which changes nothing, or the record at the front of the buffer
+pub record Records (h : Held) (n : ℕ) (label : Label) (setting : Setting) (f : Fields) (old : List ℕ) (t : Taken) (new : List ℕ) : Type 0 where
+  pub small : length old < recordSize f (label .len) → (t ≡ record { answer = StepRefused 11 (recordSize f (label .len)); stand = h }) × (new ≡ old)
+  pub fits : recordSize f (label .len) ≤ length old
+      → (t ≡ record { answer = RecordStep (recordSize f (label .len)); stand = behindItem h n label setting }) × (new ≡ laidIf old 0 (layout (recordOf f (take (label .len) (label .bytes)))))
 
 -- an answer and the buffer after it are one step from a stand
 pub record Steps (h : Held) (file old : List ℕ) (t : Taken) (new : List ℕ) : Type 0 where

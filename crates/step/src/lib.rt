@@ -6,9 +6,10 @@ ghost use lib.ListN.{length};
 ghost use Rattle.format.specs.Header.{openingOf};
 ghost use Rattle.format.specs.Stepping.{openStand, stepOf, stepBuffer};
 ghost use Rattle.format.specs.Answers.{openOutcome, openedOf, steppedOf};
-ghost use Rattle.step.specs.Standing.{Within, standSeen, Inside, Fresh, Stays, Steps};
+ghost use Rattle.step.specs.Standing.{Within, standSeen, Inside, Fresh, Stays, Ends, behindItem, Records, Steps};
 ghost use Rattle.step.specs.declared.Phase.the-variants.{Going};
 use format::Dated;
+use format::Fields;
 use format::Opened;
 use format::Position;
 use format::Setting;
@@ -110,89 +111,108 @@ fn halted(stand: Stand, phase: Phase) -> Stand
     }
 }
 
+// A step after which the reader is halted: what it answers comes again.
+fn last_step(stand: Stand, answer: Stepped, phase: Phase) -> Taken
+    ensures { λ r. ⌜ (r .answer ≡ answer) × Stays (r .stand) stand phase ⌝ }
+{
+    Taken {
+        answer,
+        stand: halted(stand, phase),
+    }
+}
+
+// A step at the end item, from which `left` bytes are left: 10 where others follow it.
+fn end_step(stand: Stand, left: usize) -> Taken
+    requires { ⌜ stand .place ≤ 9223372036854775807 ⌝ }
+    ensures { λ r. ⌜ Ends stand left r ⌝ }
+{
+    if 1 < left {
+        let number = 10;
+        let place = stand.place + 1;
+        return last_step(
+            stand,
+            Stepped::Refused { number, place },
+            Phase::Refused { number, place },
+        );
+    }
+    last_step(stand, Stepped::End, Phase::Ended)
+}
+
+// The stand behind an item of so many bytes.
+fn behind(stand: Stand, size: usize, label: Label, setting: Setting) -> Stand
+    requires { ⌜ stand .place + size ≤ 9223372036854775807 ⌝ }
+    ensures { λ r. ⌜ r ≡ behindItem stand size label setting ⌝ }
+{
+    Stand {
+        phase: Phase::Going,
+        version: stand.version,
+        place: stand.place + size,
+        label,
+        setting,
+    }
+}
+
+// A step over an item that makes a record: 11 leaves the reader where it was.
+fn record_step(
+    stand: Stand,
+    out: &mut [u8],
+    size: usize,
+    label: Label,
+    setting: Setting,
+    fields: Fields,
+) -> Taken
+    requires { ⌜ (stand .place + size ≤ 9223372036854775807) × (label .len ≤ 4096) × (length (label .bytes) ≡ 4096) ⌝ }
+    ensures { λ r. ⌜ Records stand size label setting fields (now (out .entry)) r (now (out .exit)) ⌝ }
+{
+    let bytes = record::record_size(fields, label.len);
+    if out.len() < bytes {
+        return Taken {
+            answer: Stepped::Refused {
+                number: 11,
+                place: bytes,
+            },
+            stand,
+        };
+    }
+    record::lay_record(out, 0, fields, &label.bytes, label.len);
+    Taken {
+        answer: Stepped::Record { bytes },
+        stand: behind(stand, size, label, setting),
+    }
+}
+
 // One step from a stand before an item.
 fn step_item(file: &[u8], stand: Stand, out: &mut [u8]) -> Taken
     requires { ⌜ Inside stand (now file) × (stand .phase ≡ Going) ⌝ }
     ensures { λ r. ⌜ Steps stand (now (file .entry)) (now (out .entry)) r (now (out .exit)) ⌝ }
 {
     let mut label = stand.label;
-    let version = stand.version;
     let at = stand.place;
     let old = label.len;
-    let setting = stand.setting;
     let rest = &file[at..];
-    let it = item::take_item(version, rest, &mut label.bytes, old, setting);
+    let it = item::take_item(stand.version, rest, &mut label.bytes, old, stand.setting);
     match it {
-        Step::Bad { number } => Taken {
-            answer: Stepped::Refused { number, place: at },
-            stand: halted(stand, Phase::Refused { number, place: at }),
-        },
-        Step::End => {
-            if 1 < rest.len() {
-                return Taken {
-                    answer: Stepped::Refused {
-                        number: 10,
-                        place: at + 1,
-                    },
-                    stand: halted(
-                        stand,
-                        Phase::Refused {
-                            number: 10,
-                            place: at + 1,
-                        },
-                    ),
-                };
-            }
-            Taken {
-                answer: Stepped::End,
-                stand: halted(stand, Phase::Ended),
-            }
-        }
-        Step::On {
-            size,
-            len,
-            setting: after,
-        } => {
+        Step::Bad { number } => last_step(
+            stand,
+            Stepped::Refused { number, place: at },
+            Phase::Refused { number, place: at },
+        ),
+        Step::End => end_step(stand, rest.len()),
+        Step::On { size, len, setting } => {
             label.len = len;
             Taken {
                 answer: Stepped::Nothing,
-                stand: Stand {
-                    phase: Phase::Going,
-                    version,
-                    place: at + size,
-                    label,
-                    setting: after,
-                },
+                stand: behind(stand, size, label, setting),
             }
         }
         Step::Made {
             size,
             len,
-            setting: after,
+            setting,
             fields,
         } => {
-            let bytes = record::record_size(fields, len);
-            if out.len() < bytes {
-                return Taken {
-                    answer: Stepped::Refused {
-                        number: 11,
-                        place: bytes,
-                    },
-                    stand,
-                };
-            }
-            record::lay_record(out, 0, fields, &label.bytes, len);
             label.len = len;
-            Taken {
-                answer: Stepped::Record { bytes },
-                stand: Stand {
-                    phase: Phase::Going,
-                    version,
-                    place: at + size,
-                    label,
-                    setting: after,
-                },
-            }
+            record_step(stand, out, size, label, setting, fields)
         }
     }
 }
