@@ -1,5 +1,5 @@
-//! The proved reader and writer against the second implementation's, in time:
-//! one run, one thread, the two taking turns.
+//! The proved reader, writer and editor against the second implementation's, in
+//! time: one run, one thread, the two taking turns.
 //!
 //! An argument asks for another number of repetitions.
 
@@ -22,6 +22,28 @@ fn main() {
     for version in [8, 3, 7] {
         versions(version, repeats);
     }
+    edits(repeats);
+}
+
+/// Ten records in the middle of a house-written file make way for a station.
+fn edits(repeats: usize) {
+    let sheet = read_sheet(&legs(8));
+    let mut file = vec![0; needed(second::write, &sheet)];
+    second::write(&sheet, &mut file);
+    println!("v8: house-written file {} bytes", file.len());
+    let editing = Pair { proved: proved_edit, second: second_edit };
+    report("edit", survex3d::HAS_EDIT, &file, needed(second_edit, &file), editing, repeats);
+}
+
+/// A station `a` at the origin, with its length bytes.
+const STATION: [u8; 17] = [0, 15, 2, 0, 0, 0, 0, 0, 0, 0, 0, 0, 0, 0, 0, 0, b'a'];
+
+fn proved_edit(file: &[u8], out: &mut [u8]) -> Answer {
+    survex3d::edit(file, 300_000, 10, &STATION, out)
+}
+
+fn second_edit(file: &[u8], out: &mut [u8]) -> Answer {
+    second::edit(file, 300_000, 10, &STATION, out)
 }
 
 /// Reads and writes a file of one version.
