@@ -352,7 +352,7 @@ fn put_error(out: &mut [u8], traverse: format::Traverse) -> usize
 
 // The codes of one record, written over the front of out where they fit; answers
 // their length either way. `last` is the previous label and `name` the record's own.
-// Where they do not fit, only out's length is promised: each caller has measured first.
+// Where they do not fit, only out's length is promised: callers measure, or have room.
 pub fn put_record(
     out: &mut [u8],
     setting: format::Setting,
