@@ -1,6 +1,6 @@
 -- Comparisons in the numbers of the interface for C. Assumes nothing.
-use Prim.Native.Nat.{ℕ}
-use Rattle.format.specs.Times.{Comparison, first, second, equal, firstRefused, secondRefused, Handed}
+use Rattle.format.specs.Times.{Comparison, first, second, equal, firstRefused, secondRefused}
+use Rattle.format.specs.declared.Handed.{Handed}
 use Rattle.capi.specs.declared.Compared.{Compared}
 
 -- 1, 2 or 0: the first file is later, the second, neither, with the later line's place and length; 3 is a refusal, with the file that it names

@@ -2,16 +2,15 @@
 ghost use mathlib.Core.Path.{_≡_};
 ghost use lib.ListN.{length};
 ghost use Rattle.format.specs.Reading.{readOutcome, readBuffer};
-ghost use Rattle.format.specs.Writing.{writeOutcome, writeBuffer};
-ghost use Rattle.format.specs.Editing.{convertOutcome, convertBuffer};
+ghost use Rattle.format.specs.Writing.{v8, writeOutcome, writeBuffer};
+ghost use Rattle.format.specs.Conversion.{convertOutcome, convertBuffer};
 ghost use Rattle.format.specs.Times.{compareOf, laterPart};
 ghost use Rattle.format.specs.Answers.{laterOf};
-ghost use Rattle.timeline.specs.Handing.{partSeen};
-ghost use Rattle.told.specs.Numbers.{toldOf};
+ghost use Rattle.told.specs.Numbers.{outcomeNumbers};
 ghost use Rattle.capi.specs.Compares.{comparedOf};
+use format::Handed;
 use format::Later;
-use timeline::Part;
-use told::Told;
+use told::AnswerNumbers;
 
 // Which file is later: 1 the first, 2 the second, with the place and the length of its
 // time line; 0 neither; or 3 and the file that is refused, 1 or 2, with the refusal's
@@ -27,8 +26,8 @@ pub struct Compared {
 
 // Reads a file into the lent sheet.
 #[no_mangle]
-pub extern "C" fn cockledrift_read(file: &[u8], sheet: &mut [u8]) -> Told
-    ensures answer { λ r. ⌜ r ≡ toldOf (readOutcome (now (file .entry)) (length (now (sheet .entry)))) ⌝ }
+pub extern "C" fn cockledrift_read(file: &[u8], sheet: &mut [u8]) -> AnswerNumbers
+    ensures answer { λ r. ⌜ r ≡ outcomeNumbers (readOutcome (now (file .entry)) (length (now (sheet .entry)))) ⌝ }
     ensures sheet { λ _. ⌜ now (sheet .exit) ≡ readBuffer (now (file .entry)) (now (sheet .entry)) ⌝ }
 {
     let a = read::read(file, sheet);
@@ -37,9 +36,9 @@ pub extern "C" fn cockledrift_read(file: &[u8], sheet: &mut [u8]) -> Told
 
 // Writes a sheet as a v8 file into the lent buffer.
 #[no_mangle]
-pub extern "C" fn cockledrift_write(sheet: &[u8], out: &mut [u8]) -> Told
-    ensures answer { λ r. ⌜ r ≡ toldOf (writeOutcome (now (sheet .entry)) (length (now (out .entry)))) ⌝ }
-    ensures file { λ _. ⌜ now (out .exit) ≡ writeBuffer (now (sheet .entry)) (now (out .entry)) ⌝ }
+pub extern "C" fn cockledrift_write(sheet: &[u8], out: &mut [u8]) -> AnswerNumbers
+    ensures answer { λ r. ⌜ r ≡ outcomeNumbers (writeOutcome v8 (now (sheet .entry)) (length (now (out .entry)))) ⌝ }
+    ensures file { λ _. ⌜ now (out .exit) ≡ writeBuffer v8 (now (sheet .entry)) (now (out .entry)) ⌝ }
 {
     let a = write::write(sheet, out);
     told::tell(a)
@@ -47,8 +46,12 @@ pub extern "C" fn cockledrift_write(sheet: &[u8], out: &mut [u8]) -> Told
 
 // Reads a file to the lent sheet, then writes it as v8.
 #[no_mangle]
-pub extern "C" fn cockledrift_convert(file: &[u8], sheet: &mut [u8], out: &mut [u8]) -> Told
-    ensures answer { λ r. ⌜ r ≡ toldOf (convertOutcome (now (file .entry)) (now (sheet .entry)) (length (now (out .entry)))) ⌝ }
+pub extern "C" fn cockledrift_convert(
+    file: &[u8],
+    sheet: &mut [u8],
+    out: &mut [u8],
+) -> AnswerNumbers
+    ensures answer { λ r. ⌜ r ≡ outcomeNumbers (convertOutcome (now (file .entry)) (now (sheet .entry)) (length (now (out .entry)))) ⌝ }
     ensures sheet { λ _. ⌜ now (sheet .exit) ≡ readBuffer (now (file .entry)) (now (sheet .entry)) ⌝ }
     ensures file { λ _. ⌜ now (out .exit) ≡ convertBuffer (now (file .entry)) (now (sheet .entry)) (now (out .entry)) ⌝ }
 {
@@ -57,7 +60,7 @@ pub extern "C" fn cockledrift_convert(file: &[u8], sheet: &mut [u8], out: &mut [
 }
 
 // A comparison with no refusal.
-fn judged(which: u64, line: Part) -> Compared
+fn judged(which: u64, line: Handed) -> Compared
     ensures { λ r. ⌜ r ≡ record { which = which; file = 0; number = 0; place = line .place; length = line .size } ⌝ }
 {
     Compared {
@@ -82,8 +85,8 @@ fn refused(file: u64, number: u8, place: usize) -> Compared
     }
 }
 
-fn tell_later(l: Later, line: Part) -> Compared
-    ensures { λ r. ⌜ r ≡ comparedOf (laterOf l) (partSeen line) ⌝ }
+fn tell_later(l: Later, line: Handed) -> Compared
+    ensures { λ r. ⌜ r ≡ comparedOf (laterOf l) line ⌝ }
 {
     match l {
         Later::First => judged(1, line),

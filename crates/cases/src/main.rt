@@ -1,7 +1,7 @@
 // Cases 11, 12 and 13 of document 01, run through the proved functions; a line each.
 use format::Answer;
 use format::Later;
-use listing::Told;
+use listing::Printed;
 
 // Prints the first n bytes of a line.
 fn print_line(line: &[u8], n: usize) {
@@ -12,7 +12,7 @@ fn print_line(line: &[u8], n: usize) {
 
 fn print_refusal(number: u8, place: usize) {
     let mut line = [0u8; 64];
-    let n = listing::list(Told::Refused { number, place }, b"", &mut line);
+    let n = listing::list(Printed::Refused { number, place }, b"", &mut line);
     print_line(&line, n);
 }
 
@@ -28,7 +28,7 @@ fn run_read(file: &[u8]) {
             records: _,
             version,
         } => {
-            let n = listing::list(Told::Sheet { version }, &sheet[..bytes], &mut text);
+            let n = listing::list(Printed::Sheet { version }, &sheet[..bytes], &mut text);
             print_line(&text, n);
         }
     }

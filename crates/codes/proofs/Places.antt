@@ -4,7 +4,7 @@ use mathlib.Core.Path.{_≡_}
 use mathlib.Core.Bool.{false}
 use lib.Dec.{eqb}
 use borrow.Author.Tests.{eq-eqb, ne-eqb}
-use Rattle.format.specs.Writing.{samePoint}
+use Rattle.format.specs.Codes.{samePoint}
 use Rattle.format.specs.declared.Point.{Point}
 
 module _ (p q : Point) where

@@ -6,16 +6,17 @@ ghost use Prim.Native.Nat.{ℕ, _+_, _-_, _≤_};
 ghost use lib.ListN.{length, drop};
 ghost use Rattle.format.specs.Bytes.{toLe16, toLe32, same};
 ghost use Rattle.format.specs.Fields.{recordOf, stateOf};
-ghost use Rattle.format.specs.Sheet.{pointBytes, dimensionBytes, traverseBytes, WellFormed, GoodDated, GoodLeg, GoodStation, GoodSection};
+ghost use Rattle.format.specs.Sheet.{pointBytes, dimensionBytes, traverseBytes};
+ghost use Rattle.format.specs.WellFormed.{WellFormed, GoodDated, GoodLeg, GoodStation, GoodSection};
 ghost use Rattle.format.specs.State.{leg, station, section, error};
-ghost use Rattle.format.specs.Writing.{sameDate, dateCodes, samePoint, standsAt, fitsShort, allShort, codes};
+ghost use Rattle.format.specs.Codes.{sameDate, dateCodes, samePoint, standsAt, styleIf, dateIf, moveIf, lineCodes, stationCodes, fitsShort, allShort, sectionCodes, errorCodes, codesLimit, codes};
 ghost use Rattle.format.specs.declared.Dated.the-variants.{Range};
 use part::kept_bytes;
 use part::put;
 use part::put_label;
 use part::shared;
 ghost use Rattle.part.specs.Lays.{Lays, Puts};
-ghost use Rattle.codes.specs.Pieces.{styleOver, dateOver, moveOver, lineOver, stationOver, sectionOver, errorOver};
+ghost use Rattle.format.specs.Label.{labelLimit};
 
 // ---- pieces
 
@@ -162,7 +163,7 @@ fn stands_at(position: format::Position, p: format::Point) -> bool
 
 fn put_style(out: &mut [u8], at: usize, old: u8, style: u8) -> usize
     requires { ⌜ at ≤ 32768 ⌝ }
-    ensures { λ r. ⌜ Lays (now (out .entry)) (now (out .exit)) at (styleOver old style) 1 r ⌝ }
+    ensures { λ r. ⌜ Lays (now (out .entry)) (now (out .exit)) at (styleIf old style) 1 r ⌝ }
 {
     if old == style {
         return at;
@@ -186,11 +187,11 @@ fn put_range(out: &mut [u8], at: usize, first: u16, last: u16) -> usize
     let d = number::le16_bytes(wide_day(first));
     let span = last - first;
     if span <= 255 {
-        let code = [18, d[0], d[1], span as u8];
+        let code = [0x12, d[0], d[1], span as u8];
         return put(out, at, &code);
     }
     let e = number::le16_bytes(wide_day(last));
-    let code = [19, d[0], d[1], e[0], e[1]];
+    let code = [0x13, d[0], d[1], e[0], e[1]];
     put(out, at, &code)
 }
 
@@ -200,12 +201,12 @@ fn put_date(out: &mut [u8], at: usize, date: format::Dated) -> usize
 {
     match date {
         format::Dated::Undated => {
-            let code = [16];
+            let code = [0x10];
             put(out, at, &code)
         }
         format::Dated::Day { day } => {
             let d = number::le16_bytes(wide_day(day));
-            let code = [17, d[0], d[1]];
+            let code = [0x11, d[0], d[1]];
             put(out, at, &code)
         }
         format::Dated::Range { first, last } => put_range(out, at, first, last),
@@ -214,7 +215,7 @@ fn put_date(out: &mut [u8], at: usize, date: format::Dated) -> usize
 
 fn put_date_if(out: &mut [u8], at: usize, old: format::Dated, date: format::Dated) -> usize
     requires { ⌜ (at ≤ 32768) × GoodDated date ⌝ }
-    ensures { λ r. ⌜ Lays (now (out .entry)) (now (out .exit)) at (dateOver old date) 5 r ⌝ }
+    ensures { λ r. ⌜ Lays (now (out .entry)) (now (out .exit)) at (dateIf old date) 5 r ⌝ }
 {
     if same_date(old, date) {
         return at;
@@ -224,12 +225,12 @@ fn put_date_if(out: &mut [u8], at: usize, old: format::Dated, date: format::Date
 
 fn put_move_if(out: &mut [u8], at: usize, position: format::Position, from: format::Point) -> usize
     requires { ⌜ at ≤ 32768 ⌝ }
-    ensures { λ r. ⌜ Lays (now (out .entry)) (now (out .exit)) at (moveOver position from) 13 r ⌝ }
+    ensures { λ r. ⌜ Lays (now (out .entry)) (now (out .exit)) at (moveIf position from) 13 r ⌝ }
 {
     if stands_at(position, from) {
         return at;
     }
-    let code = [15];
+    let code = [0x0f];
     let next = put(out, at, &code);
     let place = point_bytes(from);
     put(out, next, &place)
@@ -244,17 +245,17 @@ fn put_line(
     flags: u8,
     to: format::Point,
 ) -> usize
-    requires { ⌜ (at ≤ 4096) × (length (now last) ≤ 4096) × (length (now name) ≤ 4096) × (flags ≤ 7) ⌝ }
-    ensures { λ r. ⌜ Lays (now (out .entry)) (now (out .exit)) at (lineOver (now (last .entry)) flags to (now (name .entry))) 4120 r ⌝ }
+    requires { ⌜ (at ≤ labelLimit) × (length (now last) ≤ labelLimit) × (length (now name) ≤ labelLimit) × (flags ≤ 7) ⌝ }
+    ensures { λ r. ⌜ Lays (now (out .entry)) (now (out .exit)) at (lineCodes (now (last .entry)) flags to (now (name .entry))) 4120 r ⌝ }
 {
     let place = point_bytes(to);
     let s = shared(last, name);
     if s.same {
-        let code = [96 + flags];
+        let code = [0x60 + flags];
         let next = put(out, at, &code);
         return put(out, next, &place);
     }
-    let code = [64 + flags];
+    let code = [0x40 + flags];
     let next = put(out, at, &code);
     let kept = s.kept;
     let end = put_label(out, next, last.len(), name, kept);
@@ -274,8 +275,8 @@ fn put_leg(
     from: format::Point,
     to: format::Point,
 ) -> usize
-    requires { ⌜ (length (now last) ≤ 4096) × GoodLeg flags style date from to (now name) ⌝ }
-    ensures { λ r. ⌜ Lays (now (out .entry)) (now (out .exit)) 0 (codes (stateOf setting (now (last .entry))) (leg flags style date from to (now (name .entry)))) 4139 r ⌝ }
+    requires { ⌜ (length (now last) ≤ labelLimit) × GoodLeg (record { flags = flags; style = style; date = date; from = from; to = to }) (now name) ⌝ }
+    ensures { λ r. ⌜ Lays (now (out .entry)) (now (out .exit)) 0 (codes (stateOf setting (now (last .entry))) (leg (record { flags = flags; style = style; date = date; from = from; to = to }) (now (name .entry)))) codesLimit r ⌝ }
 {
     let old = setting.date;
     let position = setting.position;
@@ -285,11 +286,12 @@ fn put_leg(
     put_line(out, c, last, name, flags, to)
 }
 
-fn put_station(out: &mut [u8], last: &[u8], name: &[u8], flags: u8, place: format::Point) -> usize
-    requires { ⌜ (length (now last) ≤ 4096) × GoodStation flags place (now name) ⌝ }
-    ensures { λ r. ⌜ Lays (now (out .entry)) (now (out .exit)) 0 (stationOver (now (last .entry)) flags place (now (name .entry))) 4120 r ⌝ }
+fn put_station(out: &mut [u8], last: &[u8], name: &[u8], station: format::Station) -> usize
+    requires { ⌜ (length (now last) ≤ labelLimit) × GoodStation station (now name) ⌝ }
+    ensures { λ r. ⌜ Lays (now (out .entry)) (now (out .exit)) 0 (stationCodes (now (last .entry)) station (now (name .entry))) 4120 r ⌝ }
 {
-    let code = [128 + flags];
+    let place = station.place;
+    let code = [0x80 + station.flags];
     let a = put(out, 0, &code);
     let kept = kept_bytes(last, name);
     let b = put_label(out, a, last.len(), name, kept);
@@ -322,19 +324,21 @@ fn all_short(d: format::Dimensions) -> bool
     fits_short(d.down)
 }
 
-fn put_section(out: &mut [u8], last: &[u8], name: &[u8], end: u8, size: format::Dimensions) -> usize
-    requires { ⌜ (length (now last) ≤ 4096) × GoodSection end size (now name) ⌝ }
-    ensures { λ r. ⌜ Lays (now (out .entry)) (now (out .exit)) 0 (sectionOver (now (last .entry)) end size (now (name .entry))) 4124 r ⌝ }
+fn put_section(out: &mut [u8], last: &[u8], name: &[u8], section: format::Section) -> usize
+    requires { ⌜ (length (now last) ≤ labelLimit) × GoodSection section (now name) ⌝ }
+    ensures { λ r. ⌜ Lays (now (out .entry)) (now (out .exit)) 0 (sectionCodes (now (last .entry)) section (now (name .entry))) 4124 r ⌝ }
 {
+    let size = section.size;
+    let end = section.last;
     let kept = kept_bytes(last, name);
     if all_short(size) {
-        let code = [48 + end];
+        let code = [0x30 + end];
         let a = put(out, 0, &code);
         let b = put_label(out, a, last.len(), name, kept);
         let bytes = short_bytes(size);
         return put(out, b, &bytes);
     }
-    let code = [50 + end];
+    let code = [0x32 + end];
     let a = put(out, 0, &code);
     let b = put_label(out, a, last.len(), name, kept);
     let bytes = long_bytes(size);
@@ -342,9 +346,9 @@ fn put_section(out: &mut [u8], last: &[u8], name: &[u8], end: u8, size: format::
 }
 
 fn put_error(out: &mut [u8], traverse: format::Traverse) -> usize
-    ensures { λ r. ⌜ Lays (now (out .entry)) (now (out .exit)) 0 (errorOver traverse) 21 r ⌝ }
+    ensures { λ r. ⌜ Lays (now (out .entry)) (now (out .exit)) 0 (errorCodes traverse) 21 r ⌝ }
 {
-    let code = [31];
+    let code = [0x1f];
     let a = put(out, 0, &code);
     let bytes = traverse_bytes(traverse);
     put(out, a, &bytes)
@@ -360,8 +364,8 @@ pub fn put_record(
     name: &[u8],
     fields: format::Fields,
 ) -> usize
-    requires { ⌜ (length (now last) ≤ 4096) × WellFormed (recordOf fields (now name)) ⌝ }
-    ensures { λ r. ⌜ Puts (now (out .entry)) (now (out .exit)) (codes (stateOf setting (now (last .entry))) (recordOf fields (now (name .entry)))) 4139 r ⌝ }
+    requires { ⌜ (length (now last) ≤ labelLimit) × WellFormed (recordOf fields (now name)) ⌝ }
+    ensures { λ r. ⌜ Puts (now (out .entry)) (now (out .exit)) (codes (stateOf setting (now (last .entry))) (recordOf fields (now (name .entry)))) codesLimit r ⌝ }
 {
     match fields {
         format::Fields::Leg {
@@ -371,8 +375,8 @@ pub fn put_record(
             from,
             to,
         } => put_leg(out, setting, last, name, flags, style, date, from, to),
-        format::Fields::Station { flags, place } => put_station(out, last, name, flags, place),
-        format::Fields::Section { last: end, size } => put_section(out, last, name, end, size),
+        format::Fields::Station { station } => put_station(out, last, name, station),
+        format::Fields::Section { section } => put_section(out, last, name, section),
         format::Fields::Error { traverse } => put_error(out, traverse),
     }
 }

@@ -2,7 +2,7 @@
 ghost use mathlib.Core.Path.{_≡_};
 ghost use lib.ListN.{length};
 ghost use Rattle.format.specs.Reading.{readBuffer};
-ghost use Rattle.format.specs.Editing.{convertOutcome, convertBuffer};
+ghost use Rattle.format.specs.Conversion.{convertOutcome, convertBuffer};
 ghost use Rattle.format.specs.Answers.{answerOf};
 use format::Answer;
 

@@ -4,8 +4,10 @@ use mathlib.Core.List.{List}
 use mathlib.Core.Bool.{Bool}
 use Prim.Native.Nat.{ℕ, _+_}
 use lib.ListN.{take, drop}
-use Rattle.format.specs.Items.{whole, Part, part}
-use Rattle.label.specs.declared.Cut.the-variants.{Back}
+use Rattle.format.specs.Items.{whole}
+use Rattle.format.specs.declared.LabelPart.{LabelPart}
+use Rattle.format.specs.declared.LabelPart.the-variants.{Numbers}
+use Rattle.format.specs.declared.Cut.the-variants.{Back}
 use Rattle.kind.specs.Kinds.{tailOf, makeOf, labelledBy, partThere}
 use Rattle.kind.proofs.Labelled.{labelled-made}
 use Rattle.decode.specs.Bodies.{Bodied, Bodies, bodyItem}
@@ -27,7 +29,7 @@ suits-back (Station flags place) d count h = refl
 suits-back (Line flags place) d count h = refl
 
 -- the item of a body
-pub labelled-whole : (s : List ℕ) (bare : Bool) (tail : Tail) (p : List ℕ → Part) (k d a : ℕ) → part k d a ≡ partThere bare tail p s → (body : Body)
+pub labelled-whole : (s : List ℕ) (bare : Bool) (tail : Tail) (p : List ℕ → LabelPart) (k d a : ℕ) → Numbers k d a ≡ partThere bare tail p s → (body : Body)
     → Bodies body (λ c added. makeOf tail c added (drop (1 + (k + a)) s)) → whole (1 + (k + a + tailOf tail)) (relabelItem body (Back d) (take a (drop (1 + k) s))) ≡ labelledBy bare tail p (drop 1 s)
 labelled-whole s bare tail p k d a e body B =
     ap (whole (1 + (k + a + tailOf tail))) (relabel-back body d (take a (drop (1 + k) s)) (B .bodied) ∙ B .same d (take a (drop (1 + k) s)))

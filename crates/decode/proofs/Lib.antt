@@ -1,1 +1,2 @@
 mod Labelled
+mod Sized

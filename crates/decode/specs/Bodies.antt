@@ -2,7 +2,7 @@
 use Prim.Native.Nat.{ℕ}
 use mathlib.Core.Path.{_≡_}
 use mathlib.Core.List.{List}
-use Rattle.format.specs.Items.{Item, Stop as stopItem, Xsect, Station as stationPlaced, Line as linePlaced}
+use Rattle.format.specs.Items.{Item, Stop as stopItem, Xsect, Label as stationPlaced, Line as linePlaced}
 use Rattle.decode.specs.declared.Body.{Body}
 use Rattle.decode.specs.declared.Body.the-variants.{Only, Section, Station as StationBody, Line as LineBody}
 

@@ -4,9 +4,8 @@ use mathlib.Core.Path.{_≡_}
 use mathlib.Core.List.{List}
 use lib.ListN.{length, take, drop}
 use Rattle.format.specs.Items.{Item, Stop as stopItem, Shorten as shortenItem, Style as styleItem, Move as moveItem, NoDate as noDateItem, Date as dateItem, Error as errorItem, Decoded, faulty, whole}
-use Rattle.label.specs.Seen.{cutOf}
-use Rattle.label.specs.declared.Cut.{Cut as Cutting}
-use Rattle.label.specs.declared.Cut.the-variants.{Empty, ToDot, Trim, Back}
+use Rattle.format.specs.declared.Cut.{Cut}
+use Rattle.format.specs.declared.Cut.the-variants.{Empty, ToDot, Trim, Back}
 use Rattle.decode.specs.Bodies.{bodyItem}
 use Rattle.decode.specs.declared.Body.{Body}
 use Rattle.decode.specs.declared.Body.the-variants.{Only, Section as SectionBody, Station as StationBody, Line as LineBody}
@@ -16,15 +15,15 @@ use Rattle.decode.specs.declared.Item.the-variants.{Faulty, Stop, Style,
 -- ---- an item, of whose bytes s it is
 
 -- how many bytes a label part drops
-abbrev pub dropped : Cutting → ℕ
+abbrev pub dropped : Cut → ℕ
 dropped Empty = 0
 dropped (ToDot n) = 0
 dropped (Trim n) = 0
 dropped (Back d) = d
 
 -- an item that changes the label by a cut and appends bytes
-abbrev pub relabelItem : Body → Cutting → List ℕ → Item
-relabelItem Only cut added = shortenItem (cutOf cut)
+abbrev pub relabelItem : Body → Cut → List ℕ → Item
+relabelItem Only cut added = shortenItem cut
 relabelItem (SectionBody last size) cut added = bodyItem (SectionBody last size) (dropped cut) added
 relabelItem (StationBody flags place) cut added = bodyItem (StationBody flags place) (dropped cut) added
 relabelItem (LineBody flags place) cut added = bodyItem (LineBody flags place) (dropped cut) added
@@ -40,7 +39,7 @@ itemSeen (ErrorTold traverse) s = whole 21 (errorItem traverse)
 itemSeen (Relabel n cut from count body) s = whole n (relabelItem body cut (take count (drop from s)))
 
 -- what only cuts appends nothing, and what else has a label cuts as a label part does
-abbrev pub Suits : Body → Cutting → ℕ → Type 0
+abbrev pub Suits : Body → Cut → ℕ → Type 0
 Suits Only cut count = count ≡ 0
 Suits (SectionBody last size) cut count = cut ≡ Back (dropped cut)
 Suits (StationBody flags place) cut count = cut ≡ Back (dropped cut)

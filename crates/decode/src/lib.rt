@@ -1,13 +1,13 @@
 // One item of a file: what its bytes say, read where they lie.
+use format::Cut;
 use format::Dimensions;
+use format::LabelPart;
 use format::Point;
 use format::Traverse;
 use kind::Kind;
 use kind::Tail;
 use kind::kind_of;
 use kind::tail_size;
-use label::Cut;
-use length::Part;
 use length::part_of;
 use length::whole_part;
 use number::get_le16;
@@ -175,8 +175,8 @@ fn labelled_item(version: u8, bare: bool, tail: Tail, s: &[u8]) -> Item
     let p = part_of(version, bare, t);
     let q = whole_part(p, t, n);
     match q {
-        Part::Unfinished => Item::Faulty { number: 5 },
-        Part::Numbers { size, drop, add } => {
+        LabelPart::Unfinished => Item::Faulty { number: 5 },
+        LabelPart::Numbers { size, drop, add } => {
             let named = size + add;
             let rest = 1 + named;
             let body = body_at(tail, &s[rest..]);

@@ -5,8 +5,9 @@ use mathlib.Core.List.{List, [], _∷_, _++_}
 use lib.ListN.{length, take, drop}
 use lib.Seq.{drop-drop, take-add}
 use Rattle.format.specs.State.{State, Record}
-use Rattle.format.specs.Sheet.{Result}
+use Rattle.format.specs.Refusals.{Result}
 use Rattle.tally.specs.declared.Tally.{Tally}
+use Rattle.format.specs.Writing.{v8}
 use Rattle.tally.proofs.Left.{Left, left-more}
 use Rattle.edit.specs.Pens.{Written, none, more}
 
@@ -16,10 +17,10 @@ written-then (more A v) w = more A (written-then v w)
 
 -- what is left once they are written
 pub left-written : {st st′ : State} {d d′ : List ℕ} {t t′ : Tally} {rs : List Record} → Written st d t rs st′ d′ t′ → (x₀ : Result) (head : ℕ) (d₀ : List ℕ) (x : Result)
-    → Left x₀ head d₀ d t st (record { records = rs ++ x .records; verdict = x .verdict }) → length d ≡ length d₀ → (Left x₀ head d₀ d′ t′ st′ x) × (length d′ ≡ length d₀)
+    → Left v8 x₀ head d₀ d t st (record { records = rs ++ x .records; verdict = x .verdict }) → length d ≡ length d₀ → (Left v8 x₀ head d₀ d′ t′ st′ x) × (length d′ ≡ length d₀)
 left-written none x₀ head d₀ x L k = (L, k)
 left-written (more {st = st} {d = d} {d′ = d₁} {t = t} {t′ = t₁} {r = r} {rs = rs} A w) x₀ head d₀ x L k =
-    left-written w x₀ head d₀ x (left-more x₀ head d₀ d d₁ t t₁ st r (record { records = rs ++ x .records; verdict = x .verdict }) L k A) (A .kept ∙ k)
+    left-written w x₀ head d₀ x (left-more v8 x₀ head d₀ d d₁ t t₁ st r (record { records = rs ++ x .records; verdict = x .verdict }) L k A) (A .kept ∙ k)
 
 -- ---- one record further in a list
 

@@ -7,7 +7,8 @@ use lib.ListN.{length, take, drop}
 use types.Run.{OneOf, miss}
 use denote.Enum.Declared.{tagOf}
 use Rattle.format.specs.State.{Record}
-use Rattle.format.specs.Sheet.{Result, WellFormed, AllWellFormed}
+use Rattle.format.specs.Refusals.{Result}
+use Rattle.format.specs.WellFormed.{WellFormed, AllWellFormed}
 use Rattle.format.specs.Fields.{recordOf}
 use Rattle.format.specs.declared.Fields.{Fields}
 use Rattle.records.specs.Places.{labelIn, leftAt, Inside, Finds}
@@ -16,6 +17,9 @@ use Rattle.records.specs.declared.Found.{Found}
 use Rattle.records.specs.declared.Found.the-variants.{Refused, End, Record as Next}
 use Rattle.records.proofs.Found.{the-type}
 use Rattle.tally.specs.Tallies.{Fits}
+use Rattle.format.specs.Header.{fileLimit}
+use Rattle.format.specs.Codes.{codesLimit}
+use Rattle.format.specs.Writing.{v8}
 use Rattle.tally.proofs.Left.{adds-few}
 use Rattle.edit.specs.Pens.{penState, PenFits, Emits, Written, none, more, Before, Passes, Ready, WentOn}
 use Rattle.edit.specs.declared.Pen.{Pen}
@@ -82,7 +86,7 @@ module _ (version : ℕ) (file : List ℕ) (p : Place) (b : List ℕ) (limit : �
 pub record Putting (version : ℕ) (file : List ℕ) (p : Place) (b : List ℕ) (pen : Pen) (l d : List ℕ) (limit : ℕ) (q : Place) (c : List ℕ) (next : Pen) (l′ d′ : List ℕ) (left : ℕ) : Type 0 where
   pub passing : Passing version file p b limit q c left
   pub fits : PenFits next l′
-  pub few-bytes : next .count .bytes ≤ 16781355
+  pub few-bytes : next .count .bytes ≤ fileLimit + codesLimit
   pub few-records : next .count .records + left ≤ pen .count .records + limit
   pub few-all : pen .count .records + limit ≤ 18446744073709551614
   pub kept : length d′ ≡ length d
@@ -95,7 +99,7 @@ putting-first version file p b pen l d limit R =
 
 module _ (version : ℕ) (file : List ℕ) (p : Place) (b : List ℕ) (pen : Pen) (l d : List ℕ) (limit : ℕ) (q : Place) (c : List ℕ) (next : Pen) (l′ d′ : List ℕ) (left : ℕ)
     (G : Putting version file p b pen l d limit q c next l′ d′ left) where
-  pub putting-fits : 0 < left → Fits (next .count)
+  pub putting-fits : 0 < left → Fits v8 (next .count)
   putting-fits h = record { few-bytes = G .few-bytes; few-records = omega (arith, G .few-records, G .few-all) }
 
   pub went-on : left ≤ 0 → WentOn version file p b pen l d limit (record { place = q; pen = next }) c l′ d′
@@ -121,7 +125,7 @@ module _ (version : ℕ) (file : List ℕ) (p : Place) (b : List ℕ) (pen : Pen
       record {
         passing = passing-more version file p b limit q c left (G .passing) to f c′ F h;
         fits = E .fits;
-        few-bytes = adds-few (penState next l′) r d′ d″ (next .count) (next′ .count) A (G .few-bytes);
+        few-bytes = adds-few v8 (penState next l′) r d′ d″ (next .count) (next′ .count) A (G .few-bytes);
         few-records = omega (arith, G .few-records, A .records);
         few-all = G .few-all;
         kept = A .kept ∙ G .kept;

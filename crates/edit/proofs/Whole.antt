@@ -7,18 +7,25 @@ use native.Mathlib.Omega.{arith}
 use lib.ListN.{length, take, drop, length-drop}
 use lib.Seq.{drop-drop, take-length}
 use borrow.Author.Tests.{lt-ltb, le-ltb}
-use Rattle.format.specs.Bytes.{same}
+use Rattle.format.specs.Bytes.{same, Bytes}
 use Rattle.format.specs.Header.{Header, shut, openingOf}
 use Rattle.format.specs.State.{start, Record}
-use Rattle.format.specs.Sheet.{Verdict, good, refusal, Result, stop, recordsOf, Bytes}
-use Rattle.format.specs.Reading.{itemsOf, refused}
-use Rattle.format.specs.Writing.{headerCodes, fileOf, writtenOutcome}
+use Rattle.format.specs.Sheet.{sheetVersion, recordsOf}
+use Rattle.format.specs.Refusals.{refusalAt, Result, stop, refused}
+use Rattle.format.specs.declared.Verdict.the-variants.{Good, Refusal}
+use Rattle.format.specs.declared.Verdict.{Verdict}
+use Rattle.format.specs.Reading.{itemsOf}
+use Rattle.format.specs.Writing.{v8, fileOf, filedOutcome, writtenOutcome}
+use Rattle.format.specs.Codes.{settingAfter, labelAfter, closing, headerCodes, headerLimit}
 use Rattle.format.specs.Editing.{houseWritten, edited, houseVerdict, runVerdict, editVerdict, editResult, editOutcome, editBuffer}
 use Rattle.format.specs.Fields.{recordOf, stateOf}
 use Rattle.format.specs.declared.Answer.{Answer}
 use Rattle.format.specs.declared.Answer.the-variants.{Refused}
 use Rattle.format.specs.declared.Fields.{Fields}
+use Rattle.format.specs.declared.Setting.{Setting}
 use Rattle.format.proofs.Basics.{pick-true, pick-false}
+use Rattle.format.proofs.RefusalLaws.{fault-is}
+use Rattle.format.proofs.WritingLaws.{setting-at}
 use Rattle.format.proofs.GoodRecords.{items-formed}
 use Rattle.part.specs.Lays.{Puts}
 use Rattle.records.specs.Places.{leftAt, Starts}
@@ -26,13 +33,12 @@ use Rattle.records.specs.Keeping.{Keeps}
 use Rattle.records.specs.declared.Place.{Place}
 use Rattle.records.proofs.Starting.{starts-left}
 use Rattle.house.specs.Judging.{fileBehind}
-use Rattle.house.proofs.Turn.{state-after}
-use Rattle.tally.specs.Tallies.{Fits, Adds, settingAfter, Finished, Rest, Passed}
+use Rattle.tally.specs.Tallies.{Fits, Adds, Finished, Rest, Passed}
 use Rattle.tally.specs.declared.Tally.{Tally}
 use Rattle.tally.proofs.Left.{left-none, left-end}
 use Rattle.tally.proofs.Files.{pass-whole}
-use Rattle.edit.specs.Pens.{penState, Emits, Written, Before, Passes, Ready, WentOn, PutsNew, flawOf}
-use Rattle.edit.specs.Runs.{headerOf, Opens, editedAt, Cuts, Writes, Edits}
+use Rattle.edit.specs.Pens.{penState, Emits, Written, Before, Passes, Ready, WentOn, PutsNew}
+use Rattle.edit.specs.Runs.{oldHeader, OldOpens, editedAt, Cuts, Writes, Edits}
 use Rattle.edit.specs.declared.Old.{Old}
 use Rattle.edit.specs.declared.Pen.{Pen}
 use Rattle.edit.specs.declared.Run.{Run}
@@ -41,12 +47,12 @@ use Rattle.edit.proofs.Chain.{written-then, left-written}
 
 -- ---- `put_one`
 
-pub emits-one : (pen : Pen) (l l′ : List ℕ) (f : Fields) (name d d′ : List ℕ) (count : Tally) (len : ℕ) → Adds (penState pen l) (recordOf f name) d d′ (pen .count) count → Keeps l l′ (pen .len) name f len
-    → Emits pen l (recordOf f name) d d′ (record { count = count; setting = settingAfter (pen .setting) f; len = len }) l′
+pub emits-one : (pen : Pen) (l l′ : List ℕ) (f : Fields) (name d d′ : List ℕ) (count : Tally) (len : ℕ) → Adds v8 (penState pen l) (recordOf f name) d d′ (pen .count) count → Keeps l l′ (pen .len) name f len
+    → Emits pen l (recordOf f name) d d′ (record { count = count; setting = settingAfter (pen .setting) (recordOf f []); len = len }) l′
 emits-one pen l l′ f name d d′ count len A K =
     record {
       adds = A;
-      state = ap (stateOf (settingAfter (pen .setting) f)) (K .label-is) ∙ sym (state-after (pen .setting) (take (pen .len) l) f name);
+      state = ap (stateOf (settingAfter (pen .setting) (recordOf f []))) (K .label-is) ∙ ap (λ (s : Setting). stateOf s (labelAfter (take (pen .len) l) (recordOf f name))) (setting-at (pen .setting) f name);
       fits = record { label-short = K .label-short; label-whole = K .label-whole };
     }
 
@@ -120,39 +126,39 @@ module _ {version : ℕ} {file : List ℕ} {first-item : ℕ} {run : Run} {new :
             ap (take (run .rest)) behind-run ∙ ap (λ (k : ℕ). take k (drop (run .first + run .count) R)) e ∙ take-length (drop (run .first + run .count) R)
 
         start-is : penState pen₀ l ≡ start
-        start-is = rw (S .style-is, S .date-is, S .position-is)
+        start-is = rw (S .setting-is)
 
-        all-written : Written start d (pen₀ .count) (edited R (run .first) (run .count) (recordsOf new .records)) (penState (w′ .pen) l₃) d₃ (w′ .pen .count)
+        all-written : Written start d (pen₀ .count) (edited R (run .first) (run .count) (recordsOf sheetVersion new .records)) (penState (w′ .pen) l₃) d₃ (w′ .pen .count)
         unfolding edited
         all-written =
             let one = rw (at-start, start-is) at (A .written) in
             let three = rw all-rest at (D .written) in
             written-then one (written-then (N .written) three)
 
-        pub last-fits : length new ≤ 9223372036854775807 → Fits (w′ .pen .count)
+        pub last-fits : length new ≤ 9223372036854775807 → Fits v8 (w′ .pen .count)
         last-fits h = record { few-bytes = D .few-bytes; few-records = omega (arith, D .few-records, N .few-records, A .few-records, C .all, C .few, C .small) }
 
         abbrev x₀ : Result
         x₀ = editedAt version file first-item run new
 
-        pub edited-rest : {d₄ : List ℕ} {r : Answer} → Finished d₃ d₄ (w′ .pen .setting .style) (w′ .pen .count) r → Rest x₀ head d d₄ r
+        pub edited-rest : {d₄ : List ℕ} {r : Answer} → Finished v8 d₃ d₄ (closing (w′ .pen .setting .style)) (w′ .pen .count) r → Rest v8 x₀ head d d₄ r
         edited-rest {d₄} {r} F =
-            let e : record { records = x₀ .records ++ []; verdict = good } ≡ x₀ = ap (λ (rs : List Record). record { records = rs; verdict = good }) (append-nil (x₀ .records)) in
-            let L = left-written all-written x₀ head d (stop good) (rw e (left-none x₀ head d (omega (arith, B .low)))) refl in
-            left-end x₀ head d d₃ (w′ .pen .count) (penState (w′ .pen) l₃) d₄ r (L .1) (L .0) F
+            let e : record { records = x₀ .records ++ []; verdict = Good } ≡ x₀ = ap (λ (rs : List Record). record { records = rs; verdict = Good }) (append-nil (x₀ .records)) in
+            let L = left-written all-written x₀ head d (stop Good) (rw e (left-none v8 x₀ head d (omega (arith, B .low)))) refl in
+            left-end v8 x₀ head d d₃ (w′ .pen .count) (penState (w′ .pen) l₃) d₄ r (L .1) (L .0) F
 
 -- ---- `pass`
 
 pub pass-edited : (file : List ℕ) (old : Old) (x : Result) (d e f : List ℕ) (head : ℕ) (r : Answer)
-    → Puts d e (headerCodes (record { extended = old .extended; title = take (24 + old .title - 24) (drop 24 file); time = take (24 + old .title + 1 + old .time - (24 + old .title + 1)) (drop (24 + old .title + 1) file) })) 4187 head
-    → Rest x head e f r → Passed (headerOf file old) x d f r
+    → Puts d e (headerCodes (record { extended = old .extended; title = take (24 + old .title - 24) (drop 24 file); time = take (24 + old .title + 1 + old .time - (24 + old .title + 1)) (drop (24 + old .title + 1) file) })) headerLimit head
+    → Rest v8 x head e f r → Passed v8 (oldHeader file old) x d f r
 pass-edited file old x d e f head r P R =
     let t = old .title in
     let m = old .time in
     let a : 24 + t - 24 ≡ t = omega arith in
     let b : 24 + t + 1 + m - (24 + t + 1) ≡ m = omega arith in
     let c : 24 + t + 1 ≡ 25 + t = omega arith in
-    pass-whole (headerOf file old) x d e f head r (rw (a, b, c) at P) R
+    pass-whole v8 (oldHeader file old) x d e f headerLimit head r (rw (a, b, c) at P) R
 
 -- ---- answers
 
@@ -161,72 +167,68 @@ pub house-is : (file : List ℕ) (h : Header) (rs : List Record) → houseWritte
 unfolding houseWritten fileOf
 house-is file h rs = refl
 
-module _ (file : List ℕ) (old : Old) (O : Opens file old) (first count : ℕ) (new d : List ℕ) where
+module _ (file : List ℕ) (old : Old) (O : OldOpens file old) (first count : ℕ) (new d : List ℕ) where
   abbrev h : Header
-  h = headerOf file old
+  h = oldHeader file old
 
   abbrev x : Result
   x = itemsOf (old .version) (old .place) file
 
   abbrev verdict : Verdict
-  verdict = editVerdict file h x first count (recordsOf new)
+  verdict = editVerdict file h x first count (recordsOf sheetVersion new)
 
-  outcome-refused : (k q : ℕ) → verdict ≡ refusal k q → editOutcome file first count new (length d) ≡ refused k q
-  unfolding editOutcome editResult writtenOutcome
+  outcome-refused : (k q : ℕ) → verdict ≡ Refusal k q → editOutcome file first count new (length d) ≡ refused k q
+  unfolding editOutcome editResult writtenOutcome filedOutcome
   outcome-refused k q e = rw (O .due, e)
 
-  pub edits-refused : (k q : ℕ) → verdict ≡ refusal k q → Edits file first count new d d (Refused k q)
+  pub edits-refused : (k q : ℕ) → verdict ≡ Refusal k q → Edits file first count new d d (Refused k q)
   unfolding editBuffer
   edits-refused k q e = let z = outcome-refused k q e in record { answer = sym z; buffer = rw z }
 
-  unread : (k q : ℕ) → x .verdict ≡ refusal k q → verdict ≡ refusal k q
+  unread : (k q : ℕ) → x .verdict ≡ Refusal k q → verdict ≡ Refusal k q
   unfolding editVerdict
   unread k q e = rw e
 
-  pub edits-unread : (k q : ℕ) → x .verdict ≡ refusal k q → Edits file first count new d d (Refused k q)
+  pub edits-unread : (k q : ℕ) → x .verdict ≡ Refusal k q → Edits file first count new d d (Refused k q)
   edits-unread k q e = edits-refused k q (unread k q e)
 
-  module _ (readable : x .verdict ≡ good) where
-    foreign : houseWritten file h (x .records) ≡ false → verdict ≡ refusal 14 0
+  module _ (readable : x .verdict ≡ Good) where
+    foreign : houseWritten file h (x .records) ≡ false → verdict ≡ Refusal 14 0
     unfolding editVerdict houseVerdict
-    foreign e = rw (readable, pick-false good (refusal 14 0) e)
+    foreign e = rw (readable, pick-false Good (Refusal 14 0) e)
 
     pub edits-foreign : houseWritten file h (x .records) ≡ false → Edits file first count new d d (Refused 14 0)
     edits-foreign e = edits-refused 14 0 (foreign e)
 
     module _ (ours : houseWritten file h (x .records) ≡ true) where
-      house-good : houseVerdict file h (x .records) ≡ good
+      house-good : houseVerdict file h (x .records) ≡ Good
       unfolding houseVerdict
       house-good = pick-true _ _ ours
 
-      past : (n : ℕ) → n ≡ length (x .records) → n < first + count → verdict ≡ refusal 15 n
+      past : (n : ℕ) → n ≡ length (x .records) → n < first + count → verdict ≡ Refusal 15 n
       unfolding editVerdict runVerdict
-      past n e l = rw (readable, house-good, ← e, pick-true (refusal 15 n) good (lt-ltb n (first + count) l))
+      past n e l = rw (readable, house-good, ← e, pick-true (Refusal 15 n) Good (lt-ltb n (first + count) l))
 
       pub edits-past : (n : ℕ) → n ≡ length (x .records) → n < first + count → Edits file first count new d d (Refused 15 n)
       edits-past n e l = edits-refused 15 n (past n e l)
 
       module _ (inside : first + count ≤ length (x .records)) where
-        run-good : runVerdict (x .records) first count ≡ good
+        run-good : runVerdict (x .records) first count ≡ Good
         unfolding runVerdict
         run-good = pick-false _ _ (le-ltb (length (x .records)) (first + count) inside)
 
-        flaw-is : (f : ℕ) → (f ≡ 0 → ⊥) → flawOf f ≡ refusal 12 (f - 1)
-        flaw-is zero z = absurd (z refl)
-        flaw-is (suc p) z = let q : suc p - 1 ≡ p = omega arith in rw q
-
-        spoilt : (f : ℕ) → (f ≡ 0 → ⊥) → flawOf f ≡ recordsOf new .verdict → verdict ≡ refusal 12 (f - 1)
+        spoilt : (f : ℕ) → (f ≡ 0 → ⊥) → refusalAt 12 f ≡ recordsOf sheetVersion new .verdict → verdict ≡ Refusal 12 (f - 1)
         unfolding editVerdict
-        spoilt f z e = rw (readable, house-good, run-good, ← e, flaw-is f z)
+        spoilt f z e = rw (readable, house-good, run-good, ← e, fault-is 12 f z)
 
-        pub edits-flawed : (f : ℕ) → (f ≡ 0 → ⊥) → flawOf f ≡ recordsOf new .verdict → Edits file first count new d d (Refused 12 (f - 1))
+        pub edits-flawed : (f : ℕ) → (f ≡ 0 → ⊥) → refusalAt 12 f ≡ recordsOf sheetVersion new .verdict → Edits file first count new d d (Refused 12 (f - 1))
         edits-flawed f z e = edits-refused 12 (f - 1) (spoilt f z e)
 
-        module _ (well : recordsOf new .verdict ≡ good) (rest : ℕ) where
+        module _ (well : recordsOf sheetVersion new .verdict ≡ Good) (rest : ℕ) where
           abbrev run : Run
           run = record { first = first; count = count; rest = rest }
 
-          result-is : editResult file h x first count (recordsOf new) ≡ editedAt (old .version) file (old .place) run new
+          result-is : editResult file h x first count (recordsOf sheetVersion new) ≡ editedAt (old .version) file (old .place) run new
           unfolding editResult editVerdict
           result-is = rw (readable, house-good, run-good, well)
 

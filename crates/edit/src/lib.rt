@@ -2,6 +2,7 @@
 // written as writing it afresh would.
 use format::Answer;
 use format::Fields;
+use format::LABEL_LIMIT;
 use format::Setting;
 use header::Head;
 use house::Judged;
@@ -14,10 +15,17 @@ ghost use lib.ListN.{length, take};
 ghost use Rattle.format.specs.Answers.{answerOf};
 ghost use Rattle.format.specs.Editing.{editOutcome, editBuffer};
 ghost use Rattle.format.specs.Fields.{recordOf, stateOf};
-ghost use Rattle.format.specs.Sheet.{WellFormed, good, recordsOf};
+ghost use Rattle.format.specs.Sheet.{sheetVersion, recordsOf};
+ghost use Rattle.format.specs.declared.Verdict.the-variants.{Good};
+ghost use Rattle.format.specs.WellFormed.{WellFormed};
+ghost use Rattle.format.specs.Refusals.{refusalAt};
+ghost use Rattle.format.specs.Writing.{v8};
+ghost use Rattle.format.specs.Codes.{codesLimit, closing};
+ghost use Rattle.format.specs.Header.{fileLimit};
 ghost use Rattle.tally.specs.Tallies.{Fits, Adds, Finished, Rest, Passed};
-ghost use Rattle.edit.specs.Pens.{PenFits, Emits, Before, Passes, Ready, WentOn, PutsNew, flawOf};
-ghost use Rattle.edit.specs.Runs.{headerOf, editedAt, Cuts, Opens, HouseOf, Writes, Edits};
+ghost use Rattle.edit.specs.Pens.{PenFits, Emits, Before, Passes, Ready, WentOn, PutsNew};
+ghost use Rattle.edit.specs.Runs.{oldHeader, editedAt, Cuts, OldOpens, HouseOf, Writes, Edits};
+ghost use Rattle.format.specs.Label.{labelLimit};
 
 // What the codes of the next record find, with the counts so far. The label's bytes are
 // lent beside it.
@@ -56,21 +64,27 @@ fn put_after(
     out: &mut [u8],
     count: Tally,
     setting: Setting,
-    last: &[u8; 4096],
+    last: &[u8; LABEL_LIMIT],
     len: usize,
     name: &[u8],
     fields: Fields,
 ) -> Tally
-    requires { ⌜ Fits count × (len ≤ 4096) × (length (now last) ≡ 4096) × WellFormed (recordOf fields (now name)) ⌝ }
-    ensures { λ r. ⌜ Adds (stateOf setting (take len (now (last .entry)))) (recordOf fields (now (name .entry))) (now (out .entry)) (now (out .exit)) count r ⌝ }
+    requires { ⌜ Fits v8 count × (len ≤ labelLimit) × (length (now last) ≡ labelLimit) × WellFormed (recordOf fields (now name)) ⌝ }
+    ensures { λ r. ⌜ Adds v8 (stateOf setting (take len (now (last .entry)))) (recordOf fields (now (name .entry))) (now (out .entry)) (now (out .exit)) count r ⌝ }
 {
     let before = &last[..];
     tally::put_next(out, count, setting, &before[..len], name, fields)
 }
 
 // One record more, and what it leaves.
-fn put_one(out: &mut [u8], pen: Pen, last: &mut [u8; 4096], name: &[u8], fields: Fields) -> Pen
-    requires { ⌜ PenFits pen (now last) × Fits (pen .count) × WellFormed (recordOf fields (now name)) × (length (now name) ≤ 4096) ⌝ }
+fn put_one(
+    out: &mut [u8],
+    pen: Pen,
+    last: &mut [u8; LABEL_LIMIT],
+    name: &[u8],
+    fields: Fields,
+) -> Pen
+    requires { ⌜ PenFits pen (now last) × Fits v8 (pen .count) × WellFormed (recordOf fields (now name)) × (length (now name) ≤ labelLimit) ⌝ }
     ensures { λ r. ⌜ Emits pen (now (last .entry)) (recordOf fields (now (name .entry))) (now (out .entry)) (now (out .exit)) r (now (last .exit)) ⌝ }
 {
     let old = pen.len;
@@ -88,12 +102,12 @@ fn put_one(out: &mut [u8], pen: Pen, last: &mut [u8; 4096], name: &[u8], fields:
 fn put_named(
     out: &mut [u8],
     pen: Pen,
-    last: &mut [u8; 4096],
-    name: &[u8; 4096],
+    last: &mut [u8; LABEL_LIMIT],
+    name: &[u8; LABEL_LIMIT],
     n: usize,
     fields: Fields,
 ) -> Pen
-    requires { ⌜ PenFits pen (now last) × Fits (pen .count) × (n ≤ 4096) × (length (now name) ≡ 4096) × WellFormed (recordOf fields (take n (now name))) ⌝ }
+    requires { ⌜ PenFits pen (now last) × Fits v8 (pen .count) × (n ≤ labelLimit) × (length (now name) ≡ labelLimit) × WellFormed (recordOf fields (take n (now name))) ⌝ }
     ensures { λ r. ⌜ Emits pen (now (last .entry)) (recordOf fields (take n (now (name .entry)))) (now (out .entry)) (now (out .exit)) r (now (last .exit)) ⌝ }
 {
     let own = &name[..];
@@ -107,10 +121,10 @@ fn put_old(
     file: &[u8],
     version: u8,
     from: Place,
-    name: &mut [u8; 4096],
+    name: &mut [u8; LABEL_LIMIT],
     out: &mut [u8],
     pen: Pen,
-    last: &mut [u8; 4096],
+    last: &mut [u8; LABEL_LIMIT],
     limit: usize,
 ) -> Went
     requires { ⌜ Ready version (now file) from (now name) pen (now last) limit ⌝ }
@@ -132,7 +146,13 @@ fn put_old(
 }
 
 // Passes over the next `limit` records of the old file.
-fn pass_over(file: &[u8], version: u8, from: Place, name: &mut [u8; 4096], limit: usize) -> Place
+fn pass_over(
+    file: &[u8],
+    version: u8,
+    from: Place,
+    name: &mut [u8; LABEL_LIMIT],
+    limit: usize,
+) -> Place
     requires { ⌜ Before version (now file) from (now name) limit ⌝ }
     ensures { λ r. ⌜ Passes version (now (file .entry)) from (now (name .entry)) limit r (now (name .exit)) ⌝ }
 {
@@ -154,8 +174,8 @@ fn pass_over(file: &[u8], version: u8, from: Place, name: &mut [u8; 4096], limit
 }
 
 // The records of a replacement that is well-formed.
-fn put_new(new: &[u8], out: &mut [u8], pen: Pen, last: &mut [u8; 4096]) -> Pen
-    requires { ⌜ PenFits pen (now last) × (pen .count .bytes ≤ 16781355) × (pen .count .records ≤ 16777216) × (recordsOf (now new) .verdict ≡ good) ⌝ }
+fn put_new(new: &[u8], out: &mut [u8], pen: Pen, last: &mut [u8; LABEL_LIMIT]) -> Pen
+    requires { ⌜ PenFits pen (now last) × (pen .count .bytes ≤ fileLimit + codesLimit) × (pen .count .records ≤ fileLimit) × (recordsOf sheetVersion (now new) .verdict ≡ Good) ⌝ }
     ensures { λ r. ⌜ PutsNew (now (new .entry)) pen (now (last .entry)) (now (out .entry)) r (now (last .exit)) (now (out .exit)) ⌝ }
 {
     let mut at: usize = 0;
@@ -176,7 +196,7 @@ fn put_new(new: &[u8], out: &mut [u8], pen: Pen, last: &mut [u8; 4096]) -> Pen
 // The first bad record of a replacement, as its number and one; 0 where all are
 // well-formed.
 fn first_flaw(new: &[u8]) -> usize
-    ensures { λ r. ⌜ flawOf r ≡ recordsOf (now (new .entry)) .verdict ⌝ }
+    ensures { λ r. ⌜ refusalAt 12 r ≡ recordsOf sheetVersion (now (new .entry)) .verdict ⌝ }
 {
     let mut at: usize = 0;
     let mut number: usize = 0;
@@ -210,7 +230,7 @@ fn put_edited(
     head: usize,
 ) -> Answer
     requires { ⌜ Cuts version (now file) start run (now new) × (head ≤ 8192) ⌝ }
-    ensures { λ r. ⌜ Rest (editedAt version (now (file .entry)) start run (now (new .entry))) head (now (out .entry)) (now (out .exit)) r ⌝ }
+    ensures { λ r. ⌜ Rest v8 (editedAt version (now (file .entry)) start run (now (new .entry))) head (now (out .entry)) (now (out .exit)) r ⌝ }
 {
     let mut name = label::blank();
     let mut last = label::blank();
@@ -257,8 +277,8 @@ fn put_edited(
 
 // The end of the edited file.
 fn close(out: &mut [u8], pen: Pen) -> Answer
-    requires { ⌜ Fits (pen .count) ⌝ }
-    ensures { λ r. ⌜ Finished (now (out .entry)) (now (out .exit)) (pen .setting .style) (pen .count) r ⌝ }
+    requires { ⌜ Fits v8 (pen .count) ⌝ }
+    ensures { λ r. ⌜ Finished v8 (now (out .entry)) (now (out .exit)) (closing (pen .setting .style)) (pen .count) r ⌝ }
 {
     let setting = pen.setting;
     let count = pen.count;
@@ -268,8 +288,8 @@ fn close(out: &mut [u8], pen: Pen) -> Answer
 // A pass over the edited sheet: the answer, for room enough, and each piece written
 // where it fits.
 fn pass(file: &[u8], old: Old, run: Run, new: &[u8], out: &mut [u8]) -> Answer
-    requires { ⌜ Opens (now file) old × Cuts (old .version) (now file) (old .place) run (now new) ⌝ }
-    ensures { λ r. ⌜ Passed (headerOf (now (file .entry)) old) (editedAt (old .version) (now (file .entry)) (old .place) run (now (new .entry))) (now (out .entry)) (now (out .exit)) r ⌝ }
+    requires { ⌜ OldOpens (now file) old × Cuts (old .version) (now file) (old .place) run (now new) ⌝ }
+    ensures { λ r. ⌜ Passed v8 (oldHeader (now (file .entry)) old) (editedAt (old .version) (now (file .entry)) (old .place) run (now (new .entry))) (now (out .entry)) (now (out .exit)) r ⌝ }
 {
     let title = 24 + old.title;
     let from = title + 1;
@@ -280,8 +300,8 @@ fn pass(file: &[u8], old: Old, run: Run, new: &[u8], out: &mut [u8]) -> Answer
 
 // Writes the edited file. The first pass, lent no bytes, gives the answer.
 fn write_edited(file: &[u8], old: Old, run: Run, new: &[u8], out: &mut [u8]) -> Answer
-    requires { ⌜ Opens (now file) old × Cuts (old .version) (now file) (old .place) run (now new) ⌝ }
-    ensures { λ r. ⌜ Writes (headerOf (now (file .entry)) old) (editedAt (old .version) (now (file .entry)) (old .place) run (now (new .entry))) (now (out .entry)) (now (out .exit)) r ⌝ }
+    requires { ⌜ OldOpens (now file) old × Cuts (old .version) (now file) (old .place) run (now new) ⌝ }
+    ensures { λ r. ⌜ Writes (oldHeader (now (file .entry)) old) (editedAt (old .version) (now (file .entry)) (old .place) run (now (new .entry))) (now (out .entry)) (now (out .exit)) r ⌝ }
 {
     let answer = pass(file, old, run, new, &mut out[..0]);
     match answer {
@@ -297,7 +317,7 @@ fn write_edited(file: &[u8], old: Old, run: Run, new: &[u8], out: &mut [u8]) -> 
                     place: bytes,
                 };
             }
-            pass(file, old, run, new, out);
+            pass(file, old, run, new, &mut out[..bytes]);
             Answer::Done {
                 bytes,
                 records,
@@ -317,7 +337,7 @@ fn edit_opened(
     new: &[u8],
     out: &mut [u8],
 ) -> Answer
-    requires { ⌜ Opens (now file) old ⌝ }
+    requires { ⌜ OldOpens (now file) old ⌝ }
     ensures { λ r. ⌜ Edits (now (file .entry)) first count (now (new .entry)) (now (out .entry)) (now (out .exit)) r ⌝ }
 {
     let judged = house::judge(
@@ -352,7 +372,7 @@ fn edit_house(
     new: &[u8],
     out: &mut [u8],
 ) -> Answer
-    requires { ⌜ Opens (now file) old × HouseOf (now file) old records ⌝ }
+    requires { ⌜ OldOpens (now file) old × HouseOf (now file) old records ⌝ }
     ensures { λ r. ⌜ Edits (now (file .entry)) first count (now (new .entry)) (now (out .entry)) (now (out .exit)) r ⌝ }
 {
     if records < first {

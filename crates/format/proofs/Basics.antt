@@ -6,7 +6,7 @@ use mathlib.Core.Bool.{Bool, true, false, _&&_, _||_, not}
 use native.Mathlib.Omega.{arith}
 use lib.ListN.{length, getD}
 use lib.Dec.{eqb, ltb}
-use borrow.Author.Tests.{eqb-true, eq-eqb, lt-ltb, le-ltb}
+use borrow.Author.Tests.{eqb-true, eq-eqb, ltb-true, ltb-false, lt-ltb, le-ltb}
 use Rattle.format.specs.Bytes.{pick, le16, le32, be16, be32, toLe16, toLe32, toBe16, toBe32, widened, same}
 
 -- ---- `pick` and tests
@@ -25,6 +25,12 @@ pub pick-false {ℓ} : {X : Type ℓ} {b : Bool} (x y : X) → b ≡ false → p
 unfolding pick
 pick-false x y e = rw e
 
+-- where the first is not z, and z is picked, it is the second
+pub second-picked {ℓ} : {X : Type ℓ} {b : Bool} {x y z : X} → (x ≡ z → ⊥) → pick b x y ≡ z → (b ≡ false) × (y ≡ z)
+unfolding pick
+second-picked {b = true} h e = absurd (h e)
+second-picked {b = false} h e = (refl, e)
+
 pub both : (a b : Bool) → (a && b) ≡ true → (a ≡ true) × (b ≡ true)
 both true true e = (refl, refl)
 both true false e = (refl, e)
@@ -39,6 +45,14 @@ and-true p q = rw (p, q)
 
 pub or-false : {a b : Bool} → a ≡ false → b ≡ false → (a || b) ≡ false
 or-false p q = rw (p, q)
+
+-- one number is less than another, or it is not
+pub less-or-not : (a b : ℕ) {P : Type 0} → (a < b → P) → (b ≤ a → P) → P
+less-or-not a b {P} f g = go (ltb a b) refl
+  where
+    go : (t : Bool) → ltb a b ≡ t → P
+    go true e = f (ltb-true a b e)
+    go false e = g (ltb-false a b e)
 
 -- ---- `same`
 

@@ -1,63 +1,70 @@
 -- The starred cases of document 01, "Cases at the edges", as one table under one statement about the definitions. Assumes nothing.
-use Prim.Native.Nat.{ℕ, zero, suc, _+_, _-_}
+use Prim.Native.Nat.{ℕ}
 use mathlib.Core.Path.{_≡_, refl}
 use mathlib.Core.List.{List, [], _∷_, _++_}
-use mathlib.Core.Bool.{Bool, true, false}
-use lib.ListN.{length, getD, take, drop, replicate}
-use Rattle.format.specs.Bytes.{pick, le16, le32, be16, be32, toLe16, toLe32, toBe16, toBe32, widened, same, over}
-use Rattle.format.specs.Header.{Header, Opening, shut, opened, magic, lineEnd, endsInReturn, goodLine, extendedByte, closedHeader, timeLine, titleLine, goodVersion, headerOf, openingOf}
-use Rattle.format.specs.Label.{Kept, keeps, lacks, dots, dotFrom, keptToDot, labelStep}
+use lib.ListN.{take, drop, replicate}
+use Rattle.format.specs.Bytes.{pick, le16, le32, toLe16, toLe32, toBe16, toBe32, widened, same, over}
+use Rattle.format.specs.Header.{Opening, magic, lineEnd, endsInReturn, goodLine, extendedByte, closedHeader, timeLine, titleLine, goodVersion, headerOf, openingOf}
+use Rattle.format.specs.Label.{dots, dotFrom, keptToDot, labelStep}
 use Rattle.format.specs.Items.{sized, oldPart, lengthSize, lengthValue, longPart, newPart, labelledItem, stationItem, lineItem, sectionItem, moveItem, errorItem, dayItem, spanItem, daysItem, dayOfSeconds, secondsItem, twoSecondsItem, oldDateItem, v7DateItem, oldMiddleItem, oldLowItem, oldHighItem, newDateItem, newLowItem, newHighItem, itemOf}
-use Rattle.format.specs.State.{State, start, named, Record, station, section, Next, bad, end, on, made, dateOf, badDates}
+use Rattle.format.specs.State.{start, named, station, section, Next, bad, end, on, made, dateOf, badDates}
 use Rattle.format.specs.Iterate.{iter, iterUp}
 use Rattle.format.specs.Sheet.{layout, layoutAll, headerLayout, sheetOf}
-use Rattle.format.specs.Reading.{next, ended, readStep, run, Outcome, accepted, refused, itemsOf, readOutcome, readBuffer}
-use Rattle.format.specs.Writing.{common, lengthCodes, partCodes, labelCodes, keptBytes, fitsShort, allShort, stationCodes, sectionCodes, codes}
+use Rattle.format.specs.Reading.{next, ended, readStep, run, itemsOf, readOutcome, readBuffer}
+use Rattle.format.specs.Refusals.{Outcome, accepted, refused}
+use Rattle.format.specs.Stepping.{Step, Gathered}
+use Rattle.format.specs.declared.Stamp.{Stamp}
+use Rattle.format.specs.Codes.{common, lengthCodes, partCodes, labelCodes, keptBytes, fitsShort, allShort, stationCodes, sectionCodes, codes}
 use Rattle.format.specs.declared.Point.{Point}
-use Rattle.format.specs.declared.Dimensions.{Dimensions}
 use Rattle.format.specs.declared.Dated.{Dated}
-use Rattle.format.specs.declared.Dated.the-variants.{Undated, Day, Range}
+use Rattle.format.specs.declared.Dated.the-variants.{Day}
 
--- what a row of the table speaks of
-pub data Told : Type 0 where
+-- what a row of a table speaks of
+pub data Shown : Type 0 where
   -- the answer of reading a file into 64 bytes of 7, and what they then hold up to the length given
-  reading : Outcome → List ℕ → Told
+  reading : Outcome → List ℕ → Shown
   -- the label after an item
-  label : List ℕ → Told
+  label : List ℕ → Shown
   -- the date after an item
-  date : Dated → Told
+  date : Dated → Shown
   -- a refusal of an item
-  no : ℕ → Told
+  no : ℕ → Shown
   -- bytes written
-  written : List ℕ → Told
+  written : List ℕ → Shown
+  -- what a header comes to; an answer; a step; a reader stepped; a file's time
+  opening : Opening → Shown
+  answer : Outcome → Shown
+  step : Step → Shown
+  stepping : Gathered → Shown
+  stamp : Stamp → Shown
   -- anything else
-  other : Told
+  other : Shown
 
 -- a row: what the definitions give, and what the case says is due
 pub record Row : Type 0 where
-  pub given : Told
-  pub due : Told
+  pub given : Shown
+  pub due : Shown
 
-abbrev pub readFile : List ℕ → ℕ → Told
+abbrev pub readFile : List ℕ → ℕ → Shown
 readFile file n = reading (readOutcome file 64) (take n (readBuffer file (replicate 64 7)))
 
-abbrev pub labelAfter : Next → Told
+abbrev pub labelAfter : Next → Shown
 labelAfter (bad k) = no k
 labelAfter end = other
 labelAfter (on n st) = label (st .label)
 labelAfter (made n r st) = label (st .label)
 
-abbrev pub dateAfter : Next → Told
+abbrev pub dateAfter : Next → Shown
 dateAfter (bad k) = no k
 dateAfter end = other
-dateAfter (on n st) = date (st .date)
-dateAfter (made n r st) = date (st .date)
+dateAfter (on n st) = date (st .setting .date)
+dateAfter (made n r st) = date (st .setting .date)
 
 -- the item of a version from a label on
-abbrev pub fromLabel : ℕ → List ℕ → List ℕ → Told
+abbrev pub fromLabel : ℕ → List ℕ → List ℕ → Shown
 fromLabel version l item = labelAfter (next version item (named l start))
 
-abbrev pub dateOfItem : ℕ → List ℕ → Told
+abbrev pub dateOfItem : ℕ → List ℕ → Shown
 dateOfItem version item = dateAfter (next version item start)
 
 -- v8, title `A`, time `@0`, byte 00, then the items
@@ -83,11 +90,11 @@ abbrev pub origin : Point
 origin = record { x = 0; y = 0; z = 0 }
 
 -- the label part that a station of n bytes `a` has after an empty label
-abbrev pub partOfLabel : ℕ → ℕ → Told
-partOfLabel n size = written (take size (drop 1 (codes start (station 0 origin (replicate n 97)))))
+abbrev pub partOfLabel : ℕ → ℕ → Shown
+partOfLabel n size = written (take size (drop 1 (codes start (station (record { flags = 0; place = origin }) (replicate n 97)))))
 
-abbrev pub sectionWritten : ℕ → Told
-sectionWritten down = written (codes start (section 0 (record { left = 32767; right = 32767; up = 32767; down = down }) (97 ∷ [])))
+abbrev pub sectionWritten : ℕ → Shown
+sectionWritten down = written (codes start (section (record { last = 0; size = record { left = 32767; right = 32767; up = 32767; down = down } }) (97 ∷ [])))
 
 abbrev pub table : List Row
 table =
@@ -127,11 +134,11 @@ table =
     ∷ []
 
 -- the given of every row, and the due of every row
-abbrev pub givens : List Row → List Told
+abbrev pub givens : List Row → List Shown
 givens [] = []
 givens (r ∷ rs) = r .given ∷ givens rs
 
-abbrev pub dues : List Row → List Told
+abbrev pub dues : List Row → List Shown
 dues [] = []
 dues (r ∷ rs) = r .due ∷ dues rs
 

@@ -1,30 +1,33 @@
 -- Demand 3: editing a house-written file is writing the edited sheet; the old bytes before the run stay, and so do those from each record
 -- after it that finds the same state. Assumes nothing.
-use Prim.Native.Nat.{ℕ, zero, suc, _+_, _-_, _≤_, _<_}
-use native.Mathlib.Nat.{add-zero, add-assoc}
+use Prim.Native.Nat.{ℕ, zero, suc, _+_, _-_, _≤_}
+use native.Mathlib.Nat.{add-zero}
 use native.Mathlib.Omega.{arith}
 use mathlib.Core.Path.{_≡_, refl, sym, ap, ap₂, _∙_, subst}
 use mathlib.Core.List.{List, [], _∷_, _++_, append-assoc}
-use mathlib.Core.Bool.{Bool, true, false}
-use lib.ListN.{length, take, drop, length-append, length-drop, take-append-drop}
+use mathlib.Core.Bool.{true}
+use lib.ListN.{length, take, drop, length-append, take-append-drop}
 use lib.Seq.{drop-drop, drop-append-seam, drop-append-add, length-take-le, take-at}
-use lib.Dec.{ltb}
 use borrow.Author.Tests.{le-ltb}
-use Rattle.format.specs.Bytes.{pick, same, over}
-use Rattle.format.specs.Header.{Header, Opening, shut, opened, openingOf}
+use Rattle.format.specs.Bytes.{pick, Bytes}
+use Rattle.format.specs.Header.{Header, opened, openingOf}
 use Rattle.format.specs.Label.{labelLimit}
-use Rattle.format.specs.State.{State, start, Record, Next, on, made}
-use Rattle.format.specs.Sheet.{Verdict, good, refusal, Result, orElse, recordsOf, sheetOf, sheetResult, frontHeader, Bytes, WellFormed, AllWellFormed, GoodHeader}
-use Rattle.format.specs.Reading.{next, run, Reached, begins, goes, makes, Outcome, accepted, refused, outcomeOf, bufferOf, itemsOf}
-use Rattle.format.specs.Writing.{codesAll, afterAll, encodeAll, codes, after, closing, headerCodes, fileOf, unsayable, styleVerdict, sizeVerdict, writtenOutcome, writeOutcome, writeBuffer}
-use Rattle.format.specs.Editing.{houseWritten, edited, houseVerdict, runVerdict, editVerdict, editResult, editFrom, editFile, editOutcome, editBuffer, codesPlace, Finds}
-use Rattle.format.proofs.Basics.{pick-true, pick-false, same-true}
+use Rattle.format.specs.State.{State, start, Record, on, made}
+use Rattle.format.specs.Sheet.{sheetVersion, recordsOf, sheetOf, sheetResult, frontHeader}
+use Rattle.format.specs.Refusals.{Result, accepted}
+use Rattle.format.specs.declared.Verdict.the-variants.{Good}
+use Rattle.format.specs.WellFormed.{AllWellFormed}
+use Rattle.format.specs.Reading.{next, Reached, begins, goes, makes, itemsOf}
+use Rattle.format.specs.Writing.{v8, codesAll, afterAll, encodeAll, fileOf, recordsVerdict, writtenOutcome, writeOutcome, writeBuffer}
+use Rattle.format.specs.Codes.{codes, after, headerCodes}
+use Rattle.format.specs.Editing.{houseWritten, edited, houseVerdict, runVerdict, editVerdict, editResult, editOutcome, editBuffer, codesPlace, Finds}
+use Rattle.format.proofs.Basics.{same-true}
 use Rattle.format.proofs.ReadingLaws.{SizedNext, next-sized}
 use Rattle.format.proofs.GoingLaws.{Goes, stays, past, adds, goes-as, goes-then, goes-append, goes-reached}
 use Rattle.format.proofs.HeaderLaws.{opening-fits}
 use Rattle.format.proofs.SheetLaws.{records-formed, sheet-records}
-use Rattle.format.proofs.WritingLaws.{encode-append, sayable, after-short, codes-go}
-use Rattle.format.proofs.RoundTrip.{both-good, Accepted, accepted-means}
+use Rattle.format.proofs.WritingLaws.{encode-append, able, after-short, codes-go}
+use Rattle.format.proofs.RoundTrip.{Writes, writes, writes-file}
 use Rattle.format.proofs.GoodRecords.{items-formed, items-sayable}
 
 -- ---- reading reaches one state at a place
@@ -96,21 +99,21 @@ formed-append : (rs ts : List Record) → AllWellFormed rs → AllWellFormed ts 
 formed-append [] ts w v = v
 formed-append (r ∷ rs) ts w v = (w .0, formed-append rs ts (w .1) v)
 
-sayable-take : (j n : ℕ) (st : State) (rs : List Record) → styleVerdict n st rs ≡ good → styleVerdict n st (take j rs) ≡ good
-unfolding styleVerdict pick
+sayable-take : (j n : ℕ) (st : State) (rs : List Record) → recordsVerdict v8 n st rs ≡ Good → recordsVerdict v8 n st (take j rs) ≡ Good
+unfolding recordsVerdict pick
 sayable-take zero n st rs e = refl
 sayable-take (suc j) n st [] e = refl
-sayable-take (suc j) n st (r ∷ rs) e = let s = sayable n st r rs e in rw (s .0) (sayable-take j (n + 1) (after st r) rs (s .1))
+sayable-take (suc j) n st (r ∷ rs) e = let s = able v8 n st r rs e in rw (s .0) (sayable-take j (n + 1) (after st r) rs (s .1))
 
 -- ---- reading the codes of records makes them, and leaves the state that writing leaves
 
-codes-all-go : (rs : List Record) (n : ℕ) (st : State) → length (st .label) ≤ labelLimit → AllWellFormed rs → styleVerdict n st rs ≡ good → (rest : List ℕ)
-    → Goes 8 (codesAll codes after st rs ++ rest) st rs (length (codesAll codes after st rs)) (afterAll codes after st rs)
+codes-all-go : (rs : List Record) (n : ℕ) (st : State) → length (st .label) ≤ labelLimit → AllWellFormed rs → recordsVerdict v8 n st rs ≡ Good → (rest : List ℕ)
+    → Goes 8 (codesAll v8 st rs ++ rest) st rs (length (codesAll v8 st rs)) (afterAll v8 st rs)
 unfolding codesAll afterAll
 codes-all-go [] n st h w e rest = stays
 codes-all-go (r ∷ rs) n st h w e rest =
-    let s = sayable n st r rs e in
-    let more = codesAll codes after (after st r) rs in
+    let s = able v8 n st r rs e in
+    let more = codesAll v8 (after st r) rs in
     goes-as (sym (append-assoc (codes st r) more rest)) (sym (length-append (codes st r) more))
     (goes-append (codes st r) (more ++ rest) (codes-go st r h (w .0) (s .0) (more ++ rest)) (codes-all-go rs (n + 1) (after st r) (after-short st r h (w .0)) (w .1) (s .1) rest))
 
@@ -118,41 +121,41 @@ codes-all-go (r ∷ rs) n st h w e rest =
 
 module _ (h : Header) (rs : List Record) (j : ℕ) where
   -- what stands before the codes of record j, and what stands from them on
-  abbrev front : List ℕ
-  front = headerCodes h ++ codesAll codes after start (take j rs)
+  abbrev pub front : List ℕ
+  front = headerCodes h ++ codesAll v8 start (take j rs)
 
   abbrev pub found : State
-  found = afterAll codes after start (take j rs)
+  found = afterAll v8 start (take j rs)
 
-  abbrev from-there : List ℕ
-  from-there = encodeAll codes after closing found (drop j rs)
+  abbrev pub from-there : List ℕ
+  from-there = encodeAll v8 found (drop j rs)
 
-  parts : fileOf h rs ≡ headerCodes h ++ (codesAll codes after start (take j rs) ++ from-there)
+  parts : fileOf v8 h rs ≡ headerCodes h ++ (codesAll v8 start (take j rs) ++ from-there)
   unfolding fileOf
   parts =
       ap (λ (x : List ℕ). headerCodes h ++ x)
-      (ap (encodeAll codes after closing start) (sym (take-append-drop j rs)) ∙ encode-append codes after closing (take j rs) (drop j rs) start)
+      (ap (encodeAll v8 start) (sym (take-append-drop j rs)) ∙ encode-append v8 (take j rs) (drop j rs) start)
 
-  joined : fileOf h rs ≡ front ++ from-there
-  joined = parts ∙ sym (append-assoc (headerCodes h) (codesAll codes after start (take j rs)) from-there)
+  joined : fileOf v8 h rs ≡ front ++ from-there
+  joined = parts ∙ sym (append-assoc (headerCodes h) (codesAll v8 start (take j rs)) from-there)
 
-  from-record : drop (codesPlace h rs j) (fileOf h rs) ≡ from-there
+  pub from-record : drop (codesPlace h rs j) (fileOf v8 h rs) ≡ from-there
   unfolding codesPlace
   from-record = rw joined (drop-append-seam front from-there)
 
-  before-record : take (codesPlace h rs j) (fileOf h rs) ≡ front
+  pub before-record : take (codesPlace h rs j) (fileOf v8 h rs) ≡ front
   unfolding codesPlace
   before-record = rw joined (take-at front from-there (length front) refl)
 
   -- the state that reading has reached there is the state that writing had
-  pub finds-found : AllWellFormed rs → styleVerdict 0 start rs ≡ good → Finds h rs j found
+  pub finds-found : AllWellFormed rs → recordsVerdict v8 0 start rs ≡ Good → Finds h rs j found
   unfolding codesPlace
   finds-found w e =
       let H = headerCodes h in
-      let C = codesAll codes after start (take j rs) in
+      let C = codesAll v8 start (take j rs) in
       let walk = codes-all-go (take j rs) 0 start (omega arith) (formed-take j rs w) (sayable-take j 0 start rs e) from-there in
-      let q : C ++ from-there ≡ drop (length H) (fileOf h rs) = sym (rw parts (drop-append-seam H (C ++ from-there))) in
-      subst (λ (p : ℕ). Reached 8 (fileOf h rs) (length H) p found) (sym (length-append H C)) (goes-reached (goes-as q refl walk) begins)
+      let q : C ++ from-there ≡ drop (length H) (fileOf v8 h rs) = sym (rw parts (drop-append-seam H (C ++ from-there))) in
+      subst (λ (p : ℕ). Reached 8 (fileOf v8 h rs) (length H) p found) (sym (length-append H C)) (goes-reached (goes-as q refl walk) begins)
 
 -- ---- the edited records
 
@@ -186,67 +189,68 @@ module _ (rs new : List Record) (first count : ℕ) (fits : first + count ≤ le
 -- ---- demand 3: a house-written file, a run within it and well-formed records for it
 
 module _ (file new : List ℕ) (file-bytes : Bytes file) (new-bytes : Bytes new) (first count v p : ℕ) (h : Header) (rs ns : List Record)
-    (opens : openingOf file ≡ opened v p h) (reads : itemsOf v p file ≡ record { records = rs; verdict = good }) (house : houseWritten file h rs ≡ true)
-    (fits : first + count ≤ length rs) (formed : recordsOf new ≡ record { records = ns; verdict = good }) where
+    (opens : openingOf file ≡ opened v p h) (reads : itemsOf v p file ≡ record { records = rs; verdict = Good }) (house : houseWritten file h rs ≡ true)
+    (fits : first + count ≤ length rs) (formed : recordsOf sheetVersion new ≡ record { records = ns; verdict = Good }) where
   abbrev after-edit : List Record
   after-edit = edited rs first count ns
 
-  file-is : file ≡ fileOf h rs
+  file-is : file ≡ fileOf v8 h rs
   unfolding houseWritten
-  file-is = same-true file (fileOf h rs) house
+  file-is = same-true file (fileOf v8 h rs) house
 
   old-formed : AllWellFormed rs
   old-formed = subst (λ (x : Result). AllWellFormed (x .records)) reads (items-formed v p file file-bytes)
 
-  old-sayable : styleVerdict 0 start rs ≡ good
-  old-sayable = subst (λ (x : Result). styleVerdict 0 start (x .records) ≡ good) reads (items-sayable v p file file-bytes)
+  old-sayable : recordsVerdict v8 0 start rs ≡ Good
+  old-sayable = subst (λ (x : Result). recordsVerdict v8 0 start (x .records) ≡ Good) reads (items-sayable v p file file-bytes)
 
   all-formed : AllWellFormed after-edit
   all-formed = edited-formed rs ns first count fits old-formed (subst (λ (x : Result). AllWellFormed (x .records)) formed (records-formed new new-bytes))
 
   whole : Result
-  whole = record { records = after-edit; verdict = good }
+  whole = record { records = after-edit; verdict = Good }
 
-  edit-answer : (room : ℕ) → editOutcome file first count new room ≡ writtenOutcome h whole room
+  edit-answer : (room : ℕ) → editOutcome file first count new room ≡ writtenOutcome v8 h whole room
   unfolding editOutcome editResult editVerdict houseVerdict runVerdict pick whole
   edit-answer room = rw (opens, reads, formed, house, le-ltb (length rs) (first + count) fits)
 
   -- the sheet that is the old file's with the replacement where the run stood
   abbrev pub sheet-after : List ℕ
-  sheet-after = sheetOf h after-edit
+  sheet-after = sheetOf sheetVersion h after-edit
 
   back : (sheetResult sheet-after ≡ whole) × (frontHeader sheet-after ≡ h)
   unfolding whole
   back = sheet-records h (opening-fits file opens .header) after-edit all-formed
 
-  -- "alike, in the answer, in a refusal's number and place and in every final byte of the buffer, to writing the whole edited sheet afresh
-  -- into an equal buffer"
-  pub edit-is-write-answer : (room : ℕ) → editOutcome file first count new room ≡ writeOutcome sheet-after room
+  -- demand 3, its first half: an edit answers as writing the whole edited sheet afresh into an equal buffer does, in a refusal's number and
+  -- place too, and leaves every byte of the buffer as that does
+  pub edit-is-write-answer : (room : ℕ) → editOutcome file first count new room ≡ writeOutcome v8 sheet-after room
   unfolding writeOutcome
   edit-is-write-answer room = edit-answer room ∙ rw (back .0, back .1)
 
-  pub edit-is-write-buffer : (old : List ℕ) → editBuffer file first count new old ≡ writeBuffer sheet-after old
+  pub edit-is-write-buffer : (old : List ℕ) → editBuffer file first count new old ≡ writeBuffer v8 sheet-after old
   unfolding editBuffer writeBuffer whole
   edit-is-write-buffer old = rw (edit-is-write-answer (length old), opens, reads, formed, back .0, back .1)
 
   -- an accepted edit
   module _ (old : List ℕ) (b n w : ℕ) (accept : editOutcome file first count new (length old) ≡ accepted b n w) where
     abbrev file-after : List ℕ
-    file-after = fileOf h after-edit
+    file-after = fileOf v8 h after-edit
 
-    accepted-edit : Accepted (orElse (styleVerdict 0 start after-edit) (sizeVerdict (length file-after))) (length file-after) (length after-edit) 8 (length old) b n w
-    unfolding writtenOutcome whole
-    accepted-edit = accepted-means (orElse (styleVerdict 0 start after-edit) (sizeVerdict (length file-after))) (length file-after) (length after-edit) 8 (length old) b n w (sym (edit-answer (length old)) ∙ accept)
+    written : Writes v8 h whole b n w
+    unfolding whole
+    written = writes v8 h whole (length old) b n w (sym (edit-answer (length old)) ∙ accept)
 
-    new-sayable : styleVerdict 0 start after-edit ≡ good
-    new-sayable = both-good (styleVerdict 0 start after-edit) (sizeVerdict (length file-after)) (accepted-edit .fine) .0
+    new-sayable : recordsVerdict v8 0 start after-edit ≡ Good
+    unfolding whole
+    new-sayable = written .writable
 
     -- the new file
     pub edited-file : take b (editBuffer file first count new old) ≡ file-after
-    unfolding editBuffer over
-    edited-file = rw (accept, opens, reads, formed) (take-at file-after (drop (length file-after) old) b (sym (accepted-edit .bytes-are)))
+    unfolding editBuffer whole
+    edited-file = rw (accept, opens, reads, formed) (writes-file v8 h whole (length old) b n w (sym (edit-answer (length old)) ∙ accept) old)
 
-    -- "An accepted edit keeps all old bytes before the run"
+    -- demand 3: an accepted edit keeps all the old bytes before the run
     pub edit-prefix : take (codesPlace h rs first) (take b (editBuffer file first count new old)) ≡ take (codesPlace h rs first) file
     unfolding codesPlace
     edit-prefix =
@@ -254,15 +258,15 @@ module _ (file new : List ℕ) (file-bytes : Bytes file) (new-bytes : Bytes new)
         ap (take (codesPlace h rs first)) edited-file
         ∙ ap (λ (k : ℕ). take k file-after) (sym q)
         ∙ before-record h after-edit first
-        ∙ ap (λ (x : List Record). headerCodes h ++ codesAll codes after start x) (before-run rs ns first count fits)
+        ∙ ap (λ (x : List Record). headerCodes h ++ codesAll v8 start x) (before-run rs ns first count fits)
         ∙ sym (before-record h rs first)
         ∙ ap (take (codesPlace h rs first)) (sym file-is)
       where
         same-place : codesPlace h after-edit first ≡ codesPlace h rs first
-        same-place = ap (λ (x : List Record). length (headerCodes h ++ codesAll codes after start x)) (before-run rs ns first count fits)
+        same-place = ap (λ (x : List Record). length (headerCodes h ++ codesAll v8 start x)) (before-run rs ns first count fits)
 
-    -- "from each record after the run (the closing codes too) that finds the same label, style, date and position as before, the new file has
-    -- exactly the old bytes to the end"
+    -- demand 3: from each record after the run, and from the closing codes, where they find the same state as before, the new file has exactly
+    -- the old bytes to the end
     pub edit-suffix : (j : ℕ) → first + count ≤ j → (st : State) → Finds h rs j st → Finds h after-edit (moved-to rs ns first count fits j) st
         → drop (codesPlace h after-edit (moved-to rs ns first count fits j)) (take b (editBuffer file first count new old)) ≡ drop (codesPlace h rs j) file
     edit-suffix j past-run st was is =
@@ -270,6 +274,6 @@ module _ (file new : List ℕ) (file-bytes : Bytes file) (new-bytes : Bytes new)
         let e : found h after-edit k ≡ found h rs j = reached-one (finds-found h after-edit k all-formed new-sayable) is ∙ reached-one was (finds-found h rs j old-formed old-sayable) in
         ap (drop (codesPlace h after-edit k)) edited-file
         ∙ from-record h after-edit k
-        ∙ ap₂ (encodeAll codes after closing) e (after-run rs ns first count fits j past-run)
+        ∙ ap₂ (encodeAll v8) e (after-run rs ns first count fits j past-run)
         ∙ sym (from-record h rs j)
         ∙ ap (drop (codesPlace h rs j)) (sym file-is)

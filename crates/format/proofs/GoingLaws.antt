@@ -7,9 +7,9 @@ use mathlib.Core.List.{List, [], _∷_, _++_}
 use lib.ListN.{length, drop}
 use lib.Seq.{drop-drop, drop-append-seam}
 use Rattle.format.specs.State.{State, Record, Next, on, made}
-use Rattle.format.specs.Sheet.{Result, also}
+use Rattle.format.specs.Refusals.{Result, also}
 use Rattle.format.specs.Reading.{next, run, Reached, begins, goes, makes}
-use Rattle.format.proofs.ReadingLaws.{run-eq}
+use Rattle.format.proofs.ReadingLaws.{run-on, run-made}
 
 -- the items in the first k bytes of s make rs from the state st and leave st′
 pub data Goes (version : ℕ) : List ℕ → State → List Record → ℕ → State → Type 0 where
@@ -50,9 +50,9 @@ alsoAll (r ∷ rs) x = also r (alsoAll rs x)
 pub goes-run : {version : ℕ} {s : List ℕ} {st st′ : State} {rs : List Record} {k : ℕ} → Goes version s st rs k st′ → (at : ℕ) → run version at s st ≡ alsoAll rs (run version (at + k) (drop k s) st′)
 goes-run {version} {s} {st} stays at = rw (add-zero at)
 goes-run {version} {s} {st} {st′} {rs} (past {k = k} n st₁ e f) at =
-    run-eq version at s st ∙ rw (e, goes-run f (at + n), drop-drop k n s, add-assoc at n k)
+    run-on version at s st e ∙ rw (goes-run f (at + n), drop-drop k n s, add-assoc at n k)
 goes-run {version} {s} {st} (adds {rs = rs} {k = k} n r st₁ e f) at =
-    run-eq version at s st ∙ rw (e, goes-run f (at + n), drop-drop k n s, add-assoc at n k)
+    run-made version at s st e ∙ rw (goes-run f (at + n), drop-drop k n s, add-assoc at n k)
 
 -- ---- where reading has got
 

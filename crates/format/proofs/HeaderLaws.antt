@@ -10,8 +10,9 @@ use lib.Dec.{eqb, ltb, leb}
 use borrow.Author.Tests.{eqb-false, ltb-true, ltb-false, leb-true, leb-false, lt-ltb, le-ltb, le-leb, lt-leb, not-true}
 use Rattle.format.specs.Bytes.{pick}
 use Rattle.format.specs.Header.{Header, Opening, shut, opened, magic, titleLimit, timeLimit, fileLimit, lineEnd, goodLine, extendedByte, closedHeader, timeLine, titleLine, goodVersion, headerOf, openingOf}
-use Rattle.format.specs.Sheet.{goodText, GoodHeader}
-use Rattle.format.specs.Writing.{headerCodes}
+use Rattle.format.specs.Sheet.{goodText}
+use Rattle.format.specs.WellFormed.{GoodHeader}
+use Rattle.format.specs.Codes.{headerCodes}
 use Rattle.format.proofs.Basics.{pick-case, pick-true, pick-false, both, and-true, same-refl}
 use Rattle.format.proofs.SheetLaws.{GoodText, text-good, good-text}
 

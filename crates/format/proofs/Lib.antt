@@ -1,3 +1,4 @@
+pub mod ApplyLaws
 pub mod Basics
 pub mod Cases
 pub mod Edges
@@ -7,7 +8,11 @@ pub mod GoodRecords
 pub mod HeaderLaws
 pub mod IterateLaws
 pub mod LabelLaws
+pub mod Orders
+pub mod OurFiles
+pub mod PaperLaws
 pub mod ReadingLaws
+pub mod RefusalLaws
 pub mod RoundTrip
 pub mod Rows
 pub mod SheetLaws

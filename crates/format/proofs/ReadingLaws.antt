@@ -7,20 +7,27 @@ use mathlib.Core.Bool.{Bool, true, false, _&&_}
 use native.Mathlib.Omega.{arith}
 use lib.ListN.{length, getD, take, drop, length-append, length-take, length-drop}
 use lib.Dec.{eqb, ltb, leb}
-use borrow.Author.Tests.{ltb-true, ltb-false, eqb-true, eqb-false}
+use lib.Seq.{drop-drop}
+use borrow.Rule.Slice.PartAt.{part-to-end}
+use borrow.Author.Tests.{ltb-true, ltb-false, lt-ltb, le-ltb}
 use Rattle.format.specs.Bytes.{pick, le16, le32}
-use Rattle.format.specs.Label.{empty, back, Labelled, tooShort, tooLong, labelled, labelStep, labelLimit}
-use Rattle.format.specs.Items.{Item, Stop, Shorten, Style, Move, NoDate, Date, Error, Xsect, Station, Line, Decoded, faulty, whole, reserved, sized, Part, unfinished, part, withPart, behindCode, labelledItem, stationItem, lineItem, sectionItem, moveItem, errorItem, dayItem, spanItem, daysItem, secondsItem, twoSecondsItem, oldPart, newPart, oldDateItem, v7DateItem, oldMiddleItem, oldLowItem, oldHighItem, newDateItem, newLowItem, newHighItem, itemOf}
-use Rattle.format.specs.State.{State, start, Record, Next, bad, end, on, made, onLabel, legFrom, apply, nextOf, badDates, dateOf}
+use Rattle.format.specs.Label.{labelStep, labelLimit}
+use Rattle.format.specs.declared.Cut.{Cut}
+use Rattle.format.specs.declared.Cut.the-variants.{Empty, Back}
+use Rattle.format.specs.Items.{Item, Stop, Shorten, Style, Move, NoDate, Date, Error, Xsect, Label, Line, Decoded, faulty, whole, reserved, sized, withPart, behindCode, labelledItem, stationItem, lineItem, sectionItem, moveItem, errorItem, dayItem, spanItem, daysItem, secondsItem, twoSecondsItem, oldPart, newPart, oldDateItem, v7DateItem, oldMiddleItem, oldLowItem, oldHighItem, newDateItem, newLowItem, newHighItem, itemOf}
+use Rattle.format.specs.declared.LabelPart.{LabelPart}
+use Rattle.format.specs.declared.LabelPart.the-variants.{Unfinished, Numbers}
+use Rattle.format.specs.State.{State, start, Record, Next, bad, end, on, made, onLabel, apply, nextOf}
 use Rattle.format.specs.Iterate.{iter}
-use Rattle.format.specs.Sheet.{Verdict, refusal, Result, stop, also}
+use Rattle.format.specs.Refusals.{Result, stop, also}
+use Rattle.format.specs.declared.Verdict.the-variants.{Good, Refusal}
+use Rattle.format.specs.declared.Verdict.{Verdict}
 use Rattle.format.specs.Reading.{next, ended, afterItem, readStep, run, Reached, begins, goes, makes}
 use Rattle.format.specs.declared.Point.{Point}
-use Rattle.format.specs.declared.Position.{Position}
-use Rattle.format.specs.declared.Position.the-variants.{Unset, Stands}
+use Rattle.format.specs.declared.Position.the-variants.{Unset}
 use Rattle.format.proofs.Basics.{pick-case}
 use Rattle.format.proofs.IterateLaws.{iter-eq}
-use Rattle.format.proofs.LabelLaws.{ShortLabelled, label-bound}
+use Rattle.format.proofs.ApplyLaws.{label-case, leg-case}
 
 -- ---- progress: the size of an item, where m bytes are there
 
@@ -38,20 +45,20 @@ sized-behind m n t it h =
     pick-case (λ (x : Decoded). SizedItem m (behindCode x)) _ _ _ (λ e. tt) λ e.
     let z : n ≤ length t = ltb-false _ _ e in (omega arith, omega arith)
 
-sized-labelled : (m : ℕ) (p : Part) (t : List ℕ) (n : ℕ) (make : ℕ → List ℕ → List ℕ → Item) → 1 + length t ≤ m → SizedItem m (labelledItem p t n make)
+sized-labelled : (m : ℕ) (p : LabelPart) (t : List ℕ) (n : ℕ) (make : ℕ → List ℕ → List ℕ → Item) → 1 + length t ≤ m → SizedItem m (labelledItem p t n make)
 unfolding labelledItem
-sized-labelled m unfinished t n make h = tt
-sized-labelled m (part k d a) t n make h = sized-behind m (k + a + n) t _ h
+sized-labelled m Unfinished t n make h = tt
+sized-labelled m (Numbers k d a) t n make h = sized-behind m (k + a + n) t _ h
 
-sized-section : (m code : ℕ) (p : Part) (t : List ℕ) → 1 + length t ≤ m → SizedItem m (sectionItem code p t)
+sized-section : (m code : ℕ) (p : LabelPart) (t : List ℕ) → 1 + length t ≤ m → SizedItem m (sectionItem code p t)
 unfolding sectionItem
 sized-section m code p t h = pick-case (SizedItem m) _ _ _ (λ e. sized-labelled m p t 8 _ h) (λ e. sized-labelled m p t 16 _ h)
 
-sized-station : (m flags : ℕ) (p : Part) (t : List ℕ) → 1 + length t ≤ m → SizedItem m (stationItem flags p t)
+sized-station : (m flags : ℕ) (p : LabelPart) (t : List ℕ) → 1 + length t ≤ m → SizedItem m (stationItem flags p t)
 unfolding stationItem
 sized-station m flags p t h = sized-labelled m p t 12 _ h
 
-sized-line : (m flags : ℕ) (p : Part) (t : List ℕ) → 1 + length t ≤ m → SizedItem m (lineItem flags p t)
+sized-line : (m flags : ℕ) (p : LabelPart) (t : List ℕ) → 1 + length t ≤ m → SizedItem m (lineItem flags p t)
 unfolding lineItem
 sized-line m flags p t h = sized-labelled m p t 12 _ h
 
@@ -83,9 +90,9 @@ sized-old-high m version code t h =
     let P = SizedItem m in
     pick-case P _ _ _ (λ e. pick-case P _ _ _ (λ e. tt) (λ e. sized-section m code (oldPart t) t h)) λ e.
     pick-case P _ _ _ (λ e. tt) λ e.
-    pick-case P _ _ _ (λ e. sized-station m (code - 64) (oldPart t) t h) λ e.
+    pick-case P _ _ _ (λ e. sized-station m (code - 0x40) (oldPart t) t h) λ e.
     pick-case P _ _ _ (λ e. tt) λ e.
-    pick-case P _ _ _ (λ e. sized-line m (code - 128) (oldPart t) t h) λ e. tt
+    pick-case P _ _ _ (λ e. sized-line m (code - 0x80) (oldPart t) t h) λ e. tt
 
 sized-new-low : (code : ℕ) (s : List ℕ) → 1 ≤ length s → SizedItem (length s) (newLowItem code s)
 unfolding newLowItem moveItem errorItem newDateItem dayItem spanItem daysItem
@@ -108,10 +115,10 @@ sized-new-high m code t h =
     let P = SizedItem m in
     pick-case P _ _ _ (λ e. sized-section m code (newPart t) t h) λ e.
     pick-case P _ _ _ (λ e. tt) λ e.
-    pick-case P _ _ _ (λ e. sized-line m (code - 64) (newPart t) t h) λ e.
+    pick-case P _ _ _ (λ e. sized-line m (code - 0x40) (newPart t) t h) λ e.
     pick-case P _ _ _ (λ e. tt) λ e.
-    pick-case P _ _ _ (λ e. sized-line m (code - 96) (part 0 0 0) t h) λ e.
-    pick-case P _ _ _ (λ e. tt) λ e. sized-station m (code - 128) (newPart t) t h
+    pick-case P _ _ _ (λ e. sized-line m (code - 0x60) (Numbers 0 0 0) t h) λ e.
+    pick-case P _ _ _ (λ e. tt) λ e. sized-station m (code - 0x80) (newPart t) t h
 
 -- every item, of every version, uses at least one byte and no more than are there
 pub progress : (version : ℕ) (s : List ℕ) → SizedItem (length s) (itemOf version s)
@@ -138,26 +145,20 @@ SizedNext m (on n st) = (1 ≤ n) × (n ≤ m)
 SizedNext m (made n r st) = (1 ≤ n) × (n ≤ m)
 
 module _ (m : ℕ) (st : State) (n : ℕ) (h : 1 ≤ n) (k : n ≤ m) where
-  sized-on-label : (x : Labelled) (go : List ℕ → Next) → ((l : List ℕ) → SizedNext m (go l)) → SizedNext m (onLabel x go)
-  sized-on-label tooShort go f = tt
-  sized-on-label tooLong go f = tt
-  sized-on-label (labelled l) go f = f l
-
-  sized-leg : (p : Position) (flags : ℕ) (to : Point) (l : List ℕ) → SizedNext m (legFrom p n st flags to l)
-  sized-leg Unset flags to l = tt
-  sized-leg (Stands from) flags to l = (h, k)
+  sized-label : (cut : Cut) (added : List ℕ) (go : List ℕ → Next) → ((l : List ℕ) → SizedNext m (go l)) → SizedNext m (onLabel (labelStep (st .label) cut added) go)
+  sized-label cut added go f = label-case (SizedNext m) (st .label) cut added go tt tt (λ l z. f l)
 
   sized-apply : (it : Item) → SizedNext m (apply st n it)
-  sized-apply Stop = pick-case (SizedNext m) _ _ _ (λ e. omega arith) λ e. sized-on-label (labelStep (st .label) empty []) _ (λ l. (h, k))
-  sized-apply (Shorten cut) = sized-on-label (labelStep (st .label) cut []) _ (λ l. (h, k))
+  sized-apply Stop = pick-case (SizedNext m) _ _ _ (λ e. omega arith) λ e. sized-label Empty [] _ (λ l. (h, k))
+  sized-apply (Shorten cut) = sized-label cut [] _ (λ l. (h, k))
   sized-apply (Style s) = pick-case (SizedNext m) _ _ _ (λ e. omega arith) λ e. (h, k)
   sized-apply (Move p) = (h, k)
   sized-apply NoDate = (h, k)
   sized-apply (Date first last) = pick-case (SizedNext m) _ _ _ (λ e. tt) λ e. (h, k)
   sized-apply (Error t) = (h, k)
-  sized-apply (Xsect last dims d added) = sized-on-label (labelStep (st .label) (back d) added) _ (λ l. (h, k))
-  sized-apply (Station flags p d added) = sized-on-label (labelStep (st .label) (back d) added) _ (λ l. (h, k))
-  sized-apply (Line flags p d added) = sized-on-label (labelStep (st .label) (back d) added) _ (λ l. sized-leg (st .position) flags p l)
+  sized-apply (Xsect last dims d added) = sized-label (Back d) added _ (λ l. (h, k))
+  sized-apply (Label flags p d added) = sized-label (Back d) added _ (λ l. (h, k))
+  sized-apply (Line flags p d added) = sized-label (Back d) added _ (λ l. leg-case (SizedNext m) (st .setting .position) n st flags p l tt (λ from. (h, k)))
 
 sized-next-of : (m : ℕ) (st : State) (x : Decoded) → SizedItem m x → SizedNext m (nextOf st x)
 sized-next-of m st (faulty k) z = tt
@@ -170,8 +171,8 @@ next-sized version s st = sized-next-of (length s) st (itemOf version s) (progre
 -- ---- the order of refusals in an item: "6, 7, 9, 8"
 
 -- with no position, a LINE is refused for its label first
-pub label-before-position : (st : State) (n flags : ℕ) (p : Point) (d : ℕ) (added : List ℕ) → st .position ≡ Unset
-    → apply st n (Line flags p d added) ≡ onLabel (labelStep (st .label) (back d) added) (λ l. bad 8)
+pub label-before-position : (st : State) (n flags : ℕ) (p : Point) (d : ℕ) (added : List ℕ) → st .setting .position ≡ Unset
+    → apply st n (Line flags p d added) ≡ onLabel (labelStep (st .label) (Back d) added) (λ l. bad 8)
 label-before-position st n flags p d added e = rw e
 
 -- ---- the equation of `run`
@@ -191,7 +192,69 @@ read-cong version at s st f g e = after-cong (length s) (next version s st) at s
 -- reading s is reading its first item, and then what follows it
 pub run-eq : (version at : ℕ) (s : List ℕ) (st : State) → run version at s st ≡ afterItem (next version s st) at s (λ n st′. run version (at + n) (drop n s) st′)
 unfolding run readStep
-run-eq version at s st = iter-eq (readStep version) (λ p. stop (refusal 5 p)) (read-cong version) at s st
+run-eq version at s st = iter-eq (readStep version) (λ p. stop (Refusal 5 p)) (read-cong version) at s st
+
+-- by what the first item comes to
+module _ (version at : ℕ) (s : List ℕ) (st : State) where
+  pub run-bad : {k : ℕ} → next version s st ≡ bad k → run version at s st ≡ stop (Refusal k at)
+  run-bad e = run-eq version at s st ∙ rw e
+
+  pub run-after : next version s st ≡ end → 1 < length s → run version at s st ≡ stop (Refusal 10 (at + 1))
+  unfolding ended pick
+  run-after e h = run-eq version at s st ∙ simp (e, lt-ltb _ _ h)
+
+  pub run-done : next version s st ≡ end → length s ≤ 1 → run version at s st ≡ stop Good
+  unfolding ended pick
+  run-done e h = run-eq version at s st ∙ simp (e, le-ltb _ _ h)
+
+  pub run-on : {n : ℕ} {st′ : State} → next version s st ≡ on n st′ → run version at s st ≡ run version (at + n) (drop n s) st′
+  run-on e = run-eq version at s st ∙ rw e
+
+  pub run-made : {n : ℕ} {r : Record} {st′ : State} → next version s st ≡ made n r st′ → run version at s st ≡ also r (run version (at + n) (drop n s) st′)
+  run-made e = run-eq version at s st ∙ rw e
+
+-- ---- the same at a place of a file: x is what the item there comes to, in the part that code cuts out from there on
+
+-- the item's bytes are there
+abbrev pub Within : ℕ → ℕ → Next → Type 0
+Within m at (bad k) = Unit
+Within m at end = Unit
+Within m at (on n st) = (1 ≤ n) × (at + n ≤ m)
+Within m at (made n r st) = (1 ≤ n) × (at + n ≤ m)
+
+within : (m at : ℕ) (x : Next) → at ≤ m → SizedNext (m - at) x → Within m at x
+within m at (bad k) h z = tt
+within m at end h z = tt
+within m at (on n st) h z = (z .0, omega (arith, z .1))
+within m at (made n r st) h z = (z .0, omega (arith, z .1))
+
+module _ (version : ℕ) (file : List ℕ) (at : ℕ) (st : State) where
+  abbrev nextThere : Next
+  nextThere = next version (take (length file - at) (drop at file)) st
+
+  abbrev left : Result
+  left = run version at (drop at file) st
+
+  pub next-there : {x : Next} → x ≡ nextThere → next version (drop at file) st ≡ x
+  next-there e = sym (rw part-to-end at e)
+
+  pub there-within : {x : Next} → at ≤ length file → x ≡ nextThere → Within (length file) at x
+  there-within {x} h e = within (length file) at x h (rw (← next-there e, ← length-drop at file) (next-sized version (drop at file) st))
+
+  pub left-bad : {k : ℕ} → bad k ≡ nextThere → left ≡ stop (Refusal k at)
+  left-bad e = run-bad version at (drop at file) st (next-there e)
+
+  pub left-after : end ≡ nextThere → 1 < length (drop at file) → left ≡ stop (Refusal 10 (at + 1))
+  left-after e h = run-after version at (drop at file) st (next-there e) h
+
+  pub left-done : end ≡ nextThere → length (drop at file) ≤ 1 → left ≡ stop Good
+  left-done e h = run-done version at (drop at file) st (next-there e) h
+
+  pub left-on : {n : ℕ} {st′ : State} → on n st′ ≡ nextThere → left ≡ run version (at + n) (drop (at + n) file) st′
+  left-on {n} e = run-on version at (drop at file) st (next-there e) ∙ rw (drop-drop n at file)
+
+  pub left-made : {n : ℕ} {r : Record} {st′ : State} → made n r st′ ≡ nextThere → left ≡ also r (run version (at + n) (drop (at + n) file) st′)
+  left-made {n} e = run-made version at (drop at file) st (next-there e) ∙ rw (drop-drop n at file)
 
 -- ---- the label's bound, in every state that reading reaches
 
@@ -202,27 +265,20 @@ ShortNext (on n st) = length (st .label) ≤ labelLimit
 ShortNext (made n r st) = length (st .label) ≤ labelLimit
 
 module _ (st : State) (n : ℕ) (h : length (st .label) ≤ labelLimit) where
-  short-on-label : (x : Labelled) (go : List ℕ → Next) → ShortLabelled x → ((l : List ℕ) → length l ≤ labelLimit → ShortNext (go l)) → ShortNext (onLabel x go)
-  short-on-label tooShort go z f = tt
-  short-on-label tooLong go z f = tt
-  short-on-label (labelled l) go z f = f l z
-
-  short-leg : (p : Position) (flags : ℕ) (to : Point) (l : List ℕ) → length l ≤ labelLimit → ShortNext (legFrom p n st flags to l)
-  short-leg Unset flags to l z = tt
-  short-leg (Stands from) flags to l z = z
+  short-label : (cut : Cut) (added : List ℕ) (go : List ℕ → Next) → ((l : List ℕ) → length l ≤ labelLimit → ShortNext (go l)) → ShortNext (onLabel (labelStep (st .label) cut added) go)
+  short-label cut added go f = label-case ShortNext (st .label) cut added go tt tt f
 
   short-apply : (it : Item) → ShortNext (apply st n it)
-  short-apply Stop = pick-case ShortNext _ _ _ (λ e. tt) λ e. short-on-label (labelStep (st .label) empty []) _ (label-bound (st .label) empty []) (λ l z. z)
-  short-apply (Shorten cut) = short-on-label (labelStep (st .label) cut []) _ (label-bound (st .label) cut []) (λ l z. z)
+  short-apply Stop = pick-case ShortNext _ _ _ (λ e. tt) λ e. short-label Empty [] _ (λ l z. z)
+  short-apply (Shorten cut) = short-label cut [] _ (λ l z. z)
   short-apply (Style s) = pick-case ShortNext _ _ _ (λ e. tt) λ e. h
   short-apply (Move p) = h
   short-apply NoDate = h
   short-apply (Date first last) = pick-case ShortNext _ _ _ (λ e. tt) λ e. h
   short-apply (Error t) = h
-  short-apply (Xsect last dims d added) = short-on-label (labelStep (st .label) (back d) added) _ (label-bound (st .label) (back d) added) (λ l z. z)
-  short-apply (Station flags p d added) = short-on-label (labelStep (st .label) (back d) added) _ (label-bound (st .label) (back d) added) (λ l z. z)
-  short-apply (Line flags p d added) =
-      short-on-label (labelStep (st .label) (back d) added) _ (label-bound (st .label) (back d) added) (λ l z. short-leg (st .position) flags p l z)
+  short-apply (Xsect last dims d added) = short-label (Back d) added _ (λ l z. z)
+  short-apply (Label flags p d added) = short-label (Back d) added _ (λ l z. z)
+  short-apply (Line flags p d added) = short-label (Back d) added _ (λ l z. leg-case ShortNext (st .setting .position) n st flags p l tt (λ from. z))
 
 short-next-of : (st : State) (x : Decoded) → length (st .label) ≤ labelLimit → ShortNext (nextOf st x)
 short-next-of st (faulty k) h = tt

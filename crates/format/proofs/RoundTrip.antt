@@ -1,75 +1,114 @@
 -- The round trip: what writing a good sheet gives, reading gives back as the same sheet, byte for byte, with the same record count.
 -- Assumes nothing.
-use Prim.Native.Nat.{ℕ, _+_, _≤_, _<_}
+use Prim.Native.Nat.{ℕ, _≤_}
 use mathlib.Core.Path.{_≡_, refl, sym, ap, _∙_}
-use mathlib.Core.List.{List, [], _∷_, _++_}
+use mathlib.Core.List.{List}
 use mathlib.Core.Bool.{Bool, true, false}
 use native.Mathlib.Omega.{arith}
 use lib.ListN.{length, take, drop}
-use lib.Seq.{take-append-seam, drop-append-seam}
+use lib.Seq.{take-at, drop-append-seam}
 use lib.Dec.{ltb}
 use borrow.Author.Tests.{ltb-false, le-ltb}
-use Rattle.format.specs.Bytes.{pick, over}
-use Rattle.format.specs.Header.{Header, Opening, shut, opened, openingOf, fileLimit}
-use Rattle.format.specs.State.{State, start, Record}
-use Rattle.format.specs.Sheet.{Verdict, good, refusal, Result, orElse, sheetOf, sheetResult, frontHeader, Bytes, GoodHeader, AllWellFormed}
-use Rattle.format.specs.Reading.{run, Outcome, accepted, refused, outcomeOf, bufferOf, itemsOf, readFrom, sheetFrom, readOutcome, readBuffer}
-use Rattle.format.specs.Writing.{encodeAll, codes, after, closing, headerCodes, fileOf, styleVerdict, sizeVerdict, writtenOutcome, writeOutcome, writeBuffer}
+use Rattle.format.specs.Bytes.{pick, over, Bytes}
+use Rattle.format.specs.Header.{Header, opened, openingOf, fileLimit}
+use Rattle.format.specs.State.{start, Record}
+use Rattle.format.specs.Sheet.{sheetVersion, sheetOf, sheetResult, frontHeader}
+use Rattle.format.specs.Refusals.{Result, orElse, accepted, refused, outcomeOf, bufferOf}
+use Rattle.format.specs.declared.Verdict.the-variants.{Good, Refusal}
+use Rattle.format.specs.declared.Verdict.{Verdict}
+use Rattle.format.specs.WellFormed.{GoodHeader, AllWellFormed}
+use Rattle.format.specs.Reading.{itemsOf, sheetFrom, readOutcome, readBuffer}
+use Rattle.format.specs.Writing.{Writer, v8, encodeAll, fileOf, recordsVerdict, sizeVerdict, writingVerdict, writtenOutcome, filedOutcome, writeOutcome, writeBuffer}
+use Rattle.format.specs.Codes.{headerCodes}
+use Rattle.format.proofs.Basics.{second-picked}
+use Rattle.format.proofs.RefusalLaws.{never}
 use Rattle.format.proofs.SheetLaws.{records-sheet}
 use Rattle.format.proofs.HeaderLaws.{opening-read}
 use Rattle.format.proofs.WritingLaws.{encode-read}
 
 -- ---- verdicts and outcomes
 
-pub both-good : (v w : Verdict) → orElse v w ≡ good → (v ≡ good) × (w ≡ good)
-both-good good w e = (refl, e)
-both-good (refusal n p) w e = absurd (let z : _≡_ {A = ℕ} 0 1 = cc in omega arith)
+pub both-good : (v w : Verdict) → orElse v w ≡ Good → (v ≡ Good) × (w ≡ Good)
+both-good Good w e = (refl, e)
+both-good (Refusal n p) w e = absurd (let z : _≡_ {A = ℕ} 0 1 = cc in omega arith)
 
-pub size-fits : (n : ℕ) → sizeVerdict n ≡ good → n ≤ fileLimit
-unfolding sizeVerdict pick
-size-fits n e = go (ltb fileLimit n) refl e
-  where
-    go : (b : Bool) → ltb fileLimit n ≡ b → pick b (refusal 16 0) good ≡ good → n ≤ fileLimit
-    go true q e = absurd (let z : _≡_ {A = ℕ} 0 1 = cc in omega arith)
-    go false q e = ltb-false _ _ q
+pub size-fits : (n : ℕ) → sizeVerdict n ≡ Good → n ≤ fileLimit
+unfolding sizeVerdict
+size-fits n e = ltb-false _ _ (second-picked (λ q. let z : _≡_ {A = ℕ} 0 1 = cc in omega arith) e .0)
 
 -- what an accepted outcome says
 pub record Accepted (v : Verdict) (bytes records version room b n w : ℕ) : Type 0 where
-  pub fine : v ≡ good
+  pub fine : v ≡ Good
   pub bytes-are : b ≡ bytes
   pub records-are : n ≡ records
   pub version-is : w ≡ version
   pub fits : bytes ≤ room
 
 pub accepted-means : (v : Verdict) (bytes records version room b n w : ℕ) → outcomeOf v bytes records version room ≡ accepted b n w → Accepted v bytes records version room b n w
-unfolding pick
-accepted-means good bytes records version room b n w e = go (ltb room bytes) refl e
-  where
-    go : (t : Bool) → ltb room bytes ≡ t → pick t (refused 11 bytes) (accepted bytes records version) ≡ accepted b n w → Accepted good bytes records version room b n w
-    go true q e = absurd (let z : _≡_ {A = ℕ} 0 1 = cc in omega arith)
-    go false q e = record { fine = refl; bytes-are = cc; records-are = cc; version-is = cc; fits = ltb-false _ _ q }
-accepted-means (refusal k p) bytes records version room b n w e = absurd (let z : _≡_ {A = ℕ} 0 1 = cc in omega arith)
+accepted-means Good bytes records version room b n w e =
+    let p = second-picked (never 11 bytes b n w) e in
+    let q = p .1 in
+    record { fine = refl; bytes-are = cc; records-are = cc; version-is = cc; fits = ltb-false _ _ (p .0) }
+accepted-means (Refusal k p) bytes records version room b n w e = absurd (never k p b n w e)
 
 -- what is accepted fits
 pub accepted-fits : {v : Verdict} {bytes records version room b n w : ℕ} → Accepted v bytes records version room b n w → b ≤ room
 accepted-fits A = let q = A .bytes-are in let r = A .fits in omega arith
 
+-- ---- an accepted writing of a header and records, by any writer
+
+pub record Writes (k : Writer) (h : Header) (x : Result) (b n v : ℕ) : Type 0 where
+  pub given : x .verdict ≡ Good
+  pub writable : recordsVerdict k 0 start (x .records) ≡ Good
+  pub small : length (fileOf k h (x .records)) ≤ fileLimit
+  pub bytes-are : b ≡ length (fileOf k h (x .records))
+  pub records-are : n ≡ length (x .records)
+  pub version-is : v ≡ k .version
+
+module _ (k : Writer) (h : Header) (x : Result) (room b n v : ℕ) (e : writtenOutcome k h x room ≡ accepted b n v) where
+  abbrev whole : List ℕ
+  whole = fileOf k h (x .records)
+
+  accepted-written : Accepted (writingVerdict k x (length whole)) (length whole) (length (x .records)) (k .version) room b n v
+  unfolding writtenOutcome filedOutcome
+  accepted-written = accepted-means _ (length whole) (length (x .records)) (k .version) room b n v e
+
+  pub writes : Writes k h x b n v
+  writes =
+      let A = accepted-written in
+      let y = both-good (x .verdict) (orElse (recordsVerdict k 0 start (x .records)) (sizeVerdict (length whole))) (A .fine) in
+      let z = both-good (recordsVerdict k 0 start (x .records)) (sizeVerdict (length whole)) (y .1) in
+      record { given = y .0; writable = z .0; small = size-fits (length whole) (z .1); bytes-are = A .bytes-are; records-are = A .records-are; version-is = A .version-is }
+
+  -- it leaves the file at the buffer's front
+  pub writes-file : (old : List ℕ) → take b (bufferOf (accepted b n v) whole old) ≡ whole
+  unfolding over
+  writes-file old = take-at whole (drop (length whole) old) b (sym (accepted-written .bytes-are))
+
+  -- and is accepted wherever there is room for its bytes
+  pub writes-again : (room′ : ℕ) → b ≤ room′ → writtenOutcome k h x room′ ≡ accepted b n v
+  unfolding writtenOutcome filedOutcome pick
+  writes-again room′ enough =
+      let A = accepted-written in
+      let q : length whole ≤ room′ = omega (arith, A .bytes-are) in
+      rw (A .fine, le-ltb room′ (length whole) q, A .bytes-are, A .records-are, A .version-is)
+
 -- ---- a file that was written, read
 
-module _ (h : Header) (g : GoodHeader h) (rs : List Record) (w : AllWellFormed rs) (s : styleVerdict 0 start rs ≡ good) (fits : length (fileOf h rs) ≤ fileLimit) where
-  pub written-opens : openingOf (fileOf h rs) ≡ opened 8 (length (headerCodes h)) h
+module _ (h : Header) (g : GoodHeader h) (rs : List Record) (w : AllWellFormed rs) (s : recordsVerdict v8 0 start rs ≡ Good) (fits : length (fileOf v8 h rs) ≤ fileLimit) where
+  pub written-opens : openingOf (fileOf v8 h rs) ≡ opened 8 (length (headerCodes h)) h
   unfolding fileOf
-  written-opens = opening-read h g (encodeAll codes after closing start rs) fits
+  written-opens = opening-read h g (encodeAll v8 start rs) fits
 
-  pub written-items : itemsOf 8 (length (headerCodes h)) (fileOf h rs) ≡ record { records = rs; verdict = good }
+  pub written-items : itemsOf 8 (length (headerCodes h)) (fileOf v8 h rs) ≡ record { records = rs; verdict = Good }
   unfolding itemsOf fileOf
-  written-items = rw (drop-append-seam (headerCodes h) (encodeAll codes after closing start rs)) (encode-read rs 0 start (omega arith) w s (length (headerCodes h)))
+  written-items = rw (drop-append-seam (headerCodes h) (encodeAll v8 start rs)) (encode-read rs 0 start (omega arith) w s (length (headerCodes h)))
 
-  pub written-outcome : (room : ℕ) → readOutcome (fileOf h rs) room ≡ outcomeOf good (length (sheetOf h rs)) (length rs) 8 room
+  pub written-outcome : (room : ℕ) → readOutcome (fileOf v8 h rs) room ≡ outcomeOf Good (length (sheetOf sheetVersion h rs)) (length rs) 8 room
   unfolding readOutcome
   written-outcome room = rw (written-opens, written-items)
 
-  pub written-sheet : sheetFrom (openingOf (fileOf h rs)) (fileOf h rs) ≡ sheetOf h rs
+  pub written-sheet : sheetFrom (openingOf (fileOf v8 h rs)) (fileOf v8 h rs) ≡ sheetOf sheetVersion h rs
   written-sheet = rw (written-opens, written-items)
 
 -- ---- a sheet, written and read
@@ -78,7 +117,7 @@ module _ (h : Header) (g : GoodHeader h) (rs : List Record) (w : AllWellFormed r
 abbrev pub fileIn : ℕ → List ℕ → List ℕ
 fileIn bytes buffer = take bytes buffer
 
-module _ (sheet : List ℕ) (bytes : Bytes sheet) (old : List ℕ) (b n v : ℕ) (e : writeOutcome sheet (length old) ≡ accepted b n v) where
+module _ (sheet : List ℕ) (bytes : Bytes sheet) (old : List ℕ) (b n v : ℕ) (e : writeOutcome v8 sheet (length old) ≡ accepted b n v) where
   abbrev h : Header
   h = frontHeader sheet
 
@@ -86,39 +125,33 @@ module _ (sheet : List ℕ) (bytes : Bytes sheet) (old : List ℕ) (b n v : ℕ)
   rs = sheetResult sheet .records
 
   abbrev file : List ℕ
-  file = fileOf h rs
+  file = fileOf v8 h rs
 
-  accepted-write : Accepted (orElse (sheetResult sheet .verdict) (orElse (styleVerdict 0 start rs) (sizeVerdict (length file)))) (length file) (length rs) 8 (length old) b n v
-  unfolding writeOutcome writtenOutcome
-  accepted-write = accepted-means _ (length file) (length rs) 8 (length old) b n v e
+  written : Writes v8 h (sheetResult sheet) b n v
+  unfolding writeOutcome
+  written = writes v8 h (sheetResult sheet) (length old) b n v e
 
-  all-good : (sheetResult sheet .verdict ≡ good) × (orElse (styleVerdict 0 start rs) (sizeVerdict (length file)) ≡ good)
-  all-good = both-good (sheetResult sheet .verdict) _ (accepted-write .fine)
+  good-sheet : sheetResult sheet ≡ record { records = rs; verdict = Good }
+  good-sheet = λ i. record { records = rs; verdict = written .given i }
 
-  rest-good : (styleVerdict 0 start rs ≡ good) × (sizeVerdict (length file) ≡ good)
-  rest-good = both-good (styleVerdict 0 start rs) (sizeVerdict (length file)) (all-good .1)
-
-  good-sheet : sheetResult sheet ≡ record { records = rs; verdict = good }
-  good-sheet = λ i. record { records = rs; verdict = all-good .0 i }
-
-  sheet-is : (sheetOf h rs ≡ sheet) × GoodHeader h × AllWellFormed rs
+  pub sheet-is : (sheetOf sheetVersion h rs ≡ sheet) × GoodHeader h × AllWellFormed rs
   sheet-is = records-sheet sheet bytes rs good-sheet
 
   -- the buffer begins with the file
-  pub file-written : take b (writeBuffer sheet old) ≡ file
-  unfolding writeBuffer over
-  file-written = rw (e, accepted-write .bytes-are) (take-append-seam file _)
+  pub file-written : take b (writeBuffer v8 sheet old) ≡ file
+  unfolding writeBuffer writeOutcome
+  file-written = rw e (writes-file v8 h (sheetResult sheet) (length old) b n v e old)
 
   -- reading it answers with the sheet's own length and the same record count
-  pub round-trip-answer : (room : ℕ) → readOutcome (take b (writeBuffer sheet old)) room ≡ outcomeOf good (length sheet) n 8 room
+  pub round-trip-answer : (room : ℕ) → readOutcome (take b (writeBuffer v8 sheet old)) room ≡ outcomeOf Good (length sheet) n 8 room
   round-trip-answer room =
-      let t = written-outcome h (sheet-is .1) rs (sheet-is .2) (rest-good .0) (size-fits (length file) (rest-good .1)) room in
-      rw (file-written, accepted-write .records-are) (t ∙ ap (λ (x : List ℕ). outcomeOf good (length x) (length rs) 8 room) (sheet-is .0))
+      let t = written-outcome h (sheet-is .1) rs (sheet-is .2) (written .writable) (written .small) room in
+      rw (file-written, written .records-are) (t ∙ ap (λ (x : List ℕ). outcomeOf Good (length x) (length rs) 8 room) (sheet-is .0))
 
   -- and gives the same sheet, byte for byte
-  pub round-trip-sheet : (new : List ℕ) → length sheet ≤ length new → readBuffer (take b (writeBuffer sheet old)) new ≡ over sheet new
+  pub round-trip-sheet : (new : List ℕ) → length sheet ≤ length new → readBuffer (take b (writeBuffer v8 sheet old)) new ≡ over sheet new
   unfolding readBuffer pick
   round-trip-sheet new fits =
-      let t = written-sheet h (sheet-is .1) rs (sheet-is .2) (rest-good .0) (size-fits (length file) (rest-good .1)) in
-      let a : sheetFrom (openingOf (take b (writeBuffer sheet old))) (take b (writeBuffer sheet old)) ≡ sheet = rw file-written (t ∙ sheet-is .0) in
+      let t = written-sheet h (sheet-is .1) rs (sheet-is .2) (written .writable) (written .small) in
+      let a : sheetFrom (openingOf (take b (writeBuffer v8 sheet old))) (take b (writeBuffer v8 sheet old)) ≡ sheet = rw file-written (t ∙ sheet-is .0) in
       rw (round-trip-answer (length new), le-ltb (length new) (length sheet) fits, a)

@@ -8,8 +8,9 @@ use lib.Dec.{leb}
 use borrow.Author.Tests.{leb-true}
 use Rattle.format.specs.Bytes.{le16, le32, toLe16, toLe32, widened}
 use Rattle.format.specs.Items.{pointOf, dimensionsOf, traverseOf}
-use Rattle.format.specs.Sheet.{pointBytes, dimensionBytes, traverseBytes, GoodPoint, GoodDimensions, GoodTraverse}
-use Rattle.format.specs.Writing.{fitsShort, allShort}
+use Rattle.format.specs.Sheet.{pointBytes, dimensionBytes, traverseBytes}
+use Rattle.format.specs.WellFormed.{GoodPoint, GoodDimensions, GoodTraverse}
+use Rattle.format.specs.Codes.{fitsShort, allShort}
 use Rattle.format.specs.declared.Point.{Point}
 use Rattle.format.specs.declared.Dimensions.{Dimensions}
 use Rattle.format.specs.declared.Traverse.{Traverse}

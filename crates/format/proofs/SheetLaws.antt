@@ -10,31 +10,49 @@ use lib.ListN.{length, getD, take, drop, length-append, length-drop, take-append
 use lib.Seq.{take-add, drop-cons, drop-drop, getD-drop, take-at, drop-at, length-take-le}
 use lib.Dec.{eqb, ltb, leb}
 use borrow.Author.Tests.{eqb-true, ltb-true, leb-true, eq-eqb, ne-eqb, lt-ltb, le-leb, not-true}
-use Rattle.format.specs.Bytes.{pick, be16, be32, toBe16, toBe32}
+use Rattle.format.specs.Bytes.{pick, be16, be32, toBe16, toBe32, Bytes}
 use Rattle.format.specs.Header.{Header, lineEnd, endsInReturn, titleLimit, timeLimit}
 use Rattle.format.specs.Label.{labelLimit}
 use Rattle.format.specs.Items.{pointOf, dimensionsOf, traverseOf}
 use Rattle.format.specs.State.{Record, leg, station, section, error}
-use Rattle.format.specs.Sheet.{good, refusal, Result, stop, also, pointBytes, dimensionBytes, traverseBytes, dateBytes, legBody, stationBody, sectionBody, errorBody, recordBody, layout, layoutAll, headerLayout, sheetOf, Entry, flawed, entry, labelFits, labelFrom, goodDate, dateFrom, legEntry, stationEntry, sectionEntry, errorEntry, bodyEntry, framed, entryOf, entryStep, recordsStep, recordsFrom, recordsOf, goodText, headerFrom, goodHeader, goodFront, frontHeader, behindFront, sheetResult, Bytes, GoodPoint, GoodTraverse, GoodDated, GoodStation, GoodSection, WellFormed, AllWellFormed, GoodHeader}
+use Rattle.format.specs.Sheet.{sheetVersion, pointBytes, dimensionBytes, traverseBytes, dateBytes, legBody, stationBody, sectionBody, errorBody, recordBody, legSize, stationSize, sectionSize, errorSize, recordLimit, dateKind, dateDay, dateLast, legFields, stationFields, sectionFields, layout, layoutAll, headerLayout, sheetOf, Entry, flawed, entry, labelFits, labelFrom, goodDate, dateFrom, legEntry, stationEntry, sectionEntry, errorEntry, bodyEntry, framed, entryOf, entryStep, recordsStep, recordsFrom, recordsOf, goodText, headerFrom, goodHeader, goodFront, frontHeader, behindFront, sheetResult}
+use Rattle.format.specs.Refusals.{Result, stop, also}
+use Rattle.format.specs.declared.Verdict.the-variants.{Good, Refusal}
+use Rattle.format.specs.WellFormed.{GoodPoint, GoodTraverse, GoodDated, GoodLeg, GoodStation, GoodSection, WellFormed, AllWellFormed, GoodHeader}
 use Rattle.format.specs.declared.Point.{Point}
 use Rattle.format.specs.declared.Dimensions.{Dimensions}
 use Rattle.format.specs.declared.Traverse.{Traverse}
 use Rattle.format.specs.declared.Dated.{Dated}
 use Rattle.format.specs.declared.Dated.the-variants.{Undated, Day, Range}
+use Rattle.format.specs.declared.Leg.{Leg}
+use Rattle.format.specs.declared.Station.{Station}
+use Rattle.format.specs.declared.Section.{Section}
+use Rattle.format.specs.declared.Fields.{Fields}
+use Rattle.format.specs.declared.Fields.the-variants.{Leg as FieldsLeg, Station as FieldsStation, Section as FieldsSection, Error as FieldsError}
+use Rattle.format.specs.Fields.{recordOf, recordSize}
 use Rattle.format.proofs.Basics.{pick-case, pick-true, pick-false, both, and-true, be16-to, be32-to}
 use Rattle.format.proofs.IterateLaws.{iter-eq}
 
 -- a label that fits
-fits : (n k : ℕ) → labelFits n k ≡ true → (k ≤ n) × (n ≤ k + labelLimit)
-fits n k e = let f = both _ _ e in (leb-true k n (f .0), leb-true n (k + labelLimit) (f .1))
+pub record Fits (n k : ℕ) : Type 0 where
+  pub least : k ≤ n
+  pub most : n ≤ k + labelLimit
+
+pub fits : (n k : ℕ) → labelFits n k ≡ true → Fits n k
+fits n k e = let f = both _ _ e in record { least = leb-true k n (f .0); most = leb-true n (k + labelLimit) (f .1) }
 
 -- a record that is all there
-frame : (s : List ℕ) → framed s ≡ true → (3 ≤ length s) × (1 ≤ be16 s) × (2 + be16 s ≤ length s)
+pub record Framed (s : List ℕ) : Type 0 where
+  pub length-there : 3 ≤ length s
+  pub least : 1 ≤ be16 s
+  pub inside : 2 + be16 s ≤ length s
+
+pub frame : (s : List ℕ) → framed s ≡ true → Framed s
 unfolding framed
 frame s e =
     let f = both _ _ e in
     let g = both _ _ (f .1) in
-    (leb-true _ _ (f .0), leb-true _ _ (g .0), leb-true _ _ (g .1))
+    record { length-there = leb-true _ _ (f .0); least = leb-true _ _ (g .0); inside = leb-true _ _ (g .1) }
 
 -- ---- the size of the record at the front
 
@@ -42,7 +60,7 @@ pub record Size (s : List ℕ) (n : ℕ) : Type 0 where
   pub least : 3 ≤ n
   pub inside : n ≤ length s
   pub whole : n ≡ 2 + be16 s
-  pub most : n ≤ 4130
+  pub most : n ≤ recordLimit
 
 abbrev pub SizedEntry : List ℕ → Entry → Type 0
 SizedEntry s flawed = Unit
@@ -63,7 +81,7 @@ module _ (s : List ℕ) (n : ℕ) (t : List ℕ) (least : 1 ≤ n) (inside : 2 +
   unfolding stationEntry
   sized-station = pick-case (SizedEntry s) _ _ _ (λ e. labelled-size 14 (omega arith) (both _ _ e .0)) λ e. tt
 
-  sized-section : SizedEntry s (sectionEntry n t)
+  sized-section : SizedEntry s (sectionEntry sheetVersion n t)
   unfolding sectionEntry
   sized-section = pick-case (SizedEntry s) _ _ _ (λ e. labelled-size 18 (omega arith) (both _ _ e .0)) λ e. tt
 
@@ -71,7 +89,7 @@ module _ (s : List ℕ) (n : ℕ) (t : List ℕ) (least : 1 ≤ n) (inside : 2 +
   unfolding errorEntry
   sized-error = pick-case (SizedEntry s) _ _ _ (λ e. let z : n ≡ 21 = eqb-true _ _ e in size (omega arith)) λ e. tt
 
-  sized-body : SizedEntry s (bodyEntry n t)
+  sized-body : SizedEntry s (bodyEntry sheetVersion n t)
   unfolding bodyEntry
   sized-body =
       pick-case (SizedEntry s) _ _ _ (λ e. sized-leg) λ e.
@@ -79,11 +97,11 @@ module _ (s : List ℕ) (n : ℕ) (t : List ℕ) (least : 1 ≤ n) (inside : 2 +
       pick-case (SizedEntry s) _ _ _ (λ e. sized-section) λ e.
       pick-case (SizedEntry s) _ _ _ (λ e. sized-error) λ e. tt
 
-pub sized-entry : (s : List ℕ) → SizedEntry s (entryOf s)
+pub sized-entry : (s : List ℕ) → SizedEntry s (entryOf sheetVersion s)
 unfolding entryOf
-sized-entry s = pick-case (SizedEntry s) _ _ _ (λ e. let f = frame s e in sized-body s (be16 s) (drop 2 s) (f .1) (f .2) refl) λ e. tt
+sized-entry s = pick-case (SizedEntry s) _ _ _ (λ e. let f = frame s e in sized-body s (be16 s) (drop 2 s) (f .least) (f .inside) refl) λ e. tt
 
-pub entry-sized : (s : List ℕ) {k : ℕ} {r : Record} → entryOf s ≡ entry k r → Size s k
+pub entry-sized : (s : List ℕ) {k : ℕ} {r : Record} → entryOf sheetVersion s ≡ entry k r → Size s k
 entry-sized s e = rw e at (sized-entry s)
 
 -- ---- the equation of reading records
@@ -92,57 +110,76 @@ entryStep-cong : (s : List ℕ) (it : Entry) → SizedEntry s it → (n : ℕ) (
 entryStep-cong s flawed z n f g h = refl
 entryStep-cong s (entry k r) z n f g h = ap (λ (x : Result). also r x) (h k (n + 1) (omega arith) (z .inside))
 
-recordsStep-cong : (at : ℕ) (s : List ℕ) (n : ℕ) (f g : ℕ → ℕ → Result) → ((k m : ℕ) → 0 < k → k ≤ length s → f k m ≡ g k m) → recordsStep at s n f ≡ recordsStep at s n g
+recordsStep-cong : (at : ℕ) (s : List ℕ) (n : ℕ) (f g : ℕ → ℕ → Result) → ((k m : ℕ) → 0 < k → k ≤ length s → f k m ≡ g k m) → recordsStep sheetVersion at s n f ≡ recordsStep sheetVersion at s n g
 unfolding recordsStep
-recordsStep-cong at s n f g h = ap (λ (x : Result). pick (eqb (length s) 0) (stop good) x) (entryStep-cong s (entryOf s) (sized-entry s) n f g h)
+recordsStep-cong at s n f g h = ap (λ (x : Result). pick (eqb (length s) 0) (stop Good) x) (entryStep-cong s (entryOf sheetVersion s) (sized-entry s) n f g h)
 
-records-eq : (at : ℕ) (s : List ℕ) (n : ℕ) → recordsFrom at s n ≡ recordsStep at s n (λ k m. recordsFrom (at + k) (drop k s) m)
+records-eq : (at : ℕ) (s : List ℕ) (n : ℕ) → recordsFrom sheetVersion at s n ≡ recordsStep sheetVersion at s n (λ k m. recordsFrom sheetVersion (at + k) (drop k s) m)
 unfolding recordsFrom
-records-eq at s n = iter-eq recordsStep (λ p. stop good) recordsStep-cong at s n
+records-eq at s n = iter-eq (recordsStep sheetVersion) (λ p. stop Good) recordsStep-cong at s n
 
-pub records-none : (at n : ℕ) → recordsFrom at [] n ≡ stop good
+pub records-none : (at n : ℕ) → recordsFrom sheetVersion at [] n ≡ stop Good
 unfolding recordsStep pick
 records-none at n = records-eq at [] n
 
-pub records-more : (at : ℕ) (s : List ℕ) (n : ℕ) → 0 < length s → recordsFrom at s n ≡ entryStep (entryOf s) n (λ k m. recordsFrom (at + k) (drop k s) m)
+pub records-more : (at : ℕ) (s : List ℕ) (n : ℕ) → 0 < length s → recordsFrom sheetVersion at s n ≡ entryStep (entryOf sheetVersion s) n (λ k m. recordsFrom sheetVersion (at + k) (drop k s) m)
 unfolding recordsStep
 records-more at s n h = records-eq at s n ∙ pick-false _ _ (ne-eqb (length s) 0 λ e. omega arith)
 
 -- ---- the lengths of layouts
 
-pub layout-leg : (flags style : ℕ) (date : Dated) (from to : Point) (label : List ℕ) → length (layout (leg flags style date from to label)) ≡ 2 + (32 + length label)
+pub layout-leg : (g : Leg) (label : List ℕ) → length (layout sheetVersion (leg g label)) ≡ 2 + (legSize + length label)
 unfolding layout toBe16 toBe32
-layout-leg flags style Undated from to label = omega arith
-layout-leg flags style (Day d) from to label = omega arith
-layout-leg flags style (Range d e) from to label = omega arith
+layout-leg g label = omega arith
 
-pub layout-station : (flags : ℕ) (p : Point) (label : List ℕ) → length (layout (station flags p label)) ≡ 2 + (14 + length label)
+pub layout-station : (s : Station) (label : List ℕ) → length (layout sheetVersion (station s label)) ≡ 2 + (stationSize + length label)
 unfolding layout toBe16 toBe32
-layout-station flags p label = omega arith
+layout-station s label = omega arith
 
-pub layout-section : (last : ℕ) (d : Dimensions) (label : List ℕ) → length (layout (section last d label)) ≡ 2 + (18 + length label)
+pub layout-section : (s : Section) (label : List ℕ) → length (layout sheetVersion (section s label)) ≡ 2 + (sectionSize + length label)
 unfolding layout toBe16 toBe32
-layout-section last d label = omega arith
+layout-section s label = omega arith
 
-pub layout-error : (t : Traverse) → length (layout (error t)) ≡ 23
+pub layout-error : (t : Traverse) → length (layout sheetVersion (error t)) ≡ 2 + errorSize
 unfolding layout toBe16 toBe32
 layout-error t = refl
 
-pub layout-length : (r : Record) → WellFormed r → length (layout r) ≤ 4130
-layout-length (leg flags style date from to label) w = omega (arith, layout-leg flags style date from to label)
-layout-length (station flags p label) w = omega (arith, layout-station flags p label)
-layout-length (section last d label) w = omega (arith, layout-section last d label)
+pub layout-length : (r : Record) → WellFormed r → length (layout sheetVersion r) ≤ recordLimit
+layout-length (leg g label) w = omega (arith, layout-leg g label)
+layout-length (station s label) w = omega (arith, layout-station s label)
+layout-length (section s label) w = omega (arith, layout-section s label)
 layout-length (error t) w = omega (arith, layout-error t)
 
-layout-is : (r : Record) → length (layout r) ≡ 2 + length (recordBody r)
+-- the size that the code adds up is that of the layout
+pub layout-size : (f : Fields) (l : List ℕ) → length (layout sheetVersion (recordOf f l)) ≡ recordSize f (length l)
+layout-size (FieldsLeg flags style date from to) l = layout-leg _ l ∙ omega arith
+layout-size (FieldsStation s) l = layout-station s l ∙ omega arith
+layout-size (FieldsSection s) l = layout-section s l ∙ omega arith
+layout-size (FieldsError t) l = layout-error t
+
+layout-is : (r : Record) → length (layout sheetVersion r) ≡ 2 + length (recordBody sheetVersion r)
 unfolding layout toBe16
 layout-is r = omega arith
 
-body-some : (r : Record) → 1 ≤ length (recordBody r)
-body-some (leg flags style date from to label) = omega arith
-body-some (station flags p label) = omega arith
-body-some (section last d label) = omega arith
+body-some : (r : Record) → 1 ≤ length (recordBody sheetVersion r)
+body-some (leg g label) = omega arith
+body-some (station s label) = omega arith
+body-some (section s label) = omega arith
 body-some (error t) = omega arith
+
+-- ---- dates: kind, day and last day tell the date
+
+pub record DateBack (x : Dated) : Type 0 where
+  pub same : dateFrom (dateKind x) (dateDay x) (dateLast x) ≡ x
+  pub good : goodDate (dateKind x) (dateDay x) (dateLast x) ≡ true
+  pub day-fits : dateDay x < 65536
+  pub last-fits : dateLast x < 65536
+
+pub date-back : (x : Dated) → GoodDated x → DateBack x
+unfolding dateFrom goodDate pick
+date-back Undated w = record { same = refl; good = refl; day-fits = omega arith; last-fits = omega arith }
+date-back (Day d) w = record { same = refl; good = refl; day-fits = w; last-fits = omega arith }
+date-back (Range d e) w = record { same = refl; good = lt-ltb d e (w .0); day-fits = omega (arith, w .0, w .1); last-fits = w .1 }
 
 -- ---- one record, laid out and read
 
@@ -153,40 +190,52 @@ module _ (label rest : List ℕ) (n : ℕ) where
   fits-back : (k : ℕ) → n ≡ k + length label → length label ≤ labelLimit → labelFits n k ≡ true
   fits-back k e h = and-true (le-leb k n (omega arith)) (le-leb n (k + labelLimit) (omega arith))
 
-  leg-back : n ≡ 32 + length label → (flags style kind d e : ℕ) (from to : Point) → flags ≤ 7 → style ≤ 5 → goodDate kind d e ≡ true → d < 65536 → e < 65536 → GoodPoint from → GoodPoint to → length label ≤ labelLimit
-      → legEntry n (1 ∷ flags ∷ style ∷ kind ∷ (toBe16 d ++ (toBe16 e ++ (pointBytes toBe32 from ++ (pointBytes toBe32 to ++ (label ++ rest))))))
-      ≡ entry (2 + n) (leg flags style (dateFrom kind d e) from to label)
+  leg-back : n ≡ legSize + length label → (g : Leg) → GoodLeg g label → legEntry n (legBody g label ++ rest) ≡ entry (2 + n) (leg g label)
   unfolding legEntry pick toBe16 toBe32
-  leg-back en flags style kind d e from to hf hs hd h1 h2 f g hl =
-      simp (fits-back 32 en hl, le-leb flags 7 hf, le-leb style 5 hs, be16-to, hd, be32-to, f .x-fits, f .y-fits, f .z-fits, g .x-fits, g .y-fits, g .z-fits, label-back 32 en)
+  leg-back en g w =
+      let p = w .from-fits in
+      let q = w .to-fits in
+      let d = date-back (g .date) (w .date-fits) in
+      simp (
+        fits-back legSize en (w .label-fits),
+        le-leb (g .flags) 0x07 (w .flags-fit),
+        le-leb (g .style) 5 (w .style-fits),
+        be16-to,
+        d .day-fits,
+        d .last-fits,
+        d .good,
+        d .same,
+        be32-to,
+        p .x-fits,
+        p .y-fits,
+        p .z-fits,
+        q .x-fits,
+        q .y-fits,
+        q .z-fits,
+        label-back legSize en,
+      )
 
-  station-back : n ≡ 14 + length label → (flags : ℕ) (p : Point) → GoodStation flags p label → stationEntry n (stationBody flags p label ++ rest) ≡ entry (2 + n) (station flags p label)
+  station-back : n ≡ stationSize + length label → (s : Station) → GoodStation s label → stationEntry n (stationBody s label ++ rest) ≡ entry (2 + n) (station s label)
   unfolding stationEntry pick toBe32
-  station-back en flags p w =
+  station-back en s w =
       let g = w .place-fits in
-      simp (fits-back 14 en (w .label-fits), le-leb flags 127 (w .flags-fit), be32-to, g .x-fits, g .y-fits, g .z-fits, label-back 14 en)
+      simp (fits-back stationSize en (w .label-fits), le-leb (s .flags) 0x7f (w .flags-fit), be32-to, g .x-fits, g .y-fits, g .z-fits, label-back stationSize en)
 
-  section-back : n ≡ 18 + length label → (last : ℕ) (d : Dimensions) → GoodSection last d label → sectionEntry n (sectionBody last d label ++ rest) ≡ entry (2 + n) (section last d label)
+  section-back : n ≡ sectionSize + length label → (s : Section) → GoodSection s label → sectionEntry sheetVersion n (sectionBody sheetVersion s label ++ rest) ≡ entry (2 + n) (section s label)
   unfolding sectionEntry pick toBe32
-  section-back en last d w =
+  section-back en s w =
       let g = w .dimensions-fit in
-      simp (fits-back 18 en (w .label-fits), le-leb last 1 (w .last-fits), be32-to, g .left-fits, g .right-fits, g .up-fits, g .down-fits, label-back 18 en)
+      simp (fits-back sectionSize en (w .label-fits), le-leb (s .last) 1 (w .last-fits), be32-to, g .left-fits, g .right-fits, g .up-fits, g .down-fits, label-back sectionSize en)
 
 error-back : (t : Traverse) (rest : List ℕ) → GoodTraverse t → errorEntry 21 (errorBody t ++ rest) ≡ entry 23 (error t)
 unfolding errorEntry pick toBe32
 error-back t rest g = simp (be32-to, g .legs-fit, g .total-fits, g .e-fits, g .h-fits, g .v-fits)
 
-body-back : (r : Record) → WellFormed r → (rest : List ℕ) (n : ℕ) → n ≡ length (recordBody r) → bodyEntry n (recordBody r ++ rest) ≡ entry (2 + n) r
-unfolding bodyEntry pick goodDate dateFrom toBe16 toBe32
-body-back (leg flags style Undated from to label) w rest n en =
-    leg-back label rest n (omega arith) flags style 0 0 0 from to (w .flags-fit) (w .style-fits) refl (omega arith) (omega arith) (w .from-fits) (w .to-fits) (w .label-fits)
-body-back (leg flags style (Day d) from to label) w rest n en =
-    leg-back label rest n (omega arith) flags style 1 d 0 from to (w .flags-fit) (w .style-fits) refl (w .date-fits) (omega arith) (w .from-fits) (w .to-fits) (w .label-fits)
-body-back (leg flags style (Range d e) from to label) w rest n en =
-    let h = w .date-fits in
-    leg-back label rest n (omega arith) flags style 2 d e from to (w .flags-fit) (w .style-fits) (lt-ltb d e (h .0)) (omega arith) (h .1) (w .from-fits) (w .to-fits) (w .label-fits)
-body-back (station flags p label) w rest n en = station-back label rest n (omega arith) flags p w
-body-back (section last d label) w rest n en = section-back label rest n (omega arith) last d w
+body-back : (r : Record) → WellFormed r → (rest : List ℕ) (n : ℕ) → n ≡ length (recordBody sheetVersion r) → bodyEntry sheetVersion n (recordBody sheetVersion r ++ rest) ≡ entry (2 + n) r
+unfolding bodyEntry pick toBe16 toBe32
+body-back (leg g label) w rest n en = leg-back label rest n (omega arith) g w
+body-back (station s label) w rest n en = station-back label rest n (omega arith) s w
+body-back (section s label) w rest n en = section-back label rest n (omega arith) s w
 body-back (error t) w rest n en = rw en (error-back t rest w)
 
 -- what is laid out is all there
@@ -194,20 +243,20 @@ is-framed : (s : List ℕ) → 1 ≤ be16 s → 2 + be16 s ≤ length s → fram
 unfolding framed
 is-framed s h1 h2 = and-true (le-leb 3 (length s) (omega arith)) (and-true (le-leb 1 (be16 s) h1) (le-leb (2 + be16 s) (length s) h2))
 
-entry-framed : (s : List ℕ) → 1 ≤ be16 s → 2 + be16 s ≤ length s → entryOf s ≡ bodyEntry (be16 s) (drop 2 s)
+entry-framed : (s : List ℕ) → 1 ≤ be16 s → 2 + be16 s ≤ length s → entryOf sheetVersion s ≡ bodyEntry sheetVersion (be16 s) (drop 2 s)
 unfolding entryOf
 entry-framed s h1 h2 = pick-true _ _ (is-framed s h1 h2)
 
 -- "A well-formed record keeps the sheet's layout": it is read back
-pub entry-layout : (r : Record) → WellFormed r → (rest : List ℕ) → entryOf (layout r ++ rest) ≡ entry (length (layout r)) r
+pub entry-layout : (r : Record) → WellFormed r → (rest : List ℕ) → entryOf sheetVersion (layout sheetVersion r ++ rest) ≡ entry (length (layout sheetVersion r)) r
 unfolding layout toBe16
 entry-layout r w rest =
-    let b = recordBody r in
+    let b = recordBody sheetVersion r in
     let most = layout-length r w in
     let some = body-some r in
-    let e : be16 (layout r ++ rest) ≡ length b = be16-to (length b) (b ++ rest) (omega arith) in
+    let e : be16 (layout sheetVersion r ++ rest) ≡ length b = be16-to (length b) (b ++ rest) (omega arith) in
     let l = length-append b rest in
-    entry-framed (layout r ++ rest) (omega arith) (omega arith) ∙ body-back r w rest (be16 (layout r ++ rest)) e ∙ ap (λ (n : ℕ). entry n r) (omega arith)
+    entry-framed (layout sheetVersion r ++ rest) (omega arith) (omega arith) ∙ body-back r w rest (be16 (layout sheetVersion r ++ rest)) e ∙ ap (λ (n : ℕ). entry n r) (omega arith)
 
 -- ---- the other way: what is read is what is laid out
 
@@ -282,22 +331,25 @@ module _ (u : List ℕ) (b : Bytes u) (m : ℕ) where
 
 -- ---- a record read, by its kind
 
--- a date is good and has the bytes that it was read from
-abbrev DateRead : ℕ → ℕ → ℕ → Dated → Type 0
-DateRead kind d e x = (dateBytes x ≡ kind ∷ (toBe16 d ++ toBe16 e)) × (d < 65536 → e < 65536 → GoodDated x)
+-- a date is good and has the kind and days that it was read from
+pub record DateRead (kind d e : ℕ) (x : Dated) : Type 0 where
+  pub kind-is : dateKind x ≡ kind
+  pub day-is : dateDay x ≡ d
+  pub last-is : dateLast x ≡ e
+  pub fits : d < 65536 → e < 65536 → GoodDated x
 
 date-cases : (kind d e : ℕ) (a b : Bool) → eqb kind 0 ≡ a → eqb kind 1 ≡ b → pick a (eqb d 0 && eqb e 0) (pick b (eqb e 0) (eqb kind 2 && ltb d e)) ≡ true
     → DateRead kind d e (pick a Undated (pick b (Day d) (Range d e)))
 unfolding pick
 date-cases kind d e true b ea eb q =
     let f = both (eqb d 0) (eqb e 0) q in
-    (rw (eqb-true kind 0 ea, eqb-true d 0 (f .0), eqb-true e 0 (f .1)), λ hd he. tt)
-date-cases kind d e false true ea eb q = (rw (eqb-true kind 1 eb, eqb-true e 0 q), λ hd he. hd)
+    record { kind-is = sym (eqb-true kind 0 ea); day-is = sym (eqb-true d 0 (f .0)); last-is = sym (eqb-true e 0 (f .1)); fits = λ hd he. tt }
+date-cases kind d e false true ea eb q = record { kind-is = sym (eqb-true kind 1 eb); day-is = refl; last-is = sym (eqb-true e 0 q); fits = λ hd he. hd }
 date-cases kind d e false false ea eb q =
     let f = both (eqb kind 2) (ltb d e) q in
-    (rw (eqb-true kind 2 (f .0)), λ hd he. (ltb-true d e (f .1), he))
+    record { kind-is = sym (eqb-true kind 2 (f .0)); day-is = refl; last-is = refl; fits = λ hd he. (ltb-true d e (f .1), he) }
 
-date-read : (kind d e : ℕ) → goodDate kind d e ≡ true → DateRead kind d e (dateFrom kind d e)
+pub date-read : (kind d e : ℕ) → goodDate kind d e ≡ true → DateRead kind d e (dateFrom kind d e)
 unfolding goodDate dateFrom
 date-read kind d e q = date-cases kind d e (eqb kind 0) (eqb kind 1) refl refl q
 
@@ -316,12 +368,12 @@ module _ (t : List ℕ) (b : Bytes t) (m : ℕ) where
       rw (← e, byte-take t b 1 m (omega arith), byte-take t b 0 (1 + m) (omega arith), z)
 
 module _ (t : List ℕ) (b : Bytes t) (n : ℕ) (inside : n ≤ length t) where
-  station-take : 14 ≤ n → getD t 0 0 ≡ 2 → stationBody (getD t 1 0) (pointOf be32 (drop 2 t)) (labelFrom n 14 t) ≡ take n t
+  station-take : stationSize ≤ n → getD t 0 0 ≡ 2 → stationBody (stationFields t) (labelFrom n stationSize t) ≡ take n t
   station-take h e =
       let z : 2 + (12 + (n - 14)) ≡ n = omega arith in
       rw (point-from t b (n - 14) 2 (omega arith), kind-take t b (12 + (n - 14)) 2 (omega arith) e, z)
 
-  section-take : 18 ≤ n → getD t 0 0 ≡ 3 → sectionBody (getD t 1 0) (dimensionsOf 4 be32 (drop 2 t)) (labelFrom n 18 t) ≡ take n t
+  section-take : sectionSize ≤ n → getD t 0 0 ≡ 3 → sectionBody sheetVersion (sectionFields t) (labelFrom n sectionSize t) ≡ take n t
   section-take h e =
       let z : 2 + (16 + (n - 18)) ≡ n = omega arith in
       rw (dimensions-from t b (n - 18) 2 (omega arith), kind-take t b (16 + (n - 18)) 3 (omega arith) e, z)
@@ -331,13 +383,16 @@ module _ (t : List ℕ) (b : Bytes t) (n : ℕ) (inside : n ≤ length t) where
       let q : traverseBytes toBe32 (traverseOf be32 (drop 1 t)) ≡ take 20 (drop 1 t) = sym (append-nil _) ∙ traverse-take (drop 1 t) (bytes-drop t b 1) 0 (simp length-drop (omega arith)) in
       rw (q, ← e, byte-take t b 0 20 (omega arith), en)
 
-  leg-take : 32 ≤ n → getD t 0 0 ≡ 1 → goodDate (getD t 3 0) (be16 (drop 4 t)) (be16 (drop 6 t)) ≡ true
-      → legBody (getD t 1 0) (getD t 2 0) (dateFrom (getD t 3 0) (be16 (drop 4 t)) (be16 (drop 6 t))) (pointOf be32 (drop 8 t)) (pointOf be32 (drop 20 t)) (labelFrom n 32 t) ≡ take n t
+  leg-take : legSize ≤ n → getD t 0 0 ≡ 1 → goodDate (getD t 3 0) (be16 (drop 4 t)) (be16 (drop 6 t)) ≡ true
+      → legBody (legFields t) (labelFrom n legSize t) ≡ take n t
   leg-take h e d =
       let k = n - 32 in
+      let q = date-read (getD t 3 0) (be16 (drop 4 t)) (be16 (drop 6 t)) d in
       let z : 2 + (1 + (1 + (2 + (2 + (12 + (12 + k)))))) ≡ n = omega arith in
       rw (
-        date-read (getD t 3 0) (be16 (drop 4 t)) (be16 (drop 6 t)) d .0,
+        q .kind-is,
+        q .day-is,
+        q .last-is,
         append-assoc (toBe16 (be16 (drop 4 t))) (toBe16 (be16 (drop 6 t))) _,
         point-from t b k 20 (omega arith),
         point-from t b (12 + k) 8 (omega arith),
@@ -359,7 +414,7 @@ module _ (t : List ℕ) (b : Bytes t) (n : ℕ) (inside : n ≤ length t) where
 -- a body of n bytes, read as an entry
 abbrev BodyRead : ℕ → List ℕ → Entry → Type 0
 BodyRead n t flawed = Unit
-BodyRead n t (entry k r) = (k ≡ 2 + n) × (recordBody r ≡ take n t) × WellFormed r
+BodyRead n t (entry k r) = (k ≡ 2 + n) × (recordBody sheetVersion r ≡ take n t) × WellFormed r
 
 module _ (n : ℕ) (t : List ℕ) (b : Bytes t) (inside : n ≤ length t) where
   word-fits : (k j : ℕ) → be32 (drop j (drop k t)) < 4294967296
@@ -373,18 +428,18 @@ module _ (n : ℕ) (t : List ℕ) (b : Bytes t) (inside : n ≤ length t) where
   leg-read e0 =
       pick-case (BodyRead n t) _ _ _
       (λ e.
-      let f = both (labelFits n 32) _ e in
+      let f = both (labelFits n legSize) _ e in
       let g = both (leb (getD t 1 0) 7) _ (f .1) in
       let h = both (leb (getD t 2 0) 5) _ (g .1) in (
         refl,
-        leg-take t b n inside (fits n 32 (f .0) .0) e0 (h .1),
+        leg-take t b n inside (fits n legSize (f .0) .least) e0 (h .1),
         record {
           flags-fit = leb-true _ _ (g .0);
           style-fits = leb-true _ _ (h .0);
-          date-fits = date-read _ _ _ (h .1) .1 (be16-fits _ (bytes-drop t b 4)) (be16-fits _ (bytes-drop t b 6));
+          date-fits = date-read _ _ _ (h .1) .fits (be16-fits _ (bytes-drop t b 4)) (be16-fits _ (bytes-drop t b 6));
           from-fits = point-fits 8;
           to-fits = point-fits 20;
-          label-fits = label-short t b n inside 32 (f .0);
+          label-fits = label-short t b n inside legSize (f .0);
         },
       ))
       λ e. tt
@@ -394,22 +449,22 @@ module _ (n : ℕ) (t : List ℕ) (b : Bytes t) (inside : n ≤ length t) where
   station-read e0 =
       pick-case (BodyRead n t) _ _ _
       (λ e.
-      let f = both (labelFits n 14) _ e in
-      (refl, station-take t b n inside (fits n 14 (f .0) .0) e0, record { flags-fit = leb-true _ _ (f .1); place-fits = point-fits 2; label-fits = label-short t b n inside 14 (f .0) }))
+      let f = both (labelFits n stationSize) _ e in
+      (refl, station-take t b n inside (fits n stationSize (f .0) .least) e0, record { flags-fit = leb-true _ _ (f .1); place-fits = point-fits 2; label-fits = label-short t b n inside stationSize (f .0) }))
       λ e. tt
 
-  section-read : getD t 0 0 ≡ 3 → BodyRead n t (sectionEntry n t)
+  section-read : getD t 0 0 ≡ 3 → BodyRead n t (sectionEntry sheetVersion n t)
   unfolding sectionEntry
   section-read e0 =
       pick-case (BodyRead n t) _ _ _
       (λ e.
-      let f = both (labelFits n 18) _ e in (
+      let f = both (labelFits n sectionSize) _ e in (
         refl,
-        section-take t b n inside (fits n 18 (f .0) .0) e0,
+        section-take t b n inside (fits n sectionSize (f .0) .least) e0,
         record {
           last-fits = leb-true _ _ (f .1);
           dimensions-fit = record { left-fits = word-fits 2 0; right-fits = word-fits 2 4; up-fits = word-fits 2 8; down-fits = word-fits 2 12 };
-          label-fits = label-short t b n inside 18 (f .0);
+          label-fits = label-short t b n inside sectionSize (f .0);
         },
       ))
       λ e. tt
@@ -421,7 +476,7 @@ module _ (n : ℕ) (t : List ℕ) (b : Bytes t) (inside : n ≤ length t) where
       (λ e. (refl, error-take t b n inside (eqb-true n 21 e) e0, record { legs-fit = word-fits 1 0; total-fits = word-fits 1 4; e-fits = word-fits 1 8; h-fits = word-fits 1 12; v-fits = word-fits 1 16 }))
       λ e. tt
 
-  body-read : BodyRead n t (bodyEntry n t)
+  body-read : BodyRead n t (bodyEntry sheetVersion n t)
   unfolding bodyEntry
   body-read =
       pick-case (BodyRead n t) _ _ _ (λ e. leg-read (eqb-true (getD t 0 0) 1 e)) λ e.
@@ -432,7 +487,7 @@ module _ (n : ℕ) (t : List ℕ) (b : Bytes t) (inside : n ≤ length t) where
 -- the record at the front of s: its bytes are its layout, and it is well-formed
 abbrev pub EntryRead : List ℕ → Entry → Type 0
 EntryRead s flawed = Unit
-EntryRead s (entry k r) = (take k s ≡ layout r) × (k ≡ length (layout r)) × WellFormed r
+EntryRead s (entry k r) = (take k s ≡ layout sheetVersion r) × (k ≡ length (layout sheetVersion r)) × WellFormed r
 
 framed-read : (s : List ℕ) → Bytes s → 2 + be16 s ≤ length s → (it : Entry) → BodyRead (be16 s) (drop 2 s) it → EntryRead s it
 unfolding layout
@@ -440,42 +495,42 @@ framed-read s b h flawed x = tt
 framed-read s b h (entry k r) x =
     let n = be16 s in
     let l : length (take n (drop 2 s)) ≡ n = length-take-le n (drop 2 s) (simp length-drop (omega arith)) in
-    let lr : length (recordBody r) ≡ n = ap length (x .1) ∙ l in
-    let e : take k s ≡ layout r = rw (x .0, lr, x .1) (sym (to-be16 s b n (omega arith))) in
+    let lr : length (recordBody sheetVersion r) ≡ n = ap length (x .1) ∙ l in
+    let e : take k s ≡ layout sheetVersion r = rw (x .0, lr, x .1) (sym (to-be16 s b n (omega arith))) in
     (e, x .0 ∙ rw (layout-is r, lr), x .2)
 
-pub read-entry : (s : List ℕ) → Bytes s → EntryRead s (entryOf s)
+pub read-entry : (s : List ℕ) → Bytes s → EntryRead s (entryOf sheetVersion s)
 unfolding entryOf
 read-entry s b =
     pick-case (EntryRead s) _ _ _
-    (λ e. let f = frame s e in framed-read s b (f .2) (bodyEntry (be16 s) (drop 2 s)) (body-read (be16 s) (drop 2 s) (bytes-drop s b 2) (simp length-drop (omega arith))))
+    (λ e. let f = frame s e in framed-read s b (f .inside) (bodyEntry sheetVersion (be16 s) (drop 2 s)) (body-read (be16 s) (drop 2 s) (bytes-drop s b 2) (simp length-drop (omega arith))))
     λ e. tt
 
-pub entry-read : (s : List ℕ) → Bytes s → {k : ℕ} {r : Record} → entryOf s ≡ entry k r → (take k s ≡ layout r) × (k ≡ length (layout r)) × WellFormed r
+pub entry-read : (s : List ℕ) → Bytes s → {k : ℕ} {r : Record} → entryOf sheetVersion s ≡ entry k r → (take k s ≡ layout sheetVersion r) × (k ≡ length (layout sheetVersion r)) × WellFormed r
 entry-read s b e = rw e at (read-entry s b)
 
 -- ---- all the records of a list of bytes
 
-layout-some : (r : Record) → 3 ≤ length (layout r)
+layout-some : (r : Record) → 3 ≤ length (layout sheetVersion r)
 layout-some r = omega (arith, layout-is r, body-some r)
 
-layout-from : (rs : List Record) → AllWellFormed rs → (at n : ℕ) → recordsFrom at (layoutAll rs) n ≡ record { records = rs; verdict = good }
+layout-from : (rs : List Record) → AllWellFormed rs → (at n : ℕ) → recordsFrom sheetVersion at (layoutAll sheetVersion rs) n ≡ record { records = rs; verdict = Good }
 unfolding layoutAll
 layout-from [] w at n = records-none at n
 layout-from (r ∷ rs) w at n =
-    let k = length (layout r) in
-    let h : 0 < length (layout r ++ layoutAll rs) = omega (arith, layout-some r, length-append (layout r) (layoutAll rs)) in
-    records-more at (layout r ++ layoutAll rs) n h
-    ∙ rw (entry-layout r (w .0) (layoutAll rs), drop-at (layout r) (layoutAll rs) k refl, layout-from rs (w .1) (at + k) (n + 1))
+    let k = length (layout sheetVersion r) in
+    let h : 0 < length (layout sheetVersion r ++ layoutAll sheetVersion rs) = omega (arith, layout-some r, length-append (layout sheetVersion r) (layoutAll sheetVersion rs)) in
+    records-more at (layout sheetVersion r ++ layoutAll sheetVersion rs) n h
+    ∙ rw (entry-layout r (w .0) (layoutAll sheetVersion rs), drop-at (layout sheetVersion r) (layoutAll sheetVersion rs) k refl, layout-from rs (w .1) (at + k) (n + 1))
 
-pub layout-records : (rs : List Record) → AllWellFormed rs → recordsOf (layoutAll rs) ≡ record { records = rs; verdict = good }
+pub layout-records : (rs : List Record) → AllWellFormed rs → recordsOf sheetVersion (layoutAll sheetVersion rs) ≡ record { records = rs; verdict = Good }
 unfolding recordsOf
 layout-records rs w = layout-from rs w 0 0
 
 -- what is read from s is well-formed, whatever the verdict; and s is its layout where the verdict is good
 pub record RecordsRead (s : List ℕ) (x : Result) : Type 0 where
   pub formed : AllWellFormed (x .records)
-  pub laid : x .verdict ≡ good → layoutAll (x .records) ≡ s
+  pub laid : x .verdict ≡ Good → layoutAll sheetVersion (x .records) ≡ s
 
 step-read : (s : List ℕ) (it : Entry) → EntryRead s it → (n : ℕ) (go : ℕ → ℕ → Result) → ((k m : ℕ) → 0 < k → RecordsRead (drop k s) (go k m)) → RecordsRead s (entryStep it n go)
 unfolding layoutAll
@@ -484,25 +539,25 @@ step-read s (entry k r) x n go h =
     let g = h k (n + 1) (omega (arith, x .1, layout-some r)) in
     record { formed = (x .2, g .formed); laid = λ e. rw (← (x .0), g .laid e) (take-append-drop k s) }
 
-read-list : (at : ℕ) (s : List ℕ) (n : ℕ) → Bytes s → ((k m : ℕ) → 0 < k → 0 < length s → RecordsRead (drop k s) (recordsFrom (at + k) (drop k s) m)) → RecordsRead s (recordsFrom at s n)
+read-list : (at : ℕ) (s : List ℕ) (n : ℕ) → Bytes s → ((k m : ℕ) → 0 < k → 0 < length s → RecordsRead (drop k s) (recordsFrom sheetVersion (at + k) (drop k s) m)) → RecordsRead s (recordsFrom sheetVersion at s n)
 unfolding layoutAll
 read-list at [] n b h = rw (records-none at n) (record { formed = tt; laid = λ e. refl })
 read-list at (x ∷ s) n b h =
     rw (records-more at (x ∷ s) n (omega arith))
-    (step-read (x ∷ s) (entryOf (x ∷ s)) (read-entry (x ∷ s) b) n _ λ k m hk. h k m hk (omega arith))
+    (step-read (x ∷ s) (entryOf sheetVersion (x ∷ s)) (read-entry (x ∷ s) b) n _ λ k m hk. h k m hk (omega arith))
 
-read-from : (f at : ℕ) (s : List ℕ) (n : ℕ) → length s ≤ f → Bytes s → RecordsRead s (recordsFrom at s n)
+read-from : (f at : ℕ) (s : List ℕ) (n : ℕ) → length s ≤ f → Bytes s → RecordsRead s (recordsFrom sheetVersion at s n)
 read-from zero at s n h b = read-list at s n b λ k m hk hs. absurd (omega arith)
 read-from (suc f) at s n h b = read-list at s n b λ k m hk hs. read-from f (at + k) (drop k s) m (simp length-drop (omega arith)) (bytes-drop s b k)
 
-pub records-read : (s : List ℕ) → Bytes s → RecordsRead s (recordsOf s)
+pub records-read : (s : List ℕ) → Bytes s → RecordsRead s (recordsOf sheetVersion s)
 unfolding recordsOf
 records-read s b = read-from (length s) 0 s 0 (le-refl _) b
 
-pub records-formed : (s : List ℕ) → Bytes s → AllWellFormed (recordsOf s .records)
+pub records-formed : (s : List ℕ) → Bytes s → AllWellFormed (recordsOf sheetVersion s .records)
 records-formed s b = records-read s b .formed
 
-pub records-layout : (s : List ℕ) → Bytes s → (rs : List Record) → recordsOf s ≡ record { records = rs; verdict = good } → (layoutAll rs ≡ s) × AllWellFormed rs
+pub records-layout : (s : List ℕ) → Bytes s → (rs : List Record) → recordsOf sheetVersion s ≡ record { records = rs; verdict = Good } → (layoutAll sheetVersion rs ≡ s) × AllWellFormed rs
 records-layout s b rs e = let x = rw e at (records-read s b) in (x .laid refl, x .formed)
 
 -- ---- a sheet: its version byte, its header, its records
@@ -595,10 +650,10 @@ module _ (h : Header) (g : GoodHeader h) where
     unfolding behindFront
     behind-back = drop-at (1 ∷ headerLayout h) rest (3 + be16 (drop 1 front)) (omega (arith, front-size, header-length h))
 
-pub sheet-records : (h : Header) → GoodHeader h → (rs : List Record) → AllWellFormed rs → (sheetResult (sheetOf h rs) ≡ record { records = rs; verdict = good }) × (frontHeader (sheetOf h rs) ≡ h)
+pub sheet-records : (h : Header) → GoodHeader h → (rs : List Record) → AllWellFormed rs → (sheetResult (sheetOf sheetVersion h rs) ≡ record { records = rs; verdict = Good }) × (frontHeader (sheetOf sheetVersion h rs) ≡ h)
 unfolding sheetResult sheetOf
 sheet-records h g rs w =
-    (pick-true _ _ (front-good h g (layoutAll rs)) ∙ rw (behind-back h g (layoutAll rs)) (layout-records rs w), front-back h g (layoutAll rs))
+    (pick-true _ _ (front-good h g (layoutAll sheetVersion rs)) ∙ rw (behind-back h g (layoutAll sheetVersion rs)) (layout-records rs w), front-back h g (layoutAll sheetVersion rs))
 
 -- what a good front says
 pub record FrontRead (sheet : List ℕ) : Type 0 where
@@ -667,14 +722,14 @@ front-read sheet b e =
     }
 
 abbrev SheetRead : List ℕ → List Record → Result → Type 0
-SheetRead sheet rs x = x ≡ record { records = rs; verdict = good } → (sheetOf (frontHeader sheet) rs ≡ sheet) × GoodHeader (frontHeader sheet) × AllWellFormed rs
+SheetRead sheet rs x = x ≡ record { records = rs; verdict = Good } → (sheetOf sheetVersion (frontHeader sheet) rs ≡ sheet) × GoodHeader (frontHeader sheet) × AllWellFormed rs
 
 pub bytes-behind : (sheet : List ℕ) → Bytes sheet → Bytes (behindFront sheet)
 unfolding behindFront
 bytes-behind sheet b = bytes-drop sheet b (3 + be16 (drop 1 sheet))
 
-pub records-sheet : (sheet : List ℕ) → Bytes sheet → (rs : List Record) → sheetResult sheet ≡ record { records = rs; verdict = good }
-    → (sheetOf (frontHeader sheet) rs ≡ sheet) × GoodHeader (frontHeader sheet) × AllWellFormed rs
+pub records-sheet : (sheet : List ℕ) → Bytes sheet → (rs : List Record) → sheetResult sheet ≡ record { records = rs; verdict = Good }
+    → (sheetOf sheetVersion (frontHeader sheet) rs ≡ sheet) × GoodHeader (frontHeader sheet) × AllWellFormed rs
 unfolding sheetResult sheetOf
 records-sheet sheet b rs =
     pick-case (SheetRead sheet rs) (goodFront sheet) _ _
@@ -682,7 +737,7 @@ records-sheet sheet b rs =
     let f = front-read sheet b e in
     let x = records-layout (behindFront sheet) (bytes-behind sheet b) rs q in
     (rw (x .0) (f .laid), f .header, x .1))
-    λ e q. let v : refusal 12 0 ≡ good = ap (λ (x : Result). x .verdict) q in absurd (let z : _≡_ {A = ℕ} 0 1 = cc in omega arith)
+    λ e q. let v : Refusal 12 0 ≡ Good = ap (λ (x : Result). x .verdict) q in absurd (let z : _≡_ {A = ℕ} 0 1 = cc in omega arith)
 
 -- the records of a sheet are well-formed, whatever the verdict
 pub sheet-formed : (sheet : List ℕ) → Bytes sheet → AllWellFormed (sheetResult sheet .records)

@@ -11,12 +11,23 @@ use lib.Seq.{take-at, drop-at, take-append-seam, drop-append-seam, drop-append-a
 use lib.Dec.{eqb, ltb, leb}
 use borrow.Author.Tests.{ltb-true, ltb-false, leb-true, leb-false, eqb-true, eqb-false, lt-ltb, le-ltb, le-leb, lt-leb, eq-eqb, ne-eqb, not-false}
 use Rattle.format.specs.Bytes.{pick, same, le16, le32, toLe16, toLe32, widened}
-use Rattle.format.specs.Label.{Cut, back, Kept, keeps, lacks, keptOf, Labelled, labelled, appended, labelStep, labelLimit}
-use Rattle.format.specs.Items.{pointOf, dimensionsOf, traverseOf, Item, Style, Move, NoDate, Date, Error, Xsect, Station, Line, Decoded, faulty, whole, sized, Part, unfinished, part, lengthSize, lengthValue, longPart, newPart, withPart, behindCode, labelledItem, stationItem, lineItem, sectionItem, moveItem, errorItem, dayItem, spanItem, daysItem, newDateItem, newLowItem, newHighItem, itemOf}
+use Rattle.format.specs.Label.{keptOf, Labelled, labelled, appended, labelStep, labelLimit}
+use Rattle.format.specs.declared.Kept.{Kept}
+use Rattle.format.specs.declared.Kept.the-variants.{Keeps, Lacks}
+use Rattle.format.specs.declared.Cut.{Cut}
+use Rattle.format.specs.declared.Cut.the-variants.{Back}
+use Rattle.format.specs.Items.{pointOf, dimensionsOf, traverseOf, Item, Style, Move, NoDate, Date, Error, Xsect, Label, Line, Decoded, faulty, whole, sized, lengthSize, lengthValue, longPart, newPart, withPart, behindCode, labelledItem, stationItem, lineItem, sectionItem, moveItem, errorItem, dayItem, spanItem, daysItem, newDateItem, newLowItem, newHighItem, itemOf}
+use Rattle.format.specs.declared.LabelPart.{LabelPart}
+use Rattle.format.specs.declared.LabelPart.the-variants.{Unfinished, Numbers}
 use Rattle.format.specs.State.{State, start, Record, leg, station, section, error, named, styled, datedBy, moved, Next, bad, end, on, made, dateOf, badDates, onLabel, legFrom, apply, nextOf}
-use Rattle.format.specs.Sheet.{Verdict, good, refusal, Result, stop, also, pointBytes, dimensionBytes, traverseBytes, GoodPoint, GoodDimensions, GoodTraverse, GoodDated, GoodLeg, GoodStation, GoodSection, WellFormed, AllWellFormed}
+use Rattle.format.specs.Sheet.{pointBytes, dimensionBytes, traverseBytes}
+use Rattle.format.specs.Refusals.{Result, stop, also}
+use Rattle.format.specs.declared.Verdict.the-variants.{Good, Refusal}
+use Rattle.format.specs.declared.Verdict.{Verdict}
+use Rattle.format.specs.WellFormed.{GoodPoint, GoodDimensions, GoodTraverse, GoodDated, GoodLeg, GoodStation, GoodSection, WellFormed, AllWellFormed}
 use Rattle.format.specs.Reading.{next, ended, afterItem, run}
-use Rattle.format.specs.Writing.{codesAll, afterAll, encodeAll, common, lengthCodes, partCodes, labelCodes, keptBytes, sameDate, dateCodes, samePoint, standsAt, styleIf, dateIf, moveIf, lineCodes, stationCodes, fitsShort, allShort, sectionCodes, errorCodes, codes, after, closing, unsayable, styleVerdict}
+use Rattle.format.specs.Writing.{Writer, v8, codesAll, afterAll, encodeAll, recordsVerdict}
+use Rattle.format.specs.Codes.{common, lengthCodes, partCodes, labelCodes, keptBytes, sameDate, dateCodes, samePoint, standsAt, styleIf, dateIf, moveIf, lineCodes, stationCodes, fitsShort, allShort, sectionCodes, errorCodes, codes, settingAfter, after, closing, unsayable}
 use Rattle.format.specs.declared.Point.{Point}
 use Rattle.format.specs.declared.Dimensions.{Dimensions}
 use Rattle.format.specs.declared.Traverse.{Traverse}
@@ -24,29 +35,57 @@ use Rattle.format.specs.declared.Dated.{Dated}
 use Rattle.format.specs.declared.Dated.the-variants.{Undated, Day, Range}
 use Rattle.format.specs.declared.Position.{Position}
 use Rattle.format.specs.declared.Position.the-variants.{Unset, Stands}
-use Rattle.format.proofs.Basics.{pick-case, pick-true, pick-false, both, neither, and-true, or-false, same-true, same-refl, le16-to, le32-to, widened-low, widened-high}
+use Rattle.format.specs.declared.Setting.{Setting}
+use Rattle.format.specs.declared.Fields.{Fields}
+use Rattle.format.specs.declared.Fields.the-variants.{Leg as FieldsLeg, Station as FieldsStation, Section as FieldsSection, Error as FieldsError}
+use Rattle.format.specs.Fields.{recordOf}
+use Rattle.format.specs.declared.Leg.{Leg}
+use Rattle.format.specs.declared.Station.{Station}
+use Rattle.format.specs.declared.Section.{Section}
+use Rattle.format.proofs.Basics.{pick-case, pick-true, pick-false, second-picked, both, neither, and-true, or-false, same-true, same-refl, le16-to, le32-to, widened-low, widened-high}
 use Rattle.format.proofs.Rows.{le16-width, le32-width, point-back, traverse-back, wide-dimensions-back, short-dimensions-back}
-use Rattle.format.proofs.ReadingLaws.{run-eq}
+use Rattle.format.proofs.LabelLaws.{step-fits, back-keeps}
+use Rattle.format.proofs.ApplyLaws.{style-first, style-end}
+use Rattle.format.proofs.ReadingLaws.{run-done, run-on}
 use Rattle.format.proofs.GoingLaws.{Goes, stays, goes-as, goes-on, goes-made, goes-append, goes-run}
 
 -- ---- any writer: records in a row
 
-module _ {S R : Type 0} (f : S → R → List ℕ) (g : S → R → S) where
-  pub codes-append : (xs ys : List R) (st : S) → codesAll f g st (xs ++ ys) ≡ codesAll f g st xs ++ codesAll f g (afterAll f g st xs) ys
+module _ (w : Writer) where
+  pub codes-append : (xs ys : List Record) (st : State) → codesAll w st (xs ++ ys) ≡ codesAll w st xs ++ codesAll w (afterAll w st xs) ys
   unfolding codesAll afterAll
   codes-append [] ys st = refl
-  codes-append (x ∷ xs) ys st = rw (codes-append xs ys (g st x), append-assoc)
+  codes-append (x ∷ xs) ys st = rw (codes-append xs ys (w .after st x), append-assoc)
 
-  pub after-append : (xs ys : List R) (st : S) → afterAll f g st (xs ++ ys) ≡ afterAll f g (afterAll f g st xs) ys
+  pub after-append : (xs ys : List Record) (st : State) → afterAll w st (xs ++ ys) ≡ afterAll w (afterAll w st xs) ys
   unfolding afterAll
   after-append [] ys st = refl
-  after-append (x ∷ xs) ys st = after-append xs ys (g st x)
+  after-append (x ∷ xs) ys st = after-append xs ys (w .after st x)
 
   -- so two lists of records with a common front have files with a common front, and from where they leave the same state on, equal
   -- records have equal bytes
-  pub encode-append : (close : S → List ℕ) (xs ys : List R) (st : S) → encodeAll f g close st (xs ++ ys) ≡ codesAll f g st xs ++ encodeAll f g close (afterAll f g st xs) ys
+  pub encode-append : (xs ys : List Record) (st : State) → encodeAll w st (xs ++ ys) ≡ codesAll w st xs ++ encodeAll w (afterAll w st xs) ys
   unfolding encodeAll
-  encode-append close xs ys st = rw (codes-append xs ys st, after-append xs ys st, append-assoc)
+  encode-append xs ys st = rw (codes-append xs ys st, after-append xs ys st, append-assoc)
+
+  -- a record that the writer can write, and those after it
+  pub able : (n : ℕ) (st : State) (r : Record) (rs : List Record) → recordsVerdict w n st (r ∷ rs) ≡ Good → (w .unable st r ≡ false) × (recordsVerdict w (n + 1) (w .after st r) rs ≡ Good)
+  unfolding recordsVerdict
+  able n st r rs e = second-picked (λ q. let z : _≡_ {A = ℕ} 0 1 = cc in omega arith) e
+
+-- ---- 13 and the setting that a record leaves look at no label
+
+pub unsayable-at : (old : ℕ) (f : Fields) (l : List ℕ) → unsayable old (recordOf f []) ≡ unsayable old (recordOf f l)
+unsayable-at old (FieldsLeg flags style date from to) l = refl
+unsayable-at old (FieldsStation s) l = refl
+unsayable-at old (FieldsSection s) l = refl
+unsayable-at old (FieldsError traverse) l = refl
+
+pub setting-at : (setting : Setting) (f : Fields) (l : List ℕ) → settingAfter setting (recordOf f []) ≡ settingAfter setting (recordOf f l)
+setting-at setting (FieldsLeg flags style date from to) l = refl
+setting-at setting (FieldsStation s) l = refl
+setting-at setting (FieldsSection s) l = refl
+setting-at setting (FieldsError traverse) l = refl
 
 -- ---- `common` and `keptBytes`
 
@@ -100,26 +139,20 @@ equal-label l b =
 
 length-size : (n : ℕ) (rest : List ℕ) → lengthSize (lengthCodes n ++ rest) ≡ length (lengthCodes n)
 unfolding lengthSize lengthCodes toLe32 pick
-length-size n rest = go (ltb n 255) refl
-  where
-    go : (b : Bool) → ltb n 255 ≡ b → lengthSize (pick b (n ∷ []) (255 ∷ toLe32 n) ++ rest) ≡ length (pick b (n ∷ []) (255 ∷ toLe32 n))
-    go true e = simp (e, le-ltb (suc (length rest)) 1 (omega arith))
-    go false e = simp (le-ltb (suc (suc (suc (suc (suc (length rest)))))) 1 (omega arith), le-ltb (suc (suc (suc (suc (suc (length rest)))))) 5 (omega arith))
+length-size n rest =
+    pick-case (λ (x : List ℕ). lengthSize (x ++ rest) ≡ length x) (ltb n 255) (n ∷ []) (255 ∷ toLe32 n) (λ e. simp (e, le-ltb (suc (length rest)) 1 (omega arith)))
+    λ e. simp (le-ltb (suc (suc (suc (suc (suc (length rest)))))) 1 (omega arith), le-ltb (suc (suc (suc (suc (suc (length rest)))))) 5 (omega arith))
 
 length-value : (n : ℕ) (rest : List ℕ) → n < 4294967296 → lengthValue (lengthCodes n ++ rest) ≡ n
 unfolding lengthValue lengthCodes pick
-length-value n rest h = go (ltb n 255) refl
-  where
-    go : (b : Bool) → ltb n 255 ≡ b → lengthValue (pick b (n ∷ []) (255 ∷ toLe32 n) ++ rest) ≡ n
-    go true e = simp e
-    go false e = le32-to n rest h
+length-value n rest h = pick-case (λ (x : List ℕ). lengthValue (x ++ rest) ≡ n) (ltb n 255) (n ∷ []) (255 ∷ toLe32 n) (λ e. simp e) (λ e. le32-to n rest h)
 
 pub length-codes : (n : ℕ) → (1 ≤ length (lengthCodes n)) × (length (lengthCodes n) ≤ 5)
 unfolding lengthCodes toLe32
 length-codes n = pick-case (λ (x : List ℕ). (1 ≤ length x) × (length x ≤ 5)) _ _ _ (λ e. (omega arith, omega arith)) (λ e. (omega arith, omega arith))
 
 long-read : (d a : ℕ) (rest : List ℕ) → d < 4294967296 → a < 4294967296
-    → longPart (0 ∷ (lengthCodes d ++ (lengthCodes a ++ rest))) ≡ part (length (0 ∷ (lengthCodes d ++ lengthCodes a))) d a
+    → longPart (0 ∷ (lengthCodes d ++ (lengthCodes a ++ rest))) ≡ Numbers (length (0 ∷ (lengthCodes d ++ lengthCodes a))) d a
 unfolding longPart pick
 long-read d a rest hd ha =
     let D = lengthCodes d in
@@ -139,12 +172,12 @@ either-positive d a e = go (ltb 0 d) refl e
     go false q e = omega (arith, ltb-true 0 a e)
 
 -- the numbers of a label part are read back
-pub part-read : (d a : ℕ) (rest : List ℕ) → d < 4294967296 → a < 4294967296 → newPart (partCodes d a ++ rest) ≡ part (length (partCodes d a)) d a
+pub part-read : (d a : ℕ) (rest : List ℕ) → d < 4294967296 → a < 4294967296 → newPart (partCodes d a ++ rest) ≡ Numbers (length (partCodes d a)) d a
 unfolding newPart partCodes pick
 part-read d a rest hd ha = go ((leb d 15 && leb a 15) && (ltb 0 d || ltb 0 a)) refl
   where
     go : (b : Bool) → ((leb d 15 && leb a 15) && (ltb 0 d || ltb 0 a)) ≡ b
-        → newPart (pick b ((16 * d + a) ∷ []) (0 ∷ (lengthCodes d ++ lengthCodes a)) ++ rest) ≡ part (length (pick b ((16 * d + a) ∷ []) (0 ∷ (lengthCodes d ++ lengthCodes a)))) d a
+        → newPart (pick b ((16 * d + a) ∷ []) (0 ∷ (lengthCodes d ++ lengthCodes a)) ++ rest) ≡ Numbers (length (pick b ((16 * d + a) ∷ []) (0 ∷ (lengthCodes d ++ lengthCodes a)))) d a
     go true e =
         let p = both (leb d 15 && leb a 15) (ltb 0 d || ltb 0 a) e in
         let q = both (leb d 15) (leb a 15) (p .0) in
@@ -160,8 +193,7 @@ part-read d a rest hd ha = go ((leb d 15 && leb a 15) && (ltb 0 d || ltb 0 a)) r
 -- ---- an item with a label
 
 -- the label step undoes the label part
-pub label-read : (l m : List ℕ) (k : ℕ) → Shares l m k → length m ≤ labelLimit → labelStep l (back (length l - k)) (drop k m) ≡ labelled m
-unfolding labelStep pick
+pub label-read : (l m : List ℕ) (k : ℕ) → Shares l m k → length m ≤ labelLimit → labelStep l (Back (length l - k)) (drop k m) ≡ labelled m
 label-read l m k s h =
     let f = s .first in
     let g = s .second in
@@ -169,10 +201,10 @@ label-read l m k s h =
     let b : length l - (length l - k) ≡ k = omega arith in
     let c : k + length (drop k m) ≡ length m = simp length-drop (omega arith) in
     let e : take k l ++ drop k m ≡ m = ap (λ (x : List ℕ). x ++ drop k m) (s .equal) ∙ take-append-drop k m in
-    simp (le-ltb _ _ a, b, c, le-ltb labelLimit (length m) h, e)
+    step-fits l (Back (length l - k)) (drop k m) k (back-keeps l (length l - k) a ∙ rw b) (omega arith) ∙ ap labelled e
 
 -- no label bytes and no change
-label-same : (l : List ℕ) → length l ≤ labelLimit → labelStep l (back 0) [] ≡ labelled l
+label-same : (l : List ℕ) → length l ≤ labelLimit → labelStep l (Back 0) [] ≡ labelled l
 label-same l h =
     let z : length l - length l ≡ 0 = omega arith in
     rw (z, drop-length) at (label-read l l (length l) (record { first = omega arith; second = omega arith; equal = refl }) h)
@@ -187,7 +219,7 @@ labelled-read l m k tail n make hl hm hn =
     let P = partCodes D A in
     let a : length (drop k m) ≡ A = length-drop k m in
     let e0 : (P ++ drop k m) ++ tail ≡ P ++ (drop k m ++ tail) = append-assoc P (drop k m) tail in
-    let e1 : newPart (P ++ (drop k m ++ tail)) ≡ part (length P) D A = part-read D A (drop k m ++ tail) (omega arith) (omega arith) in
+    let e1 : newPart (P ++ (drop k m ++ tail)) ≡ Numbers (length P) D A = part-read D A (drop k m ++ tail) (omega arith) (omega arith) in
     let e2 : drop (length P) (P ++ (drop k m ++ tail)) ≡ drop k m ++ tail = drop-append-seam P (drop k m ++ tail) in
     let e3 : take A (drop k m ++ tail) ≡ drop k m = take-at (drop k m) tail A a in
     let e4 : drop (length P + A) (P ++ (drop k m ++ tail)) ≡ tail = drop-append-add P (drop k m ++ tail) A ∙ drop-at (drop k m) tail A a in
@@ -201,16 +233,16 @@ module _ (c : ℕ) (t : List ℕ) where
   there : ltb (suc (length t)) 1 ≡ false
   there = le-ltb (suc (length t)) 1 (omega arith)
 
-  code-station : 128 ≤ c → itemOf 8 (c ∷ t) ≡ stationItem (c - 128) (newPart t) t
+  code-station : 128 ≤ c → itemOf 8 (c ∷ t) ≡ stationItem (c - 0x80) (newPart t) t
   unfolding itemOf newHighItem pick
   code-station h =
       simp (there, le-ltb c 48 (omega arith), le-ltb c 52 (omega arith), le-ltb c 64 (omega arith), le-ltb c 72 (omega arith), le-ltb c 96 (omega arith), le-ltb c 104 (omega arith), le-ltb c 128 (omega arith))
 
-  code-line : 64 ≤ c → c < 72 → itemOf 8 (c ∷ t) ≡ lineItem (c - 64) (newPart t) t
+  code-line : 64 ≤ c → c < 72 → itemOf 8 (c ∷ t) ≡ lineItem (c - 0x40) (newPart t) t
   unfolding itemOf newHighItem pick
   code-line h k = simp (there, le-ltb c 48 (omega arith), le-ltb c 52 (omega arith), le-ltb c 64 (omega arith), lt-ltb c 72 k)
 
-  code-same-line : 96 ≤ c → c < 104 → itemOf 8 (c ∷ t) ≡ lineItem (c - 96) (part 0 0 0) t
+  code-same-line : 96 ≤ c → c < 104 → itemOf 8 (c ∷ t) ≡ lineItem (c - 0x60) (Numbers 0 0 0) t
   unfolding itemOf newHighItem pick
   code-same-line h k =
       simp (there, le-ltb c 48 (omega arith), le-ltb c 52 (omega arith), le-ltb c 64 (omega arith), le-ltb c 72 (omega arith), le-ltb c 96 (omega arith), lt-ltb c 104 k)
@@ -237,59 +269,59 @@ module _ (l m : List ℕ) (k : ℕ) (hl : length l ≤ labelLimit) (hm : length 
       rw append-assoc (labelled-read l m k (fields ++ rest) n make hl hm (simp length-append (omega arith)) ∙ rw z)
 
   station-item : (flags : ℕ) (p : Point) (rest : List ℕ) → GoodPoint p
-      → itemOf 8 (item (128 + flags) (pointBytes toLe32 p) ++ rest) ≡ whole (length (item (128 + flags) (pointBytes toLe32 p))) (Station flags p (length l - k) (drop k m))
+      → itemOf 8 (item (0x80 + flags) (pointBytes toLe32 p) ++ rest) ≡ whole (length (item (0x80 + flags) (pointBytes toLe32 p))) (Label flags p (length l - k) (drop k m))
   unfolding stationItem
   station-item flags p rest g =
-      let z : 128 + flags - 128 ≡ flags = omega arith in
-      code-station (128 + flags) _ (omega arith)
+      let z : 0x80 + flags - 0x80 ≡ flags = omega arith in
+      code-station (0x80 + flags) _ (omega arith)
       ∙ behind (pointBytes toLe32 p) rest 12 _ (simp (length-append, le32-width))
       ∙ rw (z, point-back p rest g)
 
   line-item : (flags : ℕ) (p : Point) (rest : List ℕ) → flags ≤ 7 → GoodPoint p
-      → itemOf 8 (item (64 + flags) (pointBytes toLe32 p) ++ rest) ≡ whole (length (item (64 + flags) (pointBytes toLe32 p))) (Line flags p (length l - k) (drop k m))
+      → itemOf 8 (item (0x40 + flags) (pointBytes toLe32 p) ++ rest) ≡ whole (length (item (0x40 + flags) (pointBytes toLe32 p))) (Line flags p (length l - k) (drop k m))
   unfolding lineItem
   line-item flags p rest h g =
-      let z : 64 + flags - 64 ≡ flags = omega arith in
-      code-line (64 + flags) _ (omega arith) (omega arith)
+      let z : 0x40 + flags - 0x40 ≡ flags = omega arith in
+      code-line (0x40 + flags) _ (omega arith) (omega arith)
       ∙ behind (pointBytes toLe32 p) rest 12 _ (simp (length-append, le32-width))
       ∙ rw (z, point-back p rest g)
 
   short-section-item : (last : ℕ) (d : Dimensions) (rest : List ℕ) → last ≤ 1 → GoodDimensions d → allShort d ≡ true
-      → itemOf 8 (item (48 + last) (dimensionBytes toLe16 d) ++ rest) ≡ whole (length (item (48 + last) (dimensionBytes toLe16 d))) (Xsect last d (length l - k) (drop k m))
+      → itemOf 8 (item (0x30 + last) (dimensionBytes toLe16 d) ++ rest) ≡ whole (length (item (0x30 + last) (dimensionBytes toLe16 d))) (Xsect last d (length l - k) (drop k m))
   unfolding sectionItem
   short-section-item last d rest h g e =
-      let z : (48 + last) % 2 ≡ last = omega arith in
-      code-section (48 + last) _ (omega arith) (omega arith)
-      ∙ pick-true _ _ (lt-ltb (48 + last) 50 (omega arith))
+      let z : (0x30 + last) % 2 ≡ last = omega arith in
+      code-section (0x30 + last) _ (omega arith) (omega arith)
+      ∙ pick-true _ _ (lt-ltb (0x30 + last) 50 (omega arith))
       ∙ behind (dimensionBytes toLe16 d) rest 8 _ (simp (length-append, le16-width))
       ∙ rw (z, short-dimensions-back d rest g e)
 
   wide-section-item : (last : ℕ) (d : Dimensions) (rest : List ℕ) → last ≤ 1 → GoodDimensions d
-      → itemOf 8 (item (50 + last) (dimensionBytes toLe32 d) ++ rest) ≡ whole (length (item (50 + last) (dimensionBytes toLe32 d))) (Xsect last d (length l - k) (drop k m))
+      → itemOf 8 (item (0x32 + last) (dimensionBytes toLe32 d) ++ rest) ≡ whole (length (item (0x32 + last) (dimensionBytes toLe32 d))) (Xsect last d (length l - k) (drop k m))
   unfolding sectionItem
   wide-section-item last d rest h g =
-      let z : (50 + last) % 2 ≡ last = omega arith in
-      code-section (50 + last) _ (omega arith) (omega arith)
-      ∙ pick-false _ _ (le-ltb (50 + last) 50 (omega arith))
+      let z : (0x32 + last) % 2 ≡ last = omega arith in
+      code-section (0x32 + last) _ (omega arith) (omega arith)
+      ∙ pick-false _ _ (le-ltb (0x32 + last) 50 (omega arith))
       ∙ behind (dimensionBytes toLe32 d) rest 16 _ (simp (length-append, le32-width))
       ∙ rw (z, wide-dimensions-back d rest g)
 
 -- LINE with 0x20: no label bytes
 same-line-item : (flags : ℕ) (p : Point) (rest : List ℕ) → flags ≤ 7 → GoodPoint p
-    → itemOf 8 ((96 + flags) ∷ (pointBytes toLe32 p ++ rest)) ≡ whole (suc (length (pointBytes toLe32 p))) (Line flags p 0 [])
+    → itemOf 8 ((0x60 + flags) ∷ (pointBytes toLe32 p ++ rest)) ≡ whole (suc (length (pointBytes toLe32 p))) (Line flags p 0 [])
 unfolding lineItem labelledItem sized pick
 same-line-item flags p rest h g =
-    let z : 96 + flags - 96 ≡ flags = omega arith in
+    let z : 0x60 + flags - 0x60 ≡ flags = omega arith in
     let k : 12 ≤ length (pointBytes toLe32 p ++ rest) = simp (length-append, le32-width) (omega arith) in
     let n : suc (length (pointBytes toLe32 p)) ≡ 13 = simp (length-append, le32-width) in
-    code-same-line (96 + flags) (pointBytes toLe32 p ++ rest) (omega arith) (omega arith)
+    code-same-line (0x60 + flags) (pointBytes toLe32 p ++ rest) (omega arith) (omega arith)
     ∙ simp (z, le-ltb _ _ k, point-back p rest g, n)
 
 -- ---- the parts of a leg's codes
 
 -- a code that is written only where a part of the state differs from x: either way the state then has x
-module _ {X : Type 0} (now : State → X) (set : X → State → State) (again : (st : State) → set (now st) st ≡ st) where
-  written-if : (st : State) (x : X) (test : Bool) (code rest : List ℕ) → (test ≡ true → now st ≡ x)
+module _ {X : Type 0} (get : State → X) (set : X → State → State) (again : (st : State) → set (get st) st ≡ st) where
+  written-if : (st : State) (x : X) (test : Bool) (code rest : List ℕ) → (test ≡ true → get st ≡ x)
       → (test ≡ false → next 8 (code ++ rest) st ≡ on (length code) (set x st))
       → Goes 8 (pick test [] code ++ rest) st [] (length (pick test [] code)) (set x st)
   unfolding pick
@@ -304,19 +336,19 @@ not-both-normal a b d = go (eqb a 0) (eqb b 0) refl refl
     go true false p q = refl
     go false y p q = refl
 
-style-next : (st : State) (style : ℕ) (rest : List ℕ) → style ≤ 5 → (eqb style 5 && not (eqb (st .style) 5)) ≡ false → eqb (st .style) style ≡ false
+style-next : (st : State) (style : ℕ) (rest : List ℕ) → style ≤ 5 → (eqb style 5 && not (eqb (st .setting .style) 5)) ≡ false → eqb (st .setting .style) style ≡ false
     → next 8 (style ∷ rest) st ≡ on 1 (styled style st)
 unfolding next pick
 style-next st style rest h u e =
-    let d = eqb-false (st .style) style e in
-    let k : style ≡ 5 → ⊥ = λ q. (let u′ : not (eqb (st .style) 5) ≡ false = simp (eq-eqb style 5 q) at u in d (eqb-true (st .style) 5 (not-false (eqb (st .style) 5) u′) ∙ sym q)) in
-    simp (code-style style rest (omega arith), not-both-normal style (st .style) d)
+    let d = eqb-false (st .setting .style) style e in
+    let k : style ≡ 5 → ⊥ = λ q. (let u′ : not (eqb (st .setting .style) 5) ≡ false = simp (eq-eqb style 5 q) at u in d (eqb-true (st .setting .style) 5 (not-false (eqb (st .setting .style) 5) u′) ∙ sym q)) in
+    simp (code-style style rest (omega arith), not-both-normal style (st .setting .style) d)
 
-style-read : (st : State) (style : ℕ) (rest : List ℕ) → style ≤ 5 → (eqb style 5 && not (eqb (st .style) 5)) ≡ false
-    → Goes 8 (styleIf st style ++ rest) st [] (length (styleIf st style)) (styled style st)
+style-read : (st : State) (style : ℕ) (rest : List ℕ) → style ≤ 5 → (eqb style 5 && not (eqb (st .setting .style) 5)) ≡ false
+    → Goes 8 (styleIf (st .setting .style) style ++ rest) st [] (length (styleIf (st .setting .style) style)) (styled style st)
 unfolding styleIf
 style-read st style rest h u =
-    written-if (λ s. s .style) styled (λ s. refl) st style _ (style ∷ []) rest (eqb-true (st .style) style) (style-next st style rest h u)
+    written-if (λ s. s .setting .style) styled (λ s. refl) st style _ (style ∷ []) rest (eqb-true (st .setting .style) style) (style-next st style rest h u)
 
 same-date : (d e : Dated) → sameDate d e ≡ true → d ≡ e
 unfolding sameDate
@@ -331,34 +363,34 @@ same-date (Range b c) (Day d) t = cc
 same-date (Range b c) (Range d e) t = let p = both (eqb b d) (eqb c e) t in ap₂ Range (eqb-true b d (p .0)) (eqb-true c e (p .1))
 
 module _ (st : State) (rest : List ℕ) where
-  no-date-next : next 8 (16 ∷ rest) st ≡ on 1 (datedBy Undated st)
+  no-date-next : next 8 (0x10 ∷ rest) st ≡ on 1 (datedBy Undated st)
   unfolding next itemOf newLowItem newDateItem pick
-  no-date-next = simp (there 16 rest)
+  no-date-next = simp (there 0x10 rest)
 
-  day-next : (d : ℕ) → d < 65536 → next 8 (17 ∷ (toLe16 d ++ rest)) st ≡ on 3 (datedBy (Day d) st)
+  day-next : (d : ℕ) → d < 65536 → next 8 (0x11 ∷ (toLe16 d ++ rest)) st ≡ on 3 (datedBy (Day d) st)
   unfolding next itemOf newLowItem newDateItem dayItem sized badDates dateOf toLe16 pick
   day-next d h =
       let e : le16 (toLe16 d ++ rest) ≡ d = le16-to d rest h in
       let k : 3 ≤ suc (suc (suc (length rest))) = omega arith in
-      simp (there 17 (0 ∷ 0 ∷ rest), le-ltb _ _ k, e, le-ltb d d (omega arith), le-ltb 65535 d (omega arith), eq-eqb d d refl)
+      simp (there 0x11 (0 ∷ 0 ∷ rest), le-ltb _ _ k, e, le-ltb d d (omega arith), le-ltb 65535 d (omega arith), eq-eqb d d refl)
 
-  span-next : (d e : ℕ) → d < e → e < 65536 → next 8 (18 ∷ ((toLe16 d ++ (e - d) ∷ []) ++ rest)) st ≡ on 4 (datedBy (Range d e) st)
+  span-next : (d e : ℕ) → d < e → e < 65536 → next 8 (0x12 ∷ ((toLe16 d ++ (e - d) ∷ []) ++ rest)) st ≡ on 4 (datedBy (Range d e) st)
   unfolding next itemOf newLowItem newDateItem spanItem sized badDates dateOf toLe16 pick
   span-next d e h0 h1 =
       let f : le16 (toLe16 d ++ ((e - d) ∷ rest)) ≡ d = le16-to d ((e - d) ∷ rest) (omega arith) in
       let k : 4 ≤ suc (suc (suc (suc (length rest)))) = omega arith in
       let z : d + (e - d) ≡ e = omega arith in
       let x : d ≡ e → ⊥ = λ q. omega arith in
-      simp (there 18 (0 ∷ 0 ∷ 0 ∷ rest), le-ltb _ _ k, f, z, le-ltb e d (omega arith), le-ltb 65535 e (omega arith), ne-eqb d e x)
+      simp (there 0x12 (0 ∷ 0 ∷ 0 ∷ rest), le-ltb _ _ k, f, z, le-ltb e d (omega arith), le-ltb 65535 e (omega arith), ne-eqb d e x)
 
-  days-next : (d e : ℕ) → d < e → e < 65536 → next 8 (19 ∷ ((toLe16 d ++ toLe16 e) ++ rest)) st ≡ on 5 (datedBy (Range d e) st)
+  days-next : (d e : ℕ) → d < e → e < 65536 → next 8 (0x13 ∷ ((toLe16 d ++ toLe16 e) ++ rest)) st ≡ on 5 (datedBy (Range d e) st)
   unfolding next itemOf newLowItem newDateItem daysItem sized badDates dateOf toLe16 pick
   days-next d e h0 h1 =
       let f : le16 (toLe16 d ++ (toLe16 e ++ rest)) ≡ d = le16-to d (toLe16 e ++ rest) (omega arith) in
       let g : le16 (toLe16 e ++ rest) ≡ e = le16-to e rest h1 in
       let k : 5 ≤ suc (suc (suc (suc (suc (length rest))))) = omega arith in
       let x : d ≡ e → ⊥ = λ q. omega arith in
-      simp (there 19 (0 ∷ 0 ∷ 0 ∷ 0 ∷ rest), le-ltb _ _ k, f, g, le-ltb e d (omega arith), le-ltb 65535 e (omega arith), ne-eqb d e x)
+      simp (there 0x13 (0 ∷ 0 ∷ 0 ∷ 0 ∷ rest), le-ltb _ _ k, f, g, le-ltb e d (omega arith), le-ltb 65535 e (omega arith), ne-eqb d e x)
 
   -- the codes of a date are read back as that date
   date-next : (date : Dated) → GoodDated date → next 8 (dateCodes date ++ rest) st ≡ on (length (dateCodes date)) (datedBy date st)
@@ -368,25 +400,25 @@ module _ (st : State) (rest : List ℕ) where
   date-next (Range d e) g =
       pick-case (λ (x : List ℕ). next 8 (x ++ rest) st ≡ on (length x) (datedBy (Range d e) st)) _ _ _ (λ q. span-next d e (g .0) (g .1)) (λ q. days-next d e (g .0) (g .1))
 
-  move-next : (p : Point) → GoodPoint p → next 8 (15 ∷ (pointBytes toLe32 p ++ rest)) st ≡ on 13 (moved p st)
+  move-next : (p : Point) → GoodPoint p → next 8 (0x0f ∷ (pointBytes toLe32 p ++ rest)) st ≡ on 13 (moved p st)
   unfolding next itemOf newLowItem moveItem sized pick
   move-next p g =
       let e : pointOf le32 (pointBytes toLe32 p ++ rest) ≡ p = point-back p rest g in
       let k : 13 ≤ suc (length (pointBytes toLe32 p ++ rest)) = simp (length-append, le32-width) (omega arith) in
-      simp (there 15 (pointBytes toLe32 p ++ rest), le-ltb _ _ k, e)
+      simp (there 0x0f (pointBytes toLe32 p ++ rest), le-ltb _ _ k, e)
 
-  error-next : (t : Traverse) → GoodTraverse t → next 8 (31 ∷ (traverseBytes toLe32 t ++ rest)) st ≡ made 21 (error t) st
+  error-next : (t : Traverse) → GoodTraverse t → next 8 (0x1f ∷ (traverseBytes toLe32 t ++ rest)) st ≡ made 21 (error t) st
   unfolding next itemOf newLowItem errorItem sized pick
   error-next t g =
       let e : traverseOf le32 (traverseBytes toLe32 t ++ rest) ≡ t = traverse-back t rest g in
       let k : 21 ≤ suc (length (traverseBytes toLe32 t ++ rest)) = simp (length-append, le32-width) (omega arith) in
-      simp (there 31 (traverseBytes toLe32 t ++ rest), le-ltb _ _ k, e)
+      simp (there 0x1f (traverseBytes toLe32 t ++ rest), le-ltb _ _ k, e)
 
 date-read : (st : State) (date : Dated) (rest : List ℕ) → GoodDated date
-    → Goes 8 (dateIf st date ++ rest) st [] (length (dateIf st date)) (datedBy date st)
+    → Goes 8 (dateIf (st .setting .date) date ++ rest) st [] (length (dateIf (st .setting .date) date)) (datedBy date st)
 unfolding dateIf
 date-read st date rest g =
-    written-if (λ s. s .date) datedBy (λ s. refl) st date _ (dateCodes date) rest (same-date (st .date) date) (λ e. date-next st rest date g)
+    written-if (λ s. s .setting .date) datedBy (λ s. refl) st date _ (dateCodes date) rest (same-date (st .setting .date) date) (λ e. date-next st rest date g)
 
 same-point : (p q : Point) → samePoint p q ≡ true → p ≡ q
 unfolding samePoint
@@ -401,14 +433,14 @@ stands-at (Stands q) p t = ap Stands (same-point q p t)
 
 -- the state with another position
 abbrev placed : Position → State → State
-placed q st = record { label = st .label; style = st .style; date = st .date; position = q }
+placed q st = record { label = st .label; setting = record { style = st .setting .style; date = st .setting .date; position = q } }
 
 move-read : (st : State) (from : Point) (rest : List ℕ) → GoodPoint from
-    → Goes 8 (moveIf st from ++ rest) st [] (length (moveIf st from)) (moved from st)
+    → Goes 8 (moveIf (st .setting .position) from ++ rest) st [] (length (moveIf (st .setting .position) from)) (moved from st)
 unfolding moveIf
 move-read st from rest g =
-    let n : length (15 ∷ pointBytes toLe32 from) ≡ 13 = simp (length-append, le32-width) in
-    written-if (λ s. s .position) placed (λ s. refl) st (Stands from) _ (15 ∷ pointBytes toLe32 from) rest (stands-at (st .position) from)
+    let n : length (0x0f ∷ pointBytes toLe32 from) ≡ 13 = simp (length-append, le32-width) in
+    written-if (λ s. s .setting .position) placed (λ s. refl) st (Stands from) _ (0x0f ∷ pointBytes toLe32 from) rest (stands-at (st .setting .position) from)
     (λ e. rw n (move-next st rest from g))
 
 -- ---- the records
@@ -417,28 +449,29 @@ module _ (st : State) (rest : List ℕ) (hl : length (st .label) ≤ labelLimit)
   abbrev Reads : List ℕ → Record → State → Type 0
   Reads bytes r st′ = Goes 8 (bytes ++ rest) st (r ∷ []) (length bytes) st′
 
-  station-read : (flags : ℕ) (p : Point) (label : List ℕ) → GoodStation flags p label → Reads (stationCodes st flags p label) (station flags p label) (named label st)
+  station-read : (s : Station) (label : List ℕ) → GoodStation s label → Reads (stationCodes (st .label) s label) (station s label) (named label st)
   unfolding stationCodes next
-  station-read flags p label g =
+  station-read s label g =
       let k = keptBytes (st .label) label in
-      let c = stationCodes st flags p label in
-      let e : next 8 (c ++ rest) st ≡ made (length c) (station flags p label) (named label st) =
-      rw (station-item (st .label) label k hl (g .label-fits) flags p rest (g .place-fits), label-read (st .label) label k (kept-shares (st .label) label) (g .label-fits)) in
-      goes-made c rest st (station flags p label) (named label st) e
+      let c = stationCodes (st .label) s label in
+      let e : next 8 (c ++ rest) st ≡ made (length c) (station s label) (named label st) =
+      rw (station-item (st .label) label k hl (g .label-fits) (s .flags) (s .place) rest (g .place-fits), label-read (st .label) label k (kept-shares (st .label) label) (g .label-fits)) in
+      goes-made c rest st (station s label) (named label st) e
 
-  section-read : (last : ℕ) (d : Dimensions) (label : List ℕ) → GoodSection last d label → Reads (sectionCodes st last d label) (section last d label) (named label st)
+  section-read : (s : Section) (label : List ℕ) → GoodSection s label → Reads (sectionCodes (st .label) s label) (section s label) (named label st)
   unfolding sectionCodes next
-  section-read last d label g =
+  section-read s label g =
+      let d = s .size in
       let k = keptBytes (st .label) label in
       let name = labelCodes (st .label) label k in
       let e = label-read (st .label) label k (kept-shares (st .label) label) (g .label-fits) in
-      let r = section last d label in
-      let a = (48 + last) ∷ (name ++ dimensionBytes toLe16 d) in
-      let b = (50 + last) ∷ (name ++ dimensionBytes toLe32 d) in
+      let r = section s label in
+      let a = (0x30 + s .last) ∷ (name ++ dimensionBytes toLe16 d) in
+      let b = (0x32 + s .last) ∷ (name ++ dimensionBytes toLe32 d) in
       let ea : allShort d ≡ true → next 8 (a ++ rest) st ≡ made (length a) r (named label st) =
-      λ q. rw (short-section-item (st .label) label k hl (g .label-fits) last d rest (g .last-fits) (g .dimensions-fit) q, e) in
+      λ q. rw (short-section-item (st .label) label k hl (g .label-fits) (s .last) d rest (g .last-fits) (g .dimensions-fit) q, e) in
       let eb : next 8 (b ++ rest) st ≡ made (length b) r (named label st) =
-      rw (wide-section-item (st .label) label k hl (g .label-fits) last d rest (g .last-fits) (g .dimensions-fit), e) in
+      rw (wide-section-item (st .label) label k hl (g .label-fits) (s .last) d rest (g .last-fits) (g .dimensions-fit), e) in
       pick-case (λ (x : List ℕ). Reads x r (named label st)) (allShort d) a b (λ q. goes-made a rest st r (named label st) (ea q)) (λ q. goes-made b rest st r (named label st) eb)
 
   error-read : (t : Traverse) → GoodTraverse t → Reads (errorCodes t) (error t) st
@@ -448,95 +481,89 @@ module _ (st : State) (rest : List ℕ) (hl : length (st .label) ≤ labelLimit)
       let n : length c ≡ 21 = simp (length-append, le32-width) in
       goes-made c rest st (error t) st (rw n (error-next st rest t g))
 
+  -- the leg of a LINE in this state
+  abbrev legAlong : ℕ → Point → Point → Leg
+  legAlong flags from to = record { flags = flags; style = st .setting .style; date = st .setting .date; from = from; to = to }
+
   -- LINE, where the position is the leg's "from"
-  line-read : (flags : ℕ) (from to : Point) (label : List ℕ) → flags ≤ 7 → GoodPoint to → length label ≤ labelLimit → st .position ≡ Stands from
-      → Reads (lineCodes st flags to label) (leg flags (st .style) (st .date) from to label) (moved to (named label st))
+  line-read : (flags : ℕ) (from to : Point) (label : List ℕ) → flags ≤ 7 → GoodPoint to → length label ≤ labelLimit → st .setting .position ≡ Stands from
+      → Reads (lineCodes (st .label) flags to label) (leg (legAlong flags from to) label) (moved to (named label st))
   unfolding lineCodes next
   line-read flags from to label hf g hm hp =
       let l = st .label in
       let k = common l label in
-      let r = leg flags (st .style) (st .date) from to label in
-      let a = (96 + flags) ∷ pointBytes toLe32 to in
-      let b = (64 + flags) ∷ (labelCodes l label k ++ pointBytes toLe32 to) in
+      let r = leg (legAlong flags from to) label in
+      let a = (0x60 + flags) ∷ pointBytes toLe32 to in
+      let b = (0x40 + flags) ∷ (labelCodes l label k ++ pointBytes toLe32 to) in
       let eb : next 8 (b ++ rest) st ≡ made (length b) r (moved to (named label st)) =
       rw (line-item l label k hl hm flags to rest hf g, label-read l label k (common-shares l label) hm, hp) in
       let ea : same l label ≡ true → next 8 (a ++ rest) st ≡ made (length a) r (moved to (named label st)) =
       λ q. rw (same-line-item flags to rest hf g, label-same l hl, hp) (rw (same-true l label q)) in
       pick-case (λ (x : List ℕ). Reads x r (moved to (named label st))) (same l label) a b (λ q. goes-made a rest st r (moved to (named label st)) (ea q)) (λ q. goes-made b rest st r (moved to (named label st)) eb)
 
-leg-read : (st : State) (flags style : ℕ) (date : Dated) (from to : Point) (label : List ℕ) → length (st .label) ≤ labelLimit → GoodLeg flags style date from to label
-    → (eqb style 5 && not (eqb (st .style) 5)) ≡ false → (rest : List ℕ)
-    → Goes 8 (codes st (leg flags style date from to label) ++ rest) st (leg flags style date from to label ∷ []) (length (codes st (leg flags style date from to label))) (after st (leg flags style date from to label))
+leg-read : (st : State) (g : Leg) (label : List ℕ) → length (st .label) ≤ labelLimit → GoodLeg g label → unsayable (st .setting .style) (leg g label) ≡ false → (rest : List ℕ)
+    → Goes 8 (codes st (leg g label) ++ rest) st (leg g label ∷ []) (length (codes st (leg g label))) (after st (leg g label))
 unfolding dateIf moveIf lineCodes
-leg-read st flags style date from to label hl g u rest =
-    let S = styleIf st style in
-    let D = dateIf st date in
-    let M = moveIf st from in
-    let L = lineCodes st flags to label in
-    let styled-st = styled style st in
-    let dated-st = datedBy date styled-st in
-    let moved-st = moved from dated-st in
+leg-read st g label hl w u rest =
+    let S = styleIf (st .setting .style) (g .style) in
+    let D = dateIf (st .setting .date) (g .date) in
+    let M = moveIf (st .setting .position) (g .from) in
+    let L = lineCodes (st .label) (g .flags) (g .to) label in
+    let styled-st = styled (g .style) st in
+    let dated-st = datedBy (g .date) styled-st in
+    let moved-st = moved (g .from) dated-st in
     let e : (S ++ (D ++ (M ++ L))) ++ rest ≡ S ++ (D ++ (M ++ (L ++ rest))) = simp append-assoc in
     let n : length S + (length D + (length M + length L)) ≡ length (S ++ (D ++ (M ++ L))) = simp length-append in
     goes-as (sym e) n
-    (goes-append S (D ++ (M ++ (L ++ rest))) (style-read st style (D ++ (M ++ (L ++ rest))) (g .style-fits) u)
-    (goes-append D (M ++ (L ++ rest)) (date-read styled-st date (M ++ (L ++ rest)) (g .date-fits))
-    (goes-append M (L ++ rest) (move-read dated-st from (L ++ rest) (g .from-fits))
-    (line-read moved-st rest hl flags from to label (g .flags-fit) (g .to-fits) (g .label-fits) refl))))
+    (goes-append S (D ++ (M ++ (L ++ rest))) (style-read st (g .style) (D ++ (M ++ (L ++ rest))) (w .style-fits) u)
+    (goes-append D (M ++ (L ++ rest)) (date-read styled-st (g .date) (M ++ (L ++ rest)) (w .date-fits))
+    (goes-append M (L ++ rest) (move-read dated-st (g .from) (L ++ rest) (w .from-fits))
+    (line-read moved-st rest hl (g .flags) (g .from) (g .to) label (w .flags-fit) (w .to-fits) (w .label-fits) refl))))
 
 -- ---- codes-read: reading the codes of a record from any state makes exactly that record, leaves the state that writing leaves, and goes
 -- on at what follows
 
-pub codes-go : (st : State) (r : Record) → length (st .label) ≤ labelLimit → WellFormed r → unsayable st r ≡ false → (rest : List ℕ)
+pub codes-go : (st : State) (r : Record) → length (st .label) ≤ labelLimit → WellFormed r → unsayable (st .setting .style) r ≡ false → (rest : List ℕ)
     → Goes 8 (codes st r ++ rest) st (r ∷ []) (length (codes st r)) (after st r)
-codes-go st (leg flags style date from to label) hl g u rest = leg-read st flags style date from to label hl g u rest
-codes-go st (station flags p label) hl g u rest = station-read st rest hl flags p label g
-codes-go st (section last d label) hl g u rest = section-read st rest hl last d label g
+codes-go st (leg g label) hl w u rest = leg-read st g label hl w u rest
+codes-go st (station s label) hl w u rest = station-read st rest hl s label w
+codes-go st (section s label) hl w u rest = section-read st rest hl s label w
 codes-go st (error t) hl g u rest = error-read st rest hl t g
 
-pub codes-read : (st : State) (r : Record) → length (st .label) ≤ labelLimit → WellFormed r → unsayable st r ≡ false → (at : ℕ) (rest : List ℕ)
+pub codes-read : (st : State) (r : Record) → length (st .label) ≤ labelLimit → WellFormed r → unsayable (st .setting .style) r ≡ false → (at : ℕ) (rest : List ℕ)
     → run 8 at (codes st r ++ rest) st ≡ also r (run 8 (at + length (codes st r)) rest (after st r))
 codes-read st r hl g u at rest =
     goes-run (codes-go st r hl g u rest) at ∙ rw (drop-append-seam (codes st r) rest)
 
 -- ---- the closing codes end the file, and so reading gives back the records that were written
 
-end-read : (st : State) (at : ℕ) → st .style ≡ 0 → run 8 at (0 ∷ []) st ≡ stop good
-unfolding next itemOf newLowItem ended pick
-end-read st at e = run-eq 8 at (0 ∷ []) st ∙ rw e
+end-read : (st : State) (at : ℕ) → st .setting .style ≡ 0 → run 8 at (0 ∷ []) st ≡ stop Good
+unfolding next itemOf newLowItem pick
+end-read st at e = run-done 8 at (0 ∷ []) st (style-end st 1 0 refl e) (omega arith)
 
 -- the first 00 says normal, the second ends
-normal-end-read : (st : State) (at : ℕ) → eqb (st .style) 0 ≡ false → run 8 at (0 ∷ 0 ∷ []) st ≡ stop good
+normal-end-read : (st : State) (at : ℕ) → (st .setting .style ≡ 0 → ⊥) → run 8 at (0 ∷ 0 ∷ []) st ≡ stop Good
 unfolding next itemOf newLowItem pick
-normal-end-read st at q = run-eq 8 at (0 ∷ 0 ∷ []) st ∙ rw q (end-read (styled 0 st) (at + 1) refl)
+normal-end-read st at q = run-on 8 at (0 ∷ 0 ∷ []) st (style-first st 1 0 refl q) ∙ end-read (styled 0 st) (at + 1) refl
 
-pub closing-read : (st : State) (at : ℕ) → run 8 at (closing st) st ≡ stop good
+pub closing-read : (st : State) (at : ℕ) → run 8 at (closing (st .setting .style)) st ≡ stop Good
 unfolding closing
 closing-read st at =
-    pick-case (λ (x : List ℕ). run 8 at x st ≡ stop good) _ _ _ (λ q. end-read st at (eqb-true (st .style) 0 q)) (λ q. normal-end-read st at q)
+    pick-case (λ (x : List ℕ). run 8 at x st ≡ stop Good) _ _ _ (λ q. end-read st at (eqb-true (st .setting .style) 0 q)) (λ q. normal-end-read st at (eqb-false (st .setting .style) 0 q))
 
 pub after-short : (st : State) (r : Record) → length (st .label) ≤ labelLimit → WellFormed r → length (after st r .label) ≤ labelLimit
-after-short st (leg flags style date from to label) h g = g .label-fits
-after-short st (station flags p label) h g = g .label-fits
-after-short st (section last d label) h g = g .label-fits
+after-short st (leg g label) h w = w .label-fits
+after-short st (station s label) h w = w .label-fits
+after-short st (section s label) h w = w .label-fits
 after-short st (error t) h g = h
 
--- a record that 13 does not name, and those after it
-pub sayable : (n : ℕ) (st : State) (r : Record) (rs : List Record) → styleVerdict n st (r ∷ rs) ≡ good → (unsayable st r ≡ false) × (styleVerdict (n + 1) (after st r) rs ≡ good)
-unfolding styleVerdict pick
-sayable n st r rs e = go (unsayable st r) refl e
-  where
-    go : (b : Bool) → unsayable st r ≡ b → pick b (refusal 13 n) (styleVerdict (n + 1) (after st r) rs) ≡ good → (unsayable st r ≡ false) × (styleVerdict (n + 1) (after st r) rs ≡ good)
-    go true q e = absurd (let z : _≡_ {A = ℕ} 0 1 = cc in omega arith)
-    go false q e = (q, e)
-
 -- from any state: the records written, with the closing codes, are read back
-pub encode-read : (rs : List Record) (n : ℕ) (st : State) → length (st .label) ≤ labelLimit → AllWellFormed rs → styleVerdict n st rs ≡ good → (at : ℕ)
-    → run 8 at (encodeAll codes after closing st rs) st ≡ record { records = rs; verdict = good }
+pub encode-read : (rs : List Record) (n : ℕ) (st : State) → length (st .label) ≤ labelLimit → AllWellFormed rs → recordsVerdict v8 n st rs ≡ Good → (at : ℕ)
+    → run 8 at (encodeAll v8 st rs) st ≡ record { records = rs; verdict = Good }
 unfolding encodeAll codesAll afterAll
 encode-read [] n st h w e at = closing-read st at
 encode-read (r ∷ rs) n st h w e at =
-    let s = sayable n st r rs e in
-    ap (λ (x : List ℕ). run 8 at x st) (append-assoc (codes st r) (codesAll codes after (after st r) rs) (closing (afterAll codes after (after st r) rs)))
+    let s = able v8 n st r rs e in
+    ap (λ (x : List ℕ). run 8 at x st) (append-assoc (codes st r) (codesAll v8 (after st r) rs) (closing (afterAll v8 (after st r) rs .setting .style)))
     ∙ codes-read st r h (w .0) (s .0) at _
     ∙ ap (also r) (encode-read rs (n + 1) (after st r) (after-short st r h (w .0)) (w .1) (s .1) _)

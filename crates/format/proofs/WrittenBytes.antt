@@ -8,18 +8,21 @@ use lib.ListN.{length, getD, take, drop}
 use lib.Seq.{getD-drop}
 use lib.Dec.{eqb, ltb, leb}
 use borrow.Author.Tests.{ltb-true, leb-true}
-use Rattle.format.specs.Bytes.{pick, toLe16, toLe32}
+use Rattle.format.specs.Bytes.{pick, toLe16, toLe32, Bytes}
 use Rattle.format.specs.Header.{Header, magic}
 use Rattle.format.specs.Label.{labelLimit}
 use Rattle.format.specs.State.{State, start, Record, leg, station, section, error}
-use Rattle.format.specs.Sheet.{pointBytes, dimensionBytes, traverseBytes, Bytes, GoodDated, GoodHeader, WellFormed, AllWellFormed}
-use Rattle.format.specs.Writing.{codesAll, afterAll, encodeAll, lengthCodes, partCodes, labelCodes, keptBytes, common, dateCodes, styleIf, dateIf, moveIf, lineCodes, stationCodes, sectionCodes, errorCodes, codes, after, closing, headerCodes, fileOf}
+use Rattle.format.specs.Sheet.{pointBytes, dimensionBytes, traverseBytes}
+use Rattle.format.specs.WellFormed.{GoodDated, GoodHeader, WellFormed, AllWellFormed}
+use Rattle.format.specs.Writing.{v8, codesAll, afterAll, encodeAll, fileOf}
+use Rattle.format.specs.Codes.{lengthCodes, partCodes, labelCodes, keptBytes, common, dateCodes, styleIf, dateIf, moveIf, lineCodes, stationCodes, sectionCodes, errorCodes, codes, after, closing, headerCodes}
 use Rattle.format.specs.declared.Point.{Point}
 use Rattle.format.specs.declared.Dimensions.{Dimensions}
 use Rattle.format.specs.declared.Traverse.{Traverse}
 use Rattle.format.specs.declared.Dated.{Dated}
 use Rattle.format.specs.declared.Dated.the-variants.{Undated, Day, Range}
 use Rattle.format.proofs.Basics.{pick-case, both}
+use Rattle.format.proofs.SheetLaws.{bytes-drop}
 
 -- ---- lists of bytes; the record lets the lists themselves be found
 
@@ -44,9 +47,6 @@ append-below (b ∷ s) t f g (suc i) = append-below s t (λ j. f (suc j)) g i
 pub bytes-append : (s t : List ℕ) → All s → All t → All (s ++ t)
 bytes-append s t f g = record { below = append-below s t (f .below) (g .below) }
 
-pub bytes-drop : (k : ℕ) (s : List ℕ) → All s → All (drop k s)
-bytes-drop k s f = record { below = λ i. rw (getD-drop k s i 0) (f .below (k + i)) }
-
 le16-bytes : (n : ℕ) → All (toLe16 n)
 unfolding toLe16
 le16-bytes n = bytes-cons _ _ (omega arith) (bytes-cons _ _ (omega arith) bytes-nil)
@@ -70,7 +70,7 @@ module _ (to : ℕ → List ℕ) (f : (n : ℕ) → All (to n)) where
 length-bytes : (n : ℕ) → All (lengthCodes n)
 unfolding lengthCodes
 length-bytes n =
-    pick-case All _ _ _ (λ e. (let h : n < 255 = ltb-true _ _ e in bytes-cons n [] (omega arith) bytes-nil)) (λ e. bytes-cons 255 _ (omega arith) (le32-bytes n))
+    pick-case All _ _ _ (λ e. (let h : n < 255 = ltb-true _ _ e in bytes-cons n [] (omega arith) bytes-nil)) (λ e. bytes-cons 0xff _ (omega arith) (le32-bytes n))
 
 part-bytes : (d a : ℕ) → All (partCodes d a)
 unfolding partCodes
@@ -85,22 +85,22 @@ part-bytes d a =
 
 label-bytes : (l m : List ℕ) (k : ℕ) → All m → All (labelCodes l m k)
 unfolding labelCodes
-label-bytes l m k f = bytes-append _ _ (part-bytes (length l - k) (length m - k)) (bytes-drop k m f)
+label-bytes l m k f = bytes-append _ _ (part-bytes (length l - k) (length m - k)) (record { below = bytes-drop m (f .below) k })
 
 date-bytes : (date : Dated) → GoodDated date → All (dateCodes date)
-date-bytes Undated g = bytes-cons 16 [] (omega arith) bytes-nil
-date-bytes (Day d) g = bytes-cons 17 _ (omega arith) (le16-bytes d)
+date-bytes Undated g = bytes-cons 0x10 [] (omega arith) bytes-nil
+date-bytes (Day d) g = bytes-cons 0x11 _ (omega arith) (le16-bytes d)
 date-bytes (Range d e) g =
     pick-case All _ _ _
-    (λ q. (let h : e - d ≤ 255 = leb-true _ _ q in bytes-cons 18 _ (omega arith) (bytes-append _ _ (le16-bytes d) (bytes-cons (e - d) [] (omega arith) bytes-nil))))
-    (λ q. bytes-cons 19 _ (omega arith) (bytes-append _ _ (le16-bytes d) (le16-bytes e)))
+    (λ q. (let h : e - d ≤ 255 = leb-true _ _ q in bytes-cons 0x12 _ (omega arith) (bytes-append _ _ (le16-bytes d) (bytes-cons (e - d) [] (omega arith) bytes-nil))))
+    (λ q. bytes-cons 0x13 _ (omega arith) (bytes-append _ _ (le16-bytes d) (le16-bytes e)))
 
 -- ---- records
 
 abbrev pub LabelBytes : Record → Type 0
-LabelBytes (leg flags style date from to label) = All label
-LabelBytes (station flags p label) = All label
-LabelBytes (section last d label) = All label
+LabelBytes (leg g label) = All label
+LabelBytes (station s label) = All label
+LabelBytes (section s label) = All label
 LabelBytes (error t) = Unit
 
 abbrev pub AllLabelBytes : List Record → Type 0
@@ -112,30 +112,30 @@ if-bytes test code f = pick-case All _ _ _ (λ e. bytes-nil) (λ e. f)
 
 pub codes-bytes : (st : State) (r : Record) → WellFormed r → LabelBytes r → All (codes st r)
 unfolding styleIf dateIf moveIf lineCodes stationCodes sectionCodes errorCodes
-codes-bytes st (leg flags style date from to label) g f =
-    let h = g .style-fits in
-    let k = g .flags-fit in
+codes-bytes st (leg g label) w f =
+    let h = w .style-fits in
+    let k = w .flags-fit in
     let p = point-bytes toLe32 le32-bytes in
-    bytes-append _ _ (if-bytes _ _ (bytes-cons style [] (omega arith) bytes-nil))
-    (bytes-append _ _ (if-bytes _ _ (date-bytes date (g .date-fits)))
-    (bytes-append _ _ (if-bytes _ _ (bytes-cons 15 _ (omega arith) (p from)))
-    (pick-case All _ _ _ (λ e. bytes-cons (96 + flags) _ (omega arith) (p to))
-    (λ e. bytes-cons (64 + flags) _ (omega arith) (bytes-append _ _ (label-bytes (st .label) label _ f) (p to))))))
-codes-bytes st (station flags p label) g f =
-    let k = g .flags-fit in
-    bytes-cons (128 + flags) _ (omega arith) (bytes-append _ _ (label-bytes (st .label) label _ f) (point-bytes toLe32 le32-bytes p))
-codes-bytes st (section last d label) g f =
-    let k = g .last-fits in
+    bytes-append _ _ (if-bytes _ _ (bytes-cons (g .style) [] (omega arith) bytes-nil))
+    (bytes-append _ _ (if-bytes _ _ (date-bytes (g .date) (w .date-fits)))
+    (bytes-append _ _ (if-bytes _ _ (bytes-cons 0x0f _ (omega arith) (p (g .from))))
+    (pick-case All _ _ _ (λ e. bytes-cons (0x60 + g .flags) _ (omega arith) (p (g .to)))
+    (λ e. bytes-cons (0x40 + g .flags) _ (omega arith) (bytes-append _ _ (label-bytes (st .label) label _ f) (p (g .to)))))))
+codes-bytes st (station s label) w f =
+    let k = w .flags-fit in
+    bytes-cons (0x80 + s .flags) _ (omega arith) (bytes-append _ _ (label-bytes (st .label) label _ f) (point-bytes toLe32 le32-bytes (s .place)))
+codes-bytes st (section s label) w f =
+    let k = w .last-fits in
     pick-case All _ _ _
-    (λ e. bytes-cons (48 + last) _ (omega arith) (bytes-append _ _ (label-bytes (st .label) label _ f) (dimensions-bytes toLe16 le16-bytes d)))
-    (λ e. bytes-cons (50 + last) _ (omega arith) (bytes-append _ _ (label-bytes (st .label) label _ f) (dimensions-bytes toLe32 le32-bytes d)))
-codes-bytes st (error t) g f = bytes-cons 31 _ (omega arith) (traverse-bytes toLe32 le32-bytes t)
+    (λ e. bytes-cons (0x30 + s .last) _ (omega arith) (bytes-append _ _ (label-bytes (st .label) label _ f) (dimensions-bytes toLe16 le16-bytes (s .size))))
+    (λ e. bytes-cons (0x32 + s .last) _ (omega arith) (bytes-append _ _ (label-bytes (st .label) label _ f) (dimensions-bytes toLe32 le32-bytes (s .size))))
+codes-bytes st (error t) g f = bytes-cons 0x1f _ (omega arith) (traverse-bytes toLe32 le32-bytes t)
 
-closing-bytes : (st : State) → All (closing st)
+closing-bytes : (style : ℕ) → All (closing style)
 unfolding closing
-closing-bytes st = pick-case All _ _ _ (λ e. bytes-cons 0 [] (omega arith) bytes-nil) (λ e. bytes-cons 0 _ (omega arith) (bytes-cons 0 [] (omega arith) bytes-nil))
+closing-bytes style = pick-case All _ _ _ (λ e. bytes-cons 0 [] (omega arith) bytes-nil) (λ e. bytes-cons 0 _ (omega arith) (bytes-cons 0 [] (omega arith) bytes-nil))
 
-all-bytes : (rs : List Record) (st : State) → AllWellFormed rs → AllLabelBytes rs → All (codesAll codes after st rs)
+all-bytes : (rs : List Record) (st : State) → AllWellFormed rs → AllLabelBytes rs → All (codesAll v8 st rs)
 unfolding codesAll
 all-bytes [] st w f = bytes-nil
 all-bytes (r ∷ rs) st w f = bytes-append _ _ (codes-bytes st r (w .0) (f .0)) (all-bytes rs (after st r) (w .1) (f .1))
@@ -155,7 +155,7 @@ unfolding magic allBytes
 magic-bytes = computed-bytes magic refl
 
 -- a good header and records whose texts are bytes give a file of bytes
-pub file-bytes : (h : Header) (rs : List Record) → GoodHeader h → All (h .title) → All (h .time) → AllWellFormed rs → AllLabelBytes rs → All (fileOf h rs)
+pub file-bytes : (h : Header) (rs : List Record) → GoodHeader h → All (h .title) → All (h .time) → AllWellFormed rs → AllLabelBytes rs → All (fileOf v8 h rs)
 unfolding fileOf headerCodes encodeAll
 file-bytes h rs g ft fm w f =
     let x = g .extended-fits in

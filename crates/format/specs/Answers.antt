@@ -1,7 +1,7 @@
 -- "For every answer that is an enum, a definition gives this paper's number and values for each case of the enum." Assumes nothing.
 use Prim.Native.Nat.{ℕ}
 use Rattle.format.specs.Header.{Opening, shut, opened}
-use Rattle.format.specs.Reading.{Outcome, accepted, refused}
+use Rattle.format.specs.Refusals.{Outcome, accepted, refused}
 use Rattle.format.specs.Stepping.{StepOutcome, wrote, nothing, ends, refuses}
 use Rattle.format.specs.Times.{Comparison, first, second, equal, firstRefused, secondRefused}
 use Rattle.format.specs.declared.Answer.{Answer}

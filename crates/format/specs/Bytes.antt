@@ -1,5 +1,5 @@
 -- Numbers in bytes, lists of bytes, and what a lent buffer holds at the end. Assumes nothing.
-use Prim.Native.Nat.{ℕ, _+_, _*_, _/_, _%_}
+use Prim.Native.Nat.{ℕ, _+_, _*_, _/_, _%_, _<_}
 use mathlib.Core.List.{List, [], _∷_, _++_}
 use mathlib.Core.Bool.{Bool, true, false}
 use lib.ListN.{length, getD, drop}
@@ -44,6 +44,10 @@ unfoldable pub widened : ℕ → ℕ
 widened n = pick (ltb n 32768) n (n + 4294901760)
 
 -- ---- lists of bytes
+
+-- a list of bytes
+abbrev pub Bytes : List ℕ → Type 0
+Bytes s = (i : ℕ) → getD s i 0 < 256
 
 -- whether two lists are the same
 unfoldable pub same : List ℕ → List ℕ → Bool

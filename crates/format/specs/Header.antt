@@ -1,7 +1,7 @@
 -- The header of a file, document 01, "Header", with refusals 1 to 4. Assumes nothing.
-use Prim.Native.Nat.{ℕ, zero, suc, _+_, _-_}
-use mathlib.Core.List.{List, [], _∷_, _++_}
-use mathlib.Core.Bool.{Bool, true, false, _&&_, not}
+use Prim.Native.Nat.{ℕ, suc, _+_, _-_}
+use mathlib.Core.List.{List, [], _∷_}
+use mathlib.Core.Bool.{Bool, _&&_, not}
 use lib.ListN.{length, getD, take, drop}
 use lib.Dec.{eqb, ltb, leb}
 use Rattle.format.specs.Bytes.{pick, same}
@@ -45,8 +45,8 @@ goodLine limit s = ltb (lineEnd s) (length s) && (leb (lineEnd s) limit && not (
 unfoldable pub extendedByte : List ℕ → ℕ → Header → Opening
 extendedByte file place h =
     pick (leb (length file) place) (shut 3 (length file))
-    (pick (eqb (getD file place 0) 0) (opened 8 (place + 1) h)
-    (pick (eqb (getD file place 0) 128) (opened 8 (place + 1) (record { extended = 1; title = h .title; time = h .time }))
+    (pick (eqb (getD file place 0) 0x00) (opened 8 (place + 1) h)
+    (pick (eqb (getD file place 0) 0x80) (opened 8 (place + 1) (record { extended = 1; title = h .title; time = h .time }))
     (shut 4 place)))
 
 -- "v3 to v7 are never extended"

@@ -1,12 +1,14 @@
 -- Items, document 01, "Items, v3 to v7" and "Items, v8": the item at the front of the bytes, or refusal 4 or 5.
 -- Nothing here looks at the state. Assumes nothing.
-use Prim.Native.Nat.{ℕ, _+_, _-_, _*_, _/_, _%_}
-use mathlib.Core.List.{List, [], _∷_, _++_}
-use mathlib.Core.Bool.{Bool, true, false, _&&_}
+use Prim.Native.Nat.{ℕ, _+_, _-_, _/_, _%_}
+use mathlib.Core.List.{List}
 use lib.ListN.{length, getD, take, drop}
-use lib.Dec.{eqb, ltb, leb}
+use lib.Dec.{eqb, ltb}
 use Rattle.format.specs.Bytes.{pick, le16, le32, widened}
-use Rattle.format.specs.Label.{Cut, toDot, trim}
+use Rattle.format.specs.declared.Cut.{Cut}
+use Rattle.format.specs.declared.Cut.the-variants.{ToDot, Trim}
+use Rattle.format.specs.declared.LabelPart.{LabelPart}
+use Rattle.format.specs.declared.LabelPart.the-variants.{Unfinished, Numbers}
 use Rattle.format.specs.declared.Point.{Point}
 use Rattle.format.specs.declared.Dimensions.{Dimensions}
 use Rattle.format.specs.declared.Traverse.{Traverse}
@@ -39,7 +41,7 @@ pub data Item : Type 0 where
   -- 1 where it is the last in its passage, dimensions, D and the bytes to append
   Xsect : ℕ → Dimensions → ℕ → List ℕ → Item
   -- flags, place, D and the bytes to append
-  Station : ℕ → Point → ℕ → List ℕ → Item
+  Label : ℕ → Point → ℕ → List ℕ → Item
   Line : ℕ → Point → ℕ → List ℕ → Item
 
 -- a refusal, or the item with its size in bytes
@@ -57,66 +59,61 @@ sized n s it = pick (ltb (length s) n) (faulty 5) (whole n it)
 
 -- ---- label parts: the bytes t after the code begin with the size of the part's own numbers, then the bytes to append
 
--- unfinished; or the size of its numbers, D and A
-pub data Part : Type 0 where
-  unfinished : Part
-  part : ℕ → ℕ → ℕ → Part
-
 -- v3 to v7: "A label is a length and bytes to append: 00-fd itself; fe and u16 plus 254; ff and u32"
-unfoldable pub oldPart : List ℕ → Part
+unfoldable pub oldPart : List ℕ → LabelPart
 oldPart t =
-    pick (ltb (length t) 1) unfinished
-    (pick (ltb (getD t 0 0) 254) (part 1 0 (getD t 0 0))
-    (pick (eqb (getD t 0 0) 254)
-    (pick (ltb (length t) 3) unfinished (part 3 0 (le16 (drop 1 t) + 254)))
-    (pick (ltb (length t) 5) unfinished (part 5 0 (le32 (drop 1 t))))))
+    pick (ltb (length t) 1) Unfinished
+    (pick (ltb (getD t 0 0) 0xfe) (Numbers 1 0 (getD t 0 0))
+    (pick (eqb (getD t 0 0) 0xfe)
+    (pick (ltb (length t) 3) Unfinished (Numbers 3 0 (le16 (drop 1 t) + 254)))
+    (pick (ltb (length t) 5) Unfinished (Numbers 5 0 (le32 (drop 1 t))))))
 
 -- v8: "each one byte below ff, or ff and u32": the size of the number at the front of t, 0 where it is unfinished
 unfoldable pub lengthSize : List ℕ → ℕ
-lengthSize t = pick (ltb (length t) 1) 0 (pick (ltb (getD t 0 0) 255) 1 (pick (ltb (length t) 5) 0 5))
+lengthSize t = pick (ltb (length t) 1) 0 (pick (ltb (getD t 0 0) 0xff) 1 (pick (ltb (length t) 5) 0 5))
 
 -- its value
 unfoldable pub lengthValue : List ℕ → ℕ
-lengthValue t = pick (ltb (getD t 0 0) 255) (getD t 0 0) (le32 (drop 1 t))
+lengthValue t = pick (ltb (getD t 0 0) 0xff) (getD t 0 0) (le32 (drop 1 t))
 
 -- "or 00, then D, then A"
-unfoldable pub longPart : List ℕ → Part
+unfoldable pub longPart : List ℕ → LabelPart
 longPart t =
     let d = lengthSize (drop 1 t) in
     let a = lengthSize (drop (1 + d) t) in
-    pick (eqb d 0) unfinished
-    (pick (eqb a 0) unfinished (part (1 + d + a) (lengthValue (drop 1 t)) (lengthValue (drop (1 + d) t))))
+    pick (eqb d 0) Unfinished
+    (pick (eqb a 0) Unfinished (Numbers (1 + d + a) (lengthValue (drop 1 t)) (lengthValue (drop (1 + d) t))))
 
 -- v8: "A label is D bytes to drop, then A to append: one non-zero byte 16D+A; or 00, then D, then A"
-unfoldable pub newPart : List ℕ → Part
+unfoldable pub newPart : List ℕ → LabelPart
 newPart t =
-    pick (ltb (length t) 1) unfinished
-    (pick (eqb (getD t 0 0) 0) (longPart t) (part 1 (getD t 0 0 / 16) (getD t 0 0 % 16)))
+    pick (ltb (length t) 1) Unfinished
+    (pick (eqb (getD t 0 0) 0x00) (longPart t) (Numbers 1 (getD t 0 0 / 16) (getD t 0 0 % 16)))
 
 -- an item of a code, a label part and n more bytes: `make` is given D, the bytes to append and what follows them
-abbrev pub withPart : Part → List ℕ → ℕ → (ℕ → List ℕ → List ℕ → Item) → Decoded
-withPart unfinished t n make = faulty 5
-withPart (part k d a) t n make = sized (k + a + n) t (make d (take a (drop k t)) (drop (k + a) t))
+abbrev pub withPart : LabelPart → List ℕ → ℕ → (ℕ → List ℕ → List ℕ → Item) → Decoded
+withPart Unfinished t n make = faulty 5
+withPart (Numbers k d a) t n make = sized (k + a + n) t (make d (take a (drop k t)) (drop (k + a) t))
 
 -- the code's own byte added to a size
 abbrev pub behindCode : Decoded → Decoded
 behindCode (faulty k) = faulty k
 behindCode (whole n it) = whole (1 + n) it
 
-unfoldable pub labelledItem : Part → List ℕ → ℕ → (ℕ → List ℕ → List ℕ → Item) → Decoded
+unfoldable pub labelledItem : LabelPart → List ℕ → ℕ → (ℕ → List ℕ → List ℕ → Item) → Decoded
 labelledItem p t n make = behindCode (withPart p t n make)
 
 -- LABEL and LINE: flags, label, x y z
-unfoldable pub stationItem : ℕ → Part → List ℕ → Decoded
-stationItem flags p t = labelledItem p t 12 (λ d added rest. Station flags (pointOf le32 rest) d added)
+unfoldable pub stationItem : ℕ → LabelPart → List ℕ → Decoded
+stationItem flags p t = labelledItem p t 12 (λ d added rest. Label flags (pointOf le32 rest) d added)
 
-unfoldable pub lineItem : ℕ → Part → List ℕ → Decoded
+unfoldable pub lineItem : ℕ → LabelPart → List ℕ → Decoded
 lineItem flags p t = labelledItem p t 12 (λ d added rest. Line flags (pointOf le32 rest) d added)
 
--- XSECT: "30-31, 32-33: label, then L R U D as i16 or i32; bit 0: last in passage"
-unfoldable pub sectionItem : ℕ → Part → List ℕ → Decoded
+-- 30-31, 32-33: "XSECT: label, then L R U D as i16 or i32; bit 0: last in passage"
+unfoldable pub sectionItem : ℕ → LabelPart → List ℕ → Decoded
 sectionItem code p t =
-    pick (ltb code 50)
+    pick (ltb code 0x32)
     (labelledItem p t 8 (λ d added rest. Xsect (code % 2) (dimensionsOf 2 (λ s. widened (le16 s)) rest) d added))
     (labelledItem p t 16 (λ d added rest. Xsect (code % 2) (dimensionsOf 4 le32 rest) d added))
 
@@ -154,23 +151,23 @@ twoSecondsItem s = sized 9 s (Date (dayOfSeconds (le32 (drop 1 s))) (dayOfSecond
 -- v4 to v6, 20-21
 unfoldable pub oldDateItem : ℕ → List ℕ → Decoded
 oldDateItem code s =
-    pick (eqb code 32) (secondsItem s)
-    (pick (eqb code 33) (twoSecondsItem s)
+    pick (eqb code 0x20) (secondsItem s)
+    (pick (eqb code 0x21) (twoSecondsItem s)
     reserved)
 
 -- v7, 20 / 21 / 23 / 24
 unfoldable pub v7DateItem : ℕ → List ℕ → Decoded
 v7DateItem code s =
-    pick (eqb code 32) (dayItem s)
-    (pick (eqb code 33) (spanItem s)
-    (pick (eqb code 35) (daysItem s)
-    (pick (eqb code 36) (whole 1 NoDate)
+    pick (eqb code 0x20) (dayItem s)
+    (pick (eqb code 0x21) (spanItem s)
+    (pick (eqb code 0x23) (daysItem s)
+    (pick (eqb code 0x24) (whole 1 NoDate)
     reserved)))
 
 -- v3 to v7, 20-2f: ERROR from v6 on, dates from v4 on
 unfoldable pub oldMiddleItem : ℕ → ℕ → List ℕ → Decoded
 oldMiddleItem version code s =
-    pick (eqb code 34) (pick (ltb version 6) reserved (errorItem s))
+    pick (eqb code 0x22) (pick (ltb version 6) reserved (errorItem s))
     (pick (ltb version 4) reserved
     (pick (ltb version 7) (oldDateItem code s)
     (v7DateItem code s)))
@@ -178,49 +175,49 @@ oldMiddleItem version code s =
 -- v3 to v7, 00-1f
 unfoldable pub oldLowItem : ℕ → List ℕ → Decoded
 oldLowItem code s =
-    pick (eqb code 0) (whole 1 Stop)
-    (pick (ltb code 15) (whole 1 (Shorten (toDot code)))
-    (pick (eqb code 15) (moveItem s)
-    (whole 1 (Shorten (trim (code - 15))))))
+    pick (eqb code 0x00) (whole 1 Stop)
+    (pick (ltb code 0x0f) (whole 1 (Shorten (ToDot code)))
+    (pick (eqb code 0x0f) (moveItem s)
+    (whole 1 (Shorten (Trim (code - 15))))))
 
 -- v3 to v7, 30-ff: XSECT from v5 on, LABEL with flags 0x1f, LINE with flags 0x07
 unfoldable pub oldHighItem : ℕ → ℕ → List ℕ → Decoded
 oldHighItem version code t =
-    pick (ltb code 52) (pick (ltb version 5) reserved (sectionItem code (oldPart t) t))
-    (pick (ltb code 64) reserved
-    (pick (ltb code 96) (stationItem (code - 64) (oldPart t) t)
-    (pick (ltb code 128) reserved
-    (pick (ltb code 136) (lineItem (code - 128) (oldPart t) t)
+    pick (ltb code 0x34) (pick (ltb version 5) reserved (sectionItem code (oldPart t) t))
+    (pick (ltb code 0x40) reserved
+    (pick (ltb code 0x60) (stationItem (code - 0x40) (oldPart t) t)
+    (pick (ltb code 0x80) reserved
+    (pick (ltb code 0x88) (lineItem (code - 0x80) (oldPart t) t)
     reserved))))
 
 -- v8, 10-13
 unfoldable pub newDateItem : ℕ → List ℕ → Decoded
 newDateItem code s =
-    pick (eqb code 16) (whole 1 NoDate)
-    (pick (eqb code 17) (dayItem s)
-    (pick (eqb code 18) (spanItem s)
+    pick (eqb code 0x10) (whole 1 NoDate)
+    (pick (eqb code 0x11) (dayItem s)
+    (pick (eqb code 0x12) (spanItem s)
     (daysItem s)))
 
 -- v8, 00-2f
 unfoldable pub newLowItem : ℕ → List ℕ → Decoded
 newLowItem code s =
-    pick (ltb code 5) (whole 1 (Style code))
-    (pick (ltb code 15) reserved
-    (pick (eqb code 15) (moveItem s)
-    (pick (ltb code 20) (newDateItem code s)
-    (pick (eqb code 31) (errorItem s)
+    pick (ltb code 0x05) (whole 1 (Style code))
+    (pick (ltb code 0x0f) reserved
+    (pick (eqb code 0x0f) (moveItem s)
+    (pick (ltb code 0x14) (newDateItem code s)
+    (pick (eqb code 0x1f) (errorItem s)
     reserved))))
 
 -- v8, 30-ff: LINE with flags 0x07, where "0x20 means no label bytes and no change"; LABEL with flags 0x7f
 unfoldable pub newHighItem : ℕ → List ℕ → Decoded
 newHighItem code t =
-    pick (ltb code 52) (sectionItem code (newPart t) t)
-    (pick (ltb code 64) reserved
-    (pick (ltb code 72) (lineItem (code - 64) (newPart t) t)
-    (pick (ltb code 96) reserved
-    (pick (ltb code 104) (lineItem (code - 96) (part 0 0 0) t)
-    (pick (ltb code 128) reserved
-    (stationItem (code - 128) (newPart t) t))))))
+    pick (ltb code 0x34) (sectionItem code (newPart t) t)
+    (pick (ltb code 0x40) reserved
+    (pick (ltb code 0x48) (lineItem (code - 0x40) (newPart t) t)
+    (pick (ltb code 0x60) reserved
+    (pick (ltb code 0x68) (lineItem (code - 0x60) (Numbers 0 0 0) t)
+    (pick (ltb code 0x80) reserved
+    (stationItem (code - 0x80) (newPart t) t))))))
 
 -- the item at the front of s, in a file of the version; 5 where nothing is there ("no end")
 unfoldable pub itemOf : ℕ → List ℕ → Decoded
@@ -228,8 +225,8 @@ itemOf version s =
     let code = getD s 0 0 in
     pick (ltb (length s) 1) (faulty 5)
     (pick (ltb version 8)
-    (pick (ltb code 32) (oldLowItem code s)
-    (pick (ltb code 48) (oldMiddleItem version code s)
+    (pick (ltb code 0x20) (oldLowItem code s)
+    (pick (ltb code 0x30) (oldMiddleItem version code s)
     (oldHighItem version code (drop 1 s))))
-    (pick (ltb code 48) (newLowItem code s)
+    (pick (ltb code 0x30) (newLowItem code s)
     (newHighItem code (drop 1 s))))

@@ -4,10 +4,14 @@ pub mod Label
 pub mod Items
 pub mod State
 pub mod Iterate
+pub mod Refusals
 pub mod Sheet
+pub mod WellFormed
 pub mod Reading
+pub mod Codes
 pub mod Writing
 pub mod Editing
+pub mod Conversion
 pub mod Stepping
 pub mod Times
 pub mod Answers

@@ -1,9 +1,8 @@
 -- The sheet, document 01, "State and sheet": the layout of each record, and the records of a sheet with refusal 12.
 -- "Sheet" is document 01's word for the list of records that a file is read into. Assumes nothing.
-use Prim.Native.Nat.{ℕ, _+_, _-_, _≤_, _<_}
-use mathlib.Core.Path.{_≡_}
+use Prim.Native.Nat.{ℕ, _+_, _-_}
 use mathlib.Core.List.{List, [], _∷_, _++_}
-use mathlib.Core.Bool.{Bool, true, false, _&&_, not}
+use mathlib.Core.Bool.{Bool, _&&_, not}
 use lib.ListN.{length, getD, take, drop}
 use lib.Dec.{eqb, ltb, leb}
 use Rattle.format.specs.Bytes.{pick, be16, be32, toBe16, toBe32}
@@ -11,34 +10,17 @@ use Rattle.format.specs.Header.{Header, lineEnd, endsInReturn, titleLimi
 use Rattle.format.specs.Label.{labelLimit}
 use Rattle.format.specs.Items.{pointOf, dimensionsOf, traverseOf}
 use Rattle.format.specs.State.{Record, leg, station, section, error}
+use Rattle.format.specs.Refusals.{Result, stop, also}
 use Rattle.format.specs.Iterate.{iter}
 use Rattle.format.specs.declared.Point.{Point}
 use Rattle.format.specs.declared.Dimensions.{Dimensions}
 use Rattle.format.specs.declared.Traverse.{Traverse}
+use Rattle.format.specs.declared.Leg.{Leg}
+use Rattle.format.specs.declared.Station.{Station}
+use Rattle.format.specs.declared.Section.{Section}
 use Rattle.format.specs.declared.Dated.{Dated}
 use Rattle.format.specs.declared.Dated.the-variants.{Undated, Day, Range}
-
--- ---- results: the records made before a reading stopped, and why it stopped
-
-pub data Verdict : Type 0 where
-  good : Verdict
-  -- number and place
-  refusal : ℕ → ℕ → Verdict
-
-pub record Result : Type 0 where
-  pub records : List Record
-  pub verdict : Verdict
-
-abbrev pub stop : Verdict → Result
-stop v = record { records = []; verdict = v }
-
-abbrev pub also : Record → Result → Result
-also r x = record { records = r ∷ x .records; verdict = x .verdict }
-
--- the first refusal of two
-abbrev pub orElse : Verdict → Verdict → Verdict
-orElse good v = v
-orElse (refusal n p) v = refusal n p
+use Rattle.format.specs.declared.Verdict.the-variants.{Good, Refusal}
 
 -- ---- numbers in a row, each written by `bytes`
 
@@ -53,51 +35,90 @@ traverseBytes bytes t = bytes (t .legs) ++ (bytes (t .total) ++ (bytes (t .e) ++
 
 -- ---- the layout: "a big-endian u16 length, then that many bytes"
 
+-- "A sheet is one version byte, 01". Layout and taking apart have the sheet's version as a parameter; so far there is one, and a section
+-- is where another may differ
+abbrev pub sheetVersion : ℕ
+sheetVersion = 1
+
 abbrev pub prefixed : List ℕ → List ℕ
 prefixed body = toBe16 (length body) ++ body
 
 -- "date kind (0 none, 1 day, 2 range), u16 day, u16 last day"; "Unused days are 0"
-abbrev pub dateBytes : Dated → List ℕ
-dateBytes Undated = 0 ∷ (toBe16 0 ++ toBe16 0)
-dateBytes (Day d) = 1 ∷ (toBe16 d ++ toBe16 0)
-dateBytes (Range d e) = 2 ∷ (toBe16 d ++ toBe16 e)
+abbrev pub dateKind : Dated → ℕ
+dateKind Undated = 0
+dateKind (Day d) = 1
+dateKind (Range d e) = 2
 
--- "1 leg: kind, flags, style 0-5, date kind, u16 day, u16 last day, from x y z, to x y z, label (32 + label)"
-abbrev pub legBody : ℕ → ℕ → Dated → Point → Point → List ℕ → List ℕ
-legBody flags style date from to label = 1 ∷ flags ∷ style ∷ (dateBytes date ++ (pointBytes toBe32 from ++ (pointBytes toBe32 to ++ label)))
+abbrev pub dateDay : Dated → ℕ
+dateDay Undated = 0
+dateDay (Day d) = d
+dateDay (Range d e) = d
+
+abbrev pub dateLast : Dated → ℕ
+dateLast Undated = 0
+dateLast (Day d) = 0
+dateLast (Range d e) = e
+
+abbrev pub dateBytes : Dated → List ℕ
+dateBytes date = dateKind date ∷ (toBe16 (dateDay date) ++ toBe16 (dateLast date))
+
+-- the bytes of each record's body but for its label: "(32 + label)", "(14 + label)", "(18 + label)", "(21)"
+abbrev pub legSize : ℕ
+legSize = 32
+
+abbrev pub stationSize : ℕ
+stationSize = 14
+
+abbrev pub sectionSize : ℕ
+sectionSize = 18
+
+abbrev pub errorSize : ℕ
+errorSize = 21
+
+-- "With its length bytes .. any other record 4,130": a leg with the longest label
+abbrev pub recordLimit : ℕ
+recordLimit = 2 + (legSize + labelLimit)
+
+-- "1 leg: kind, flags, style 0-5, date kind (0 none, 1 day, 2 range), u16 day, u16 last day, from x y z, to x y z, label (32 + label)"
+abbrev pub legBody : Leg → List ℕ → List ℕ
+legBody g label = 1 ∷ g .flags ∷ g .style ∷ (dateBytes (g .date) ++ (pointBytes toBe32 (g .from) ++ (pointBytes toBe32 (g .to) ++ label)))
 
 -- "2 station: kind, flags, x y z, label (14 + label)"
-abbrev pub stationBody : ℕ → Point → List ℕ → List ℕ
-stationBody flags p label = 2 ∷ flags ∷ (pointBytes toBe32 p ++ label)
+abbrev pub stationBody : Station → List ℕ → List ℕ
+stationBody s label = 2 ∷ s .flags ∷ (pointBytes toBe32 (s .place) ++ label)
 
 -- "3 section: kind, last 0/1, L R U D as i32, label (18 + label)"
-abbrev pub sectionBody : ℕ → Dimensions → List ℕ → List ℕ
-sectionBody last d label = 3 ∷ last ∷ (dimensionBytes toBe32 d ++ label)
+abbrev pub sectionBody : ℕ → Section → List ℕ → List ℕ
+sectionBody version s label = 3 ∷ s .last ∷ (dimensionBytes toBe32 (s .size) ++ label)
 
 -- "4 error: kind, five i32 (21)"
 abbrev pub errorBody : Traverse → List ℕ
 errorBody t = 4 ∷ traverseBytes toBe32 t
 
-abbrev pub recordBody : Record → List ℕ
-recordBody (leg flags style date from to label) = legBody flags style date from to label
-recordBody (station flags p label) = stationBody flags p label
-recordBody (section last d label) = sectionBody last d label
-recordBody (error t) = errorBody t
+abbrev pub recordBody : ℕ → Record → List ℕ
+recordBody version (leg g label) = legBody g label
+recordBody version (station s label) = stationBody s label
+recordBody version (section s label) = sectionBody version s label
+recordBody version (error t) = errorBody t
 
-unfoldable pub layout : Record → List ℕ
-layout r = prefixed (recordBody r)
+unfoldable pub layout : ℕ → Record → List ℕ
+layout version r = prefixed (recordBody version r)
 
-unfoldable pub layoutAll : List Record → List ℕ
-layoutAll [] = []
-layoutAll (r ∷ rs) = layout r ++ layoutAll rs
+unfoldable pub layoutAll : ℕ → List Record → List ℕ
+layoutAll version [] = []
+layoutAll version (r ∷ rs) = layout version r ++ layoutAll version rs
 
 -- "0 header, first and once: kind, extended 0/1, u16 title length, title, time line"
 unfoldable pub headerLayout : Header → List ℕ
 headerLayout h = prefixed (0 ∷ h .extended ∷ (toBe16 (length (h .title)) ++ (h .title ++ h .time)))
 
 -- "A sheet is one version byte, 01, then records"
-unfoldable pub sheetOf : Header → List Record → List ℕ
-sheetOf h rs = 1 ∷ (headerLayout h ++ layoutAll rs)
+unfoldable pub sheetOf : ℕ → Header → List Record → List ℕ
+sheetOf version h rs = version ∷ (headerLayout h ++ layoutAll version rs)
+
+-- "With its length bytes the header takes at most 4,166", and the version byte stands before it
+abbrev pub frontLimit : ℕ
+frontLimit = 1 + (2 + 4 + titleLimit + timeLimit)
 
 -- ---- a well-formed record: the layout, read back
 
@@ -120,34 +141,46 @@ goodDate kind d e = pick (eqb kind 0) (eqb d 0 && eqb e 0) (pick (eqb kind 1) (e
 unfoldable pub dateFrom : ℕ → ℕ → ℕ → Dated
 dateFrom kind d e = pick (eqb kind 0) Undated (pick (eqb kind 1) (Day d) (Range d e))
 
--- "Flags are at most 07 on a leg and 7f on a station"
+-- the parts of a record but for its label, of its bytes t without the length
+abbrev pub legFields : List ℕ → Leg
+legFields t =
+    record {
+      flags = getD t 1 0;
+      style = getD t 2 0;
+      date = dateFrom (getD t 3 0) (be16 (drop 4 t)) (be16 (drop 6 t));
+      from = pointOf be32 (drop 8 t);
+      to = pointOf be32 (drop 20 t);
+    }
+
+abbrev pub stationFields : List ℕ → Station
+stationFields t = record { flags = getD t 1 0; place = pointOf be32 (drop 2 t) }
+
+abbrev pub sectionFields : List ℕ → Section
+sectionFields t = record { last = getD t 1 0; size = dimensionsOf 4 be32 (drop 2 t) }
+
+-- "Flags are at most 07 on a leg and 7f on a station"; "style 0-5"
 unfoldable pub legEntry : ℕ → List ℕ → Entry
 legEntry n t =
-    pick (labelFits n 32 && (leb (getD t 1 0) 7 && (leb (getD t 2 0) 5 && goodDate (getD t 3 0) (be16 (drop 4 t)) (be16 (drop 6 t)))))
-    (entry (2 + n) (leg (getD t 1 0) (getD t 2 0) (dateFrom (getD t 3 0) (be16 (drop 4 t)) (be16 (drop 6 t))) (pointOf be32 (drop 8 t)) (pointOf be32 (drop 20 t)) (labelFrom n 32 t)))
+    pick (labelFits n legSize && (leb (getD t 1 0) 0x07 && (leb (getD t 2 0) 5 && goodDate (getD t 3 0) (be16 (drop 4 t)) (be16 (drop 6 t)))))
+    (entry (2 + n) (leg (legFields t) (labelFrom n legSize t)))
     flawed
 
 unfoldable pub stationEntry : ℕ → List ℕ → Entry
-stationEntry n t =
-    pick (labelFits n 14 && leb (getD t 1 0) 127)
-    (entry (2 + n) (station (getD t 1 0) (pointOf be32 (drop 2 t)) (labelFrom n 14 t)))
-    flawed
+stationEntry n t = pick (labelFits n stationSize && leb (getD t 1 0) 0x7f) (entry (2 + n) (station (stationFields t) (labelFrom n stationSize t))) flawed
 
-unfoldable pub sectionEntry : ℕ → List ℕ → Entry
-sectionEntry n t =
-    pick (labelFits n 18 && leb (getD t 1 0) 1)
-    (entry (2 + n) (section (getD t 1 0) (dimensionsOf 4 be32 (drop 2 t)) (labelFrom n 18 t)))
-    flawed
+-- "last 0/1"
+unfoldable pub sectionEntry : ℕ → ℕ → List ℕ → Entry
+sectionEntry version n t = pick (labelFits n sectionSize && leb (getD t 1 0) 1) (entry (2 + n) (section (sectionFields t) (labelFrom n sectionSize t))) flawed
 
 unfoldable pub errorEntry : ℕ → List ℕ → Entry
-errorEntry n t = pick (eqb n 21) (entry (2 + n) (error (traverseOf be32 (drop 1 t)))) flawed
+errorEntry n t = pick (eqb n errorSize) (entry (2 + n) (error (traverseOf be32 (drop 1 t)))) flawed
 
 -- by its kind; "A well-formed record keeps the sheet's layout and is no header"
-unfoldable pub bodyEntry : ℕ → List ℕ → Entry
-bodyEntry n t =
+unfoldable pub bodyEntry : ℕ → ℕ → List ℕ → Entry
+bodyEntry version n t =
     pick (eqb (getD t 0 0) 1) (legEntry n t)
     (pick (eqb (getD t 0 0) 2) (stationEntry n t)
-    (pick (eqb (getD t 0 0) 3) (sectionEntry n t)
+    (pick (eqb (getD t 0 0) 3) (sectionEntry version n t)
     (pick (eqb (getD t 0 0) 4) (errorEntry n t)
     flawed)))
 
@@ -156,25 +189,25 @@ unfoldable pub framed : List ℕ → Bool
 framed s = leb 3 (length s) && (leb 1 (be16 s) && leb (2 + be16 s) (length s))
 
 -- the record at the front of s
-unfoldable pub entryOf : List ℕ → Entry
-entryOf s = pick (framed s) (bodyEntry (be16 s) (drop 2 s)) flawed
+unfoldable pub entryOf : ℕ → List ℕ → Entry
+entryOf version s = pick (framed s) (bodyEntry version (be16 s) (drop 2 s)) flawed
 
 -- ---- the records of a sheet; 12 with the number of the first bad one
 
 abbrev pub entryStep : Entry → ℕ → (ℕ → ℕ → Result) → Result
-entryStep flawed number go = stop (refusal 12 number)
+entryStep flawed number go = stop (Refusal 12 number)
 entryStep (entry n r) number go = also r (go n (number + 1))
 
 -- the record at the front of s, which has the number given, and what follows it
-unfoldable pub recordsStep : ℕ → List ℕ → ℕ → (ℕ → ℕ → Result) → Result
-recordsStep at s number go = pick (eqb (length s) 0) (stop good) (entryStep (entryOf s) number go)
+unfoldable pub recordsStep : ℕ → ℕ → List ℕ → ℕ → (ℕ → ℕ → Result) → Result
+recordsStep version at s number go = pick (eqb (length s) 0) (stop Good) (entryStep (entryOf version s) number go)
 
-unfoldable pub recordsFrom : ℕ → List ℕ → ℕ → Result
-recordsFrom at s number = iter recordsStep (λ p. stop good) at s number
+unfoldable pub recordsFrom : ℕ → ℕ → List ℕ → ℕ → Result
+recordsFrom version at s number = iter (recordsStep version) (λ p. stop Good) at s number
 
 -- the records that follow one another in s; "Record numbers start at 0"
-unfoldable pub recordsOf : List ℕ → Result
-recordsOf s = recordsFrom 0 s 0
+unfoldable pub recordsOf : ℕ → List ℕ → Result
+recordsOf version s = recordsFrom version 0 s 0
 
 -- ---- a sheet
 
@@ -192,7 +225,7 @@ goodHeader n t =
 
 -- whether a sheet's version byte and header record are good: else "0 for version byte or header"
 unfoldable pub goodFront : List ℕ → Bool
-goodFront sheet = eqb (getD sheet 0 0) 1 && (framed (drop 1 sheet) && (leb 4 (be16 (drop 1 sheet)) && goodHeader (be16 (drop 1 sheet)) (drop 3 sheet)))
+goodFront sheet = eqb (getD sheet 0 0) sheetVersion && (framed (drop 1 sheet) && (leb 4 (be16 (drop 1 sheet)) && goodHeader (be16 (drop 1 sheet)) (drop 3 sheet)))
 
 unfoldable pub frontHeader : List ℕ → Header
 frontHeader sheet = headerFrom (be16 (drop 1 sheet)) (drop 3 sheet)
@@ -203,67 +236,4 @@ behindFront sheet = drop (3 + be16 (drop 1 sheet)) sheet
 
 -- 12: "sheet breaks the layout"
 unfoldable pub sheetResult : List ℕ → Result
-sheetResult sheet = pick (goodFront sheet) (recordsOf (behindFront sheet)) (stop (refusal 12 0))
-
--- ---- the same of values: what a sheet can hold. The laws `layout-records` and `records-layout` tie it to the bytes
-
--- a list of bytes
-abbrev pub Bytes : List ℕ → Type 0
-Bytes s = (i : ℕ) → getD s i 0 < 256
-
-pub record GoodPoint (p : Point) : Type 0 where
-  pub x-fits : p .x < 4294967296
-  pub y-fits : p .y < 4294967296
-  pub z-fits : p .z < 4294967296
-
-pub record GoodDimensions (d : Dimensions) : Type 0 where
-  pub left-fits : d .left < 4294967296
-  pub right-fits : d .right < 4294967296
-  pub up-fits : d .up < 4294967296
-  pub down-fits : d .down < 4294967296
-
-pub record GoodTraverse (t : Traverse) : Type 0 where
-  pub legs-fit : t .legs < 4294967296
-  pub total-fits : t .total < 4294967296
-  pub e-fits : t .e < 4294967296
-  pub h-fits : t .h < 4294967296
-  pub v-fits : t .v < 4294967296
-
-abbrev pub GoodDated : Dated → Type 0
-GoodDated Undated = Unit
-GoodDated (Day d) = d < 65536
-GoodDated (Range d e) = (d < e) × (e < 65536)
-
-pub record GoodLeg (flags style : ℕ) (date : Dated) (from to : Point) (label : List ℕ) : Type 0 where
-  pub flags-fit : flags ≤ 7
-  pub style-fits : style ≤ 5
-  pub date-fits : GoodDated date
-  pub from-fits : GoodPoint from
-  pub to-fits : GoodPoint to
-  pub label-fits : length label ≤ labelLimit
-
-pub record GoodStation (flags : ℕ) (p : Point) (label : List ℕ) : Type 0 where
-  pub flags-fit : flags ≤ 127
-  pub place-fits : GoodPoint p
-  pub label-fits : length label ≤ labelLimit
-
-pub record GoodSection (last : ℕ) (d : Dimensions) (label : List ℕ) : Type 0 where
-  pub last-fits : last ≤ 1
-  pub dimensions-fit : GoodDimensions d
-  pub label-fits : length label ≤ labelLimit
-
--- a well-formed record
-abbrev pub WellFormed : Record → Type 0
-WellFormed (leg flags style date from to label) = GoodLeg flags style date from to label
-WellFormed (station flags p label) = GoodStation flags p label
-WellFormed (section last d label) = GoodSection last d label
-WellFormed (error t) = GoodTraverse t
-
-abbrev pub AllWellFormed : List Record → Type 0
-AllWellFormed [] = Unit
-AllWellFormed (r ∷ rs) = WellFormed r × AllWellFormed rs
-
-pub record GoodHeader (h : Header) : Type 0 where
-  pub extended-fits : h .extended ≤ 1
-  pub title-good : goodText titleLimit (h .title) ≡ true
-  pub time-good : goodText timeLimit (h .time) ≡ true
+sheetResult sheet = pick (goodFront sheet) (recordsOf sheetVersion (behindFront sheet)) (stop (Refusal 12 0))

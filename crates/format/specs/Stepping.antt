@@ -4,19 +4,21 @@ use mathlib.Core.List.{List, [], _++_}
 use lib.ListN.{length, drop}
 use lib.Dec.{ltb}
 use Rattle.format.specs.Bytes.{pick, over}
-use Rattle.format.specs.Header.{Header, Opening, shut, opened, openingOf}
+use Rattle.format.specs.Header.{Opening, shut, opened, openingOf}
 use Rattle.format.specs.State.{State, start, Record, Next, bad, end, on, made}
-use Rattle.format.specs.Sheet.{Verdict, good, refusal, layout}
+use Rattle.format.specs.Sheet.{sheetVersion, layout}
+use Rattle.format.specs.declared.Verdict.the-variants.{Good, Refusal}
+use Rattle.format.specs.declared.Verdict.{Verdict}
 use Rattle.format.specs.Reading.{next, ended}
 
--- where a step reader stands: before the item at a place, in a version and a state; or after the end (`good`) or a refusal, for good
+-- where a step reader stands: before the item at a place, in a version and a state; or after the end (`Good`) or a refusal, for good
 pub data Stand : Type 0 where
   before : ℕ → ℕ → State → Stand
   stopped : Verdict → Stand
 
 -- "A refused opening gives a reader whose every step answers that refusal"
 abbrev pub standOf : Opening → Stand
-standOf (shut n p) = stopped (refusal n p)
+standOf (shut n p) = stopped (Refusal n p)
 standOf (opened version place h) = before version place start
 
 unfoldable pub openStand : List ℕ → Stand
@@ -36,8 +38,8 @@ pub record Step : Type 0 where
   pub bytes : List ℕ
 
 abbrev pub stopAnswer : Verdict → StepOutcome
-stopAnswer good = ends
-stopAnswer (refusal n p) = refuses n p
+stopAnswer Good = ends
+stopAnswer (Refusal n p) = refuses n p
 
 -- "After the end or another refusal every step says so again, changing nothing"
 abbrev pub halted : Verdict → Step
@@ -46,12 +48,12 @@ halted v = record { answer = stopAnswer v; stand = stopped v; bytes = [] }
 -- "On 11 it doesn't advance": here is where the reader stood
 unfoldable pub recorded : Stand → Stand → Record → ℕ → Step
 recorded here there r room =
-    pick (ltb room (length (layout r))) (record { answer = refuses 11 (length (layout r)); stand = here; bytes = [] })
-    (record { answer = wrote (length (layout r)); stand = there; bytes = layout r })
+    pick (ltb room (length (layout sheetVersion r))) (record { answer = refuses 11 (length (layout sheetVersion r)); stand = here; bytes = [] })
+    (record { answer = wrote (length (layout sheetVersion r)); stand = there; bytes = layout sheetVersion r })
 
 -- "Each step uses exactly one item"; "An end item with bytes after it answers 10"
 abbrev pub stepNext : Next → ℕ → ℕ → State → List ℕ → ℕ → Step
-stepNext (bad k) version place st s room = halted (refusal k place)
+stepNext (bad k) version place st s room = halted (Refusal k place)
 stepNext end version place st s room = halted (ended place s)
 stepNext (on n st′) version place st s room = record { answer = nothing; stand = before version (place + n) st′; bytes = [] }
 stepNext (made n r st′) version place st s room = recorded (before version place st) (before version (place + n) st′) r room
@@ -67,20 +69,25 @@ stepBuffer stand file old = over (stepOf stand file (length old) .bytes) old
 
 -- ---- a reader stepped to its stop
 
--- the records' bytes in order, and why it stopped
+-- why stepping is over: the steps ran out, as they do where a reader idles; or it stopped, at the end (`Good`) or with a refusal
+pub data Halt : Type 0 where
+  ranOut : Halt
+  stops : Verdict → Halt
+
+-- the records' bytes in order, and why it is over
 pub record Gathered : Type 0 where
   pub bytes : List ℕ
-  pub verdict : Verdict
+  pub halt : Halt
 
 abbrev pub afterStep : StepOutcome → List ℕ → Gathered → Gathered
-afterStep (wrote n) record-bytes rest = record { bytes = record-bytes ++ rest .bytes; verdict = rest .verdict }
+afterStep (wrote n) record-bytes rest = record { bytes = record-bytes ++ rest .bytes; halt = rest .halt }
 afterStep nothing record-bytes rest = rest
-afterStep ends record-bytes rest = record { bytes = []; verdict = good }
-afterStep (refuses n p) record-bytes rest = record { bytes = []; verdict = refusal n p }
+afterStep ends record-bytes rest = record { bytes = []; halt = stops Good }
+afterStep (refuses n p) record-bytes rest = record { bytes = []; halt = stops (Refusal n p) }
 
 -- at most so many steps, each into a buffer of so much room
 unfoldable pub gathered : ℕ → Stand → List ℕ → ℕ → Gathered
-gathered zero stand file room = record { bytes = []; verdict = good }
+gathered zero stand file room = record { bytes = []; halt = ranOut }
 gathered (suc n) stand file room =
     let s = stepOf stand file room in
     afterStep (s .answer) (s .bytes) (gathered n (s .stand) file room)

@@ -1,11 +1,16 @@
 -- Time lines, document 01, "Which is later", with refusal 17. Assumes nothing.
-use Prim.Native.Nat.{ℕ, zero, suc, _+_, _-_, _*_, _/_, _%_}
-use mathlib.Core.List.{List, [], _∷_, _++_}
-use mathlib.Core.Bool.{Bool, true, false, _&&_, _||_}
+use Prim.Native.Nat.{ℕ, zero, suc, _+_, _-_, _*_, _%_}
+use mathlib.Core.List.{List, [], _∷_}
+use mathlib.Core.Bool.{Bool, true, _&&_}
 use lib.ListN.{length, getD, take, drop}
 use lib.Dec.{eqb, ltb, leb}
 use Rattle.format.specs.Bytes.{pick}
-use Rattle.format.specs.Header.{Header, Opening, shut, opened, openingOf}
+use Rattle.format.specs.Header.{Opening, shut, opened, openingOf}
+use Rattle.format.specs.declared.Spelled.{Spelled}
+use Rattle.format.specs.declared.Spelled.the-variants.{Number, Unreadable}
+use Rattle.format.specs.declared.Stamp.{Stamp}
+use Rattle.format.specs.declared.Stamp.the-variants.{Unstamped, Stamped}
+use Rattle.format.specs.declared.Handed.{Handed}
 
 -- ---- digits
 
@@ -63,11 +68,6 @@ realDate year month day =
 
 -- ---- the two forms
 
--- the seconds since 1970, or not readable
-pub data Seconds : Type 0 where
-  unreadable : Seconds
-  seconds : ℕ → Seconds
-
 -- "`@` and 1 to 10 digits of at most 4294967295 (seconds since 1970)"
 unfoldable pub atForm : List ℕ → Bool
 atForm line =
@@ -101,22 +101,18 @@ textSeconds line =
     dayNumber (decimal (field line 4 4)) (decimal (field line 9 2)) (decimal (field line 12 2)) * 86400
     + (decimal (field line 15 2) * 3600 + (decimal (field line 18 2) * 60 + decimal (field line 21 2)))
 
-unfoldable pub secondsOf : List ℕ → Seconds
-secondsOf line = pick (atForm line) (seconds (decimal (drop 1 line))) (pick (textForm line) (seconds (textSeconds line)) unreadable)
+-- the seconds since 1970 that a time line spells
+unfoldable pub secondsOf : List ℕ → Spelled
+secondsOf line = pick (atForm line) (Number (decimal (drop 1 line))) (pick (textForm line) (Number (textSeconds line)) Unreadable)
 
 -- ---- a file's time: 16, 1, 2, 3, 4, then 17 at the time line's first byte
 
--- a refusal; or the seconds, and the time line as the place and the length of a part of the file
-pub data Stamp : Type 0 where
-  unstamped : ℕ → ℕ → Stamp
-  stamped : ℕ → ℕ → ℕ → Stamp
-
-abbrev pub stampFrom : Seconds → ℕ → ℕ → Stamp
-stampFrom unreadable place n = unstamped 17 place
-stampFrom (seconds t) place n = stamped t place n
+abbrev pub stampFrom : Spelled → ℕ → ℕ → Stamp
+stampFrom Unreadable place n = Unstamped 17 place
+stampFrom (Number t) place n = Stamped t place n
 
 abbrev pub stampOpened : Opening → Stamp
-stampOpened (shut n p) = unstamped n p
+stampOpened (shut n p) = Unstamped n p
 stampOpened (opened version place h) = stampFrom (secondsOf (h .time)) (25 + length (h .title)) (length (h .time))
 
 unfoldable pub stampOf : List ℕ → Stamp
@@ -133,29 +129,24 @@ pub data Comparison : Type 0 where
   secondRefused : ℕ → ℕ → Comparison
 
 abbrev pub judged : Stamp → Stamp → Comparison
-judged (unstamped n p) b = firstRefused n p
-judged (stamped t p n) (unstamped m q) = secondRefused m q
-judged (stamped t p n) (stamped u q m) = pick (ltb u t) first (pick (ltb t u) second equal)
+judged (Unstamped n p) b = firstRefused n p
+judged (Stamped t p n) (Unstamped m q) = secondRefused m q
+judged (Stamped t p n) (Stamped u q m) = pick (ltb u t) first (pick (ltb t u) second equal)
 
 unfoldable pub compareOf : List ℕ → List ℕ → Comparison
 compareOf a b = judged (stampOf a) (stampOf b)
 
 -- "an empty part when same or refused": which file the part is of (1 or 2; 0 for an empty part), its place and its length
-pub record Handed : Type 0 where
-  pub file : ℕ
-  pub place : ℕ
-  pub size : ℕ
-
 abbrev pub partOf : ℕ → Stamp → Handed
-partOf k (unstamped n p) = record { file = 0; place = 0; size = 0 }
-partOf k (stamped t p n) = record { file = k; place = p; size = n }
+partOf k (Unstamped n p) = record { file = 0; place = 0; size = 0 }
+partOf k (Stamped t p n) = record { file = k; place = p; size = n }
 
 abbrev pub handed : Comparison → Stamp → Stamp → Handed
 handed first a b = partOf 1 a
 handed second a b = partOf 2 b
-handed equal a b = partOf 0 (unstamped 0 0)
-handed (firstRefused n p) a b = partOf 0 (unstamped 0 0)
-handed (secondRefused n p) a b = partOf 0 (unstamped 0 0)
+handed equal a b = partOf 0 (Unstamped 0 0)
+handed (firstRefused n p) a b = partOf 0 (Unstamped 0 0)
+handed (secondRefused n p) a b = partOf 0 (Unstamped 0 0)
 
 unfoldable pub laterPart : List ℕ → List ℕ → Handed
 laterPart a b = handed (compareOf a b) (stampOf a) (stampOf b)

@@ -2,6 +2,22 @@
 // answer with. What each case of an answer says in document 01's numbers stands in
 // specs/Answers.antt.
 
+ghost use mathlib.Core.Path.{_≡_};
+ghost use Rattle.format.specs.State.{startSetting};
+
+// The limits of document 01, in bytes: a label, a title and a time line without their
+// linefeeds, and a file.
+pub const LABEL_LIMIT: usize = 4096;
+
+pub const TITLE_LIMIT: usize = 4096;
+
+pub const TIME_LIMIT: usize = 64;
+
+pub const FILE_LIMIT: usize = 16777216;
+
+// The style that is not said.
+pub const NOT_SAID: u8 = 5;
+
 // A place, in centimetres. Coordinates, dimensions and traverse errors are i32,
 // kept as their bit patterns: nothing here computes with them.
 pub struct Point {
@@ -35,6 +51,59 @@ pub enum Dated {
     Range { first: u16, last: u16 },
 }
 
+// How an item shortens the label: it empties it; 16 bytes off, then back to a dot;
+// some bytes off, and one at least stays; some bytes off.
+pub enum Cut {
+    Empty,
+    ToDot { dots: usize },
+    Trim { bytes: usize },
+    Back { bytes: usize },
+}
+
+// How many bytes of the label stay, or that it is too short.
+pub enum Kept {
+    Keeps { bytes: usize },
+    Lacks,
+}
+
+// The numbers of a label part: unfinished; or their size, D and A.
+pub enum LabelPart {
+    Unfinished,
+    Numbers {
+        size: usize,
+        drop: usize,
+        add: usize,
+    },
+}
+
+// The number that bytes of a time line spell, or that they are not readable.
+pub enum Spelled {
+    Number { value: u64 },
+    Unreadable,
+}
+
+// What a file says of its time: a refusal; or the seconds since 1970, and the
+// place and the length of the time line.
+pub enum Stamp {
+    Unstamped {
+        number: u8,
+        place: usize,
+    },
+    Stamped {
+        seconds: u64,
+        place: usize,
+        size: usize,
+    },
+}
+
+// A part of one of two files: the file, 1 or 2, and the part's place and length in it;
+// all 0 for the empty part.
+pub struct Handed {
+    pub file: u8,
+    pub place: usize,
+    pub size: usize,
+}
+
 // The position that MOVE and LINE set.
 pub enum Position {
     Unset,
@@ -48,7 +117,41 @@ pub struct Setting {
     pub position: Position,
 }
 
-// A record's fields but for its label, which the code keeps beside them.
+// Style, date and position at the start of a file.
+pub fn start_setting() -> Setting
+    ensures { λ r. ⌜ r ≡ startSetting ⌝ }
+{
+    Setting {
+        style: NOT_SAID,
+        date: Dated::Undated,
+        position: Position::Unset,
+    }
+}
+
+// A leg but for its label.
+pub struct Leg {
+    pub flags: u8,
+    pub style: u8,
+    pub date: Dated,
+    pub from: Point,
+    pub to: Point,
+}
+
+// A station but for its label.
+pub struct Station {
+    pub flags: u8,
+    pub place: Point,
+}
+
+// A cross-section but for its label: whether it is the last in its passage, and
+// the passage's dimensions.
+pub struct Section {
+    pub last: u8,
+    pub size: Dimensions,
+}
+
+// A record's fields but for its label, which the code keeps beside them. A leg's
+// stand by themselves: as a struct they would be copied once more in reading.
 pub enum Fields {
     Leg {
         flags: u8,
@@ -58,16 +161,20 @@ pub enum Fields {
         to: Point,
     },
     Station {
-        flags: u8,
-        place: Point,
+        station: Station,
     },
     Section {
-        last: u8,
-        size: Dimensions,
+        section: Section,
     },
     Error {
         traverse: Traverse,
     },
+}
+
+// A refusal by its number and place, or none.
+pub enum Verdict {
+    Good,
+    Refusal { number: u8, place: usize },
 }
 
 // The answer of reading, writing, converting and editing.

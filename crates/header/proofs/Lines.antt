@@ -8,10 +8,10 @@ use native.Mathlib.Nat.{le-of-lt}
 use lib.ListN.{length, getD, take, drop, List·getD-eq-default}
 use lib.Seq.{length-take-le, getD-take}
 use lib.Dec.{eqb, ltb, leb}
-use borrow.Author.Tests.{lt-ltb, le-ltb, le-leb, lt-leb, eq-eqb, ne-eqb, ltb-true, ltb-false, leb-true}
+use borrow.Author.Tests.{lt-ltb, le-ltb, le-leb, lt-leb, eq-eqb, ne-eqb, ltb-true, leb-true}
 use Rattle.format.specs.Bytes.{pick}
 use Rattle.format.specs.Header.{lineEnd, endsInReturn, goodLine, goodVersion, titleLine, timeLine, closedHeader, shut}
-use Rattle.format.proofs.Basics.{both}
+use Rattle.format.proofs.Basics.{both, less-or-not}
 use Rattle.header.specs.Head.{lineOf, saying}
 use Rattle.header.specs.declared.TextLine.the-variants.{Ends, Broken}
 
@@ -43,11 +43,7 @@ versioned file g =
     let p = both (eqb (getD file 21 0) 118) (leb 51 v && (leb v 56 && d)) g in
     let q = both (leb 51 v) (leb v 56 && d) (p .1) in
     let r = both (leb v 56) d (q .1) in
-    record { low = leb-true 51 v (q .0); high = leb-true v 56 (r .0); behind = go (ltb (length file) 24) refl }
-  where
-    go : (b : Bool) → ltb (length file) 24 ≡ b → 24 ≤ length file
-    go true e = absurd (let f = version-short file (ltb-true (length file) 24 e) in let z : _≡_ {A = ℕ} 0 1 = cc in omega arith)
-    go false e = ltb-false (length file) 24 e
+    record { low = leb-true 51 v (q .0); high = leb-true v 56 (r .0); behind = less-or-not (length file) 24 (λ h. absurd (let f = version-short file h in let z : _≡_ {A = ℕ} 0 1 = cc in omega arith)) (λ h. h) }
 
 -- ---- a line
 

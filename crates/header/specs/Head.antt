@@ -5,7 +5,7 @@ use mathlib.Core.List.{List}
 use lib.ListN.{length, take, drop}
 use lib.Dec.{eqb}
 use Rattle.format.specs.Bytes.{pick}
-use Rattle.format.specs.Header.{Opening, shut, opened, Header, lineEnd, goodLine, titleLimit, timeLimit, fileLimit}
+use Rattle.format.specs.Header.{Opening, shut, opened, Header, lineEnd, goodLine, titleLimit, timeLimit, fileLimit, openingOf}
 use Rattle.header.specs.declared.Head.{Head}
 use Rattle.header.specs.declared.Head.the-variants.{Shut, Whole}
 use Rattle.header.specs.declared.TextLine.{TextLine}
@@ -42,6 +42,11 @@ Roomy (Shut n p) file = Unit
 Roomy (Whole v p e t m) file = Room v p e t m file
 
 -- an answer that stands for what is due, and whose lines and place stand in the file
-pub record Told (r : Head) (file : List ℕ) (due : Opening) : Type 0 where
+pub record HeadIs (r : Head) (file : List ℕ) (due : Opening) : Type 0 where
   pub same : headSeen r file ≡ due
   pub room : Roomy r file
+
+-- a file whose header is whole, as such an answer tells it
+pub record Opens (file : List ℕ) (version place extended title time : ℕ) : Type 0 where
+  pub due : openingOf file ≡ opened version place (saying extended title time file)
+  pub room : Room version place extended title time file

@@ -1,10 +1,13 @@
 // Opening a file: its length and its header, and where its items start.
+use format::FILE_LIMIT;
+use format::TIME_LIMIT;
+use format::TITLE_LIMIT;
 ghost use mathlib.Core.Path.{_≡_};
 ghost use Prim.Native.Nat.{_+_, _-_, _≤_};
 ghost use lib.ListN.{length, take, getD};
 ghost use Rattle.format.specs.Bytes.{same};
-ghost use Rattle.format.specs.Header.{magic, goodVersion, extendedByte, closedHeader, timeLine, titleLine, openingOf};
-ghost use Rattle.header.specs.Head.{lineOf, saying, Told};
+ghost use Rattle.format.specs.Header.{magic, goodVersion, extendedByte, closedHeader, timeLine, titleLine, openingOf, fileLimit, timeLimit, titleLimit};
+ghost use Rattle.header.specs.Head.{lineOf, saying, HeadIs};
 
 // What opening a file finds: a refusal by number and place; or the version, the
 // first item's place, extended 0 or 1, and the lengths of title and time line.
@@ -80,8 +83,8 @@ fn good_line(limit: usize, s: &[u8]) -> TextLine
 
 // The v8 byte, after a title line and a time line of so many bytes.
 fn extended_byte(file: &[u8], title: usize, time: usize) -> Head
-    requires { ⌜ (title ≤ 4096) × (time ≤ 64) × (26 + title + time ≤ length (now file)) × (length (now file) ≤ 16777216) ⌝ }
-    ensures { λ r. ⌜ Told r (now (file .entry)) (extendedByte (now (file .entry)) (26 + title + time) (saying 0 title time (now (file .entry)))) ⌝ }
+    requires { ⌜ (title ≤ titleLimit) × (time ≤ timeLimit) × (26 + title + time ≤ length (now file)) × (length (now file) ≤ fileLimit) ⌝ }
+    ensures { λ r. ⌜ HeadIs r (now (file .entry)) (extendedByte (now (file .entry)) (26 + title + time) (saying 0 title time (now (file .entry)))) ⌝ }
 {
     let place = 26 + title + time;
     if file.len() <= place {
@@ -100,7 +103,7 @@ fn extended_byte(file: &[u8], title: usize, time: usize) -> Head
             time,
         };
     }
-    if flags == 128 {
+    if flags == 0x80 {
         return Head::Whole {
             version: 8,
             place: place + 1,
@@ -114,8 +117,8 @@ fn extended_byte(file: &[u8], title: usize, time: usize) -> Head
 
 // What stands after both lines: the v8 byte, or at once the first item.
 fn closed_header(version: u8, file: &[u8], title: usize, time: usize) -> Head
-    requires { ⌜ (3 ≤ version) × (version ≤ 8) × (title ≤ 4096) × (time ≤ 64) × (26 + title + time ≤ length (now file)) × (length (now file) ≤ 16777216) ⌝ }
-    ensures { λ r. ⌜ Told r (now (file .entry)) (closedHeader version (now (file .entry)) (26 + title + time) (saying 0 title time (now (file .entry)))) ⌝ }
+    requires { ⌜ (3 ≤ version) × (version ≤ 8) × (title ≤ titleLimit) × (time ≤ timeLimit) × (26 + title + time ≤ length (now file)) × (length (now file) ≤ fileLimit) ⌝ }
+    ensures { λ r. ⌜ HeadIs r (now (file .entry)) (closedHeader version (now (file .entry)) (26 + title + time) (saying 0 title time (now (file .entry)))) ⌝ }
 {
     if version == 8 {
         return extended_byte(file, title, time);
@@ -131,11 +134,11 @@ fn closed_header(version: u8, file: &[u8], title: usize, time: usize) -> Head
 
 // The time line, after a title line of so many bytes, and what follows.
 fn time_line(version: u8, file: &[u8], title: usize) -> Head
-    requires { ⌜ (3 ≤ version) × (version ≤ 8) × (title ≤ 4096) × (25 + title ≤ length (now file)) × (length (now file) ≤ 16777216) ⌝ }
-    ensures { λ r. ⌜ Told r (now (file .entry)) (timeLine version (now (file .entry)) title) ⌝ }
+    requires { ⌜ (3 ≤ version) × (version ≤ 8) × (title ≤ titleLimit) × (25 + title ≤ length (now file)) × (length (now file) ≤ fileLimit) ⌝ }
+    ensures { λ r. ⌜ HeadIs r (now (file .entry)) (timeLine version (now (file .entry)) title) ⌝ }
 {
     let from = 25 + title;
-    let line = good_line(64, &file[from..]);
+    let line = good_line(TIME_LIMIT, &file[from..]);
     match line {
         TextLine::Broken => Head::Shut {
             number: 3,
@@ -147,10 +150,10 @@ fn time_line(version: u8, file: &[u8], title: usize) -> Head
 
 // The title line, and what follows.
 fn title_line(version: u8, file: &[u8]) -> Head
-    requires { ⌜ (3 ≤ version) × (version ≤ 8) × (24 ≤ length (now file)) × (length (now file) ≤ 16777216) ⌝ }
-    ensures { λ r. ⌜ Told r (now (file .entry)) (titleLine version (now (file .entry))) ⌝ }
+    requires { ⌜ (3 ≤ version) × (version ≤ 8) × (24 ≤ length (now file)) × (length (now file) ≤ fileLimit) ⌝ }
+    ensures { λ r. ⌜ HeadIs r (now (file .entry)) (titleLine version (now (file .entry))) ⌝ }
 {
-    let line = good_line(4096, &file[24..]);
+    let line = good_line(TITLE_LIMIT, &file[24..]);
     match line {
         TextLine::Broken => Head::Shut {
             number: 3,
@@ -162,9 +165,9 @@ fn title_line(version: u8, file: &[u8]) -> Head
 
 // Judges a file's length and header.
 pub fn opening(file: &[u8]) -> Head
-    ensures { λ r. ⌜ Told r (now (file .entry)) (openingOf (now (file .entry))) ⌝ }
+    ensures { λ r. ⌜ HeadIs r (now (file .entry)) (openingOf (now (file .entry))) ⌝ }
 {
-    if 16777216 < file.len() {
+    if FILE_LIMIT < file.len() {
         return Head::Shut {
             number: 16,
             place: 0,

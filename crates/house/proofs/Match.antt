@@ -6,14 +6,14 @@ use mathlib.Core.List.{List, [], _++_, append-assoc, append-nil}
 use native.Mathlib.Omega.{arith}
 use lib.ListN.{length, take, drop, length-append}
 use lib.Seq.{take-add, length-take-le, take-at, take-length, drop-append-seam}
-use lib.Dec.{eqb, ltb}
+use lib.Dec.{eqb}
 use borrow.Author.Tests.{eqb-true, eqb-false, ltb-true, ltb-false, lt-ltb, le-ltb}
 use Rattle.format.specs.Bytes.{same, over}
 use Rattle.format.specs.Header.{fileLimit}
-use Rattle.format.proofs.Basics.{pick-case, pick-true, pick-false, same-true, same-refl}
+use Rattle.format.proofs.Basics.{pick-case, pick-true, pick-false, less-or-not, same-true, same-refl}
 use Rattle.part.specs.Lays.{Puts}
 use Rattle.wire.proofs.Laws.{same-false}
-use Rattle.format.specs.Writing.{headerCodes}
+use Rattle.format.specs.Codes.{headerCodes}
 use Rattle.header.specs.Head.{saying}
 use Rattle.house.specs.Judging.{matchedTo, Matches}
 
@@ -32,14 +32,12 @@ module _ (file front : List ℕ) (at : ℕ) (few : length file ≤ fileLimit) (M
   past f = record { there = λ h. absurd (omega arith); other = λ h. f }
 
   ends-early : length file < at + length x → (more : List ℕ) → same file ((front ++ x) ++ more) ≡ false
-  ends-early h more = go (ltb (length file) at) refl
-    where
-      go : (t : Bool) → ltb (length file) at ≡ t → same file ((front ++ x) ++ more) ≡ false
-      go true e = rw (append-assoc front x more) (M .other (ltb-true _ _ e) (x ++ more))
-      go false e =
-          let l : at ≤ length file = ltb-false _ _ e in
-          let q : at ≡ length front = sym (length-take-le at file l) ∙ ap length (M .there l) in
-          too-short file ((front ++ x) ++ more) (simp length-append (omega arith))
+  ends-early h more =
+      less-or-not (length file) at
+      (λ s. rw (append-assoc front x more) (M .other s (x ++ more)))
+      λ l.
+      let q : at ≡ length front = sym (length-take-le at file l) ∙ ap length (M .there l) in
+      too-short file ((front ++ x) ++ more) (simp length-append (omega arith))
 
   module _ (l : at + length x ≤ length file) where
     front-length : at ≡ length front
@@ -86,14 +84,13 @@ match-whole file w at M = go (eqb at (length file)) refl
         let z : take at file ≡ w = M .there (omega arith) in
         let y : file ≡ w = sym (take-length file) ∙ ap (λ (n : ℕ). take n file) (sym q) ∙ z in
         rw (← y) (sym (same-refl file))
-    go false e = sym (other (ltb (length file) at) refl)
-      where
-        other : (t : Bool) → ltb (length file) at ≡ t → same file w ≡ false
-        other true h = rw (append-nil w) at (M .other (ltb-true _ _ h) [])
-        other false h =
-            let l : at ≤ length file = ltb-false _ _ h in
-            let q : length w ≡ at = ap length (sym (M .there l)) ∙ length-take-le at file l in
-            same-false file w (λ y. let z = ap length y in let k : at ≡ length file = omega arith in eqb-false at (length file) e k)
+    go false e =
+        sym
+        (less-or-not (length file) at
+        (λ h. rw (append-nil w) at (M .other h []))
+        λ l.
+        let q : length w ≡ at = ap length (sym (M .there l)) ∙ length-take-le at file l in
+        same-false file w (λ y. let z = ap length y in let k : at ≡ length file = omega arith in eqb-false at (length file) e k))
 
 -- ---- `matched`
 

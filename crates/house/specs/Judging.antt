@@ -8,9 +8,9 @@ use lib.Dec.{ltb}
 use Rattle.format.specs.Bytes.{pick, same}
 use Rattle.format.specs.Header.{fileLimit}
 use Rattle.format.specs.State.{start, Record}
-use Rattle.format.specs.Sheet.{good, refusal}
+use Rattle.format.specs.declared.Verdict.the-variants.{Good, Refusal}
 use Rattle.format.specs.Reading.{itemsOf}
-use Rattle.format.specs.Writing.{encodeAll, codes, after, closing}
+use Rattle.format.specs.Writing.{v8, encodeAll}
 use Rattle.house.specs.declared.Judged.{Judged}
 use Rattle.house.specs.declared.Judged.the-variants.{Refused, Whole}
 
@@ -26,13 +26,13 @@ pub record Matches (file front : List ℕ) (at : ℕ) : Type 0 where
 
 -- the file that the writing rules give for records, behind a header
 abbrev pub fileBehind : List ℕ → List Record → List ℕ
-fileBehind front rs = front ++ encodeAll codes after closing start rs
+fileBehind front rs = front ++ encodeAll v8 start rs
 
 -- the reader's refusal; or how many records (a byte or more each), and whether the file is what the writing rules give for them behind a header
 abbrev pub Judges : List ℕ → ℕ → ℕ → List ℕ → Judged → Type 0
-Judges file version place front (Refused n p) = itemsOf version place file .verdict ≡ refusal n p
+Judges file version place front (Refused n p) = itemsOf version place file .verdict ≡ Refusal n p
 Judges file version place front (Whole records house) =
-    (itemsOf version place file .verdict ≡ good) × (records ≡ length (itemsOf version place file .records)) × (records ≤ length file) × (house ≡ same file (fileBehind front (itemsOf version place file .records)))
+    (itemsOf version place file .verdict ≡ Good) × (records ≡ length (itemsOf version place file .records)) × (records ≤ length file) × (house ≡ same file (fileBehind front (itemsOf version place file .records)))
 
 -- the same behind every header whose codes end at `head`
 abbrev pub JudgesBehind : List ℕ → ℕ → ℕ → ℕ → Judged → Type 0

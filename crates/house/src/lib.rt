@@ -2,18 +2,20 @@
 // would have produced): its records are read, and the codes of each are compared with
 // the file's bytes.
 use format::Fields;
+use format::LABEL_LIMIT;
 use format::Setting;
 use records::Found;
 ghost use mathlib.Core.Path.{_≡_};
-ghost use Prim.Native.Nat.{_≤_};
+ghost use Prim.Native.Nat.{_+_, _≤_};
 ghost use lib.ListN.{length, take};
 ghost use Rattle.format.specs.Fields.{recordOf, stateOf};
-ghost use Rattle.format.specs.Header.{openingOf, opened};
-ghost use Rattle.format.specs.Sheet.{WellFormed};
-ghost use Rattle.format.specs.Writing.{codes, headerCodes};
+ghost use Rattle.format.specs.Header.{openingOf, opened, fileLimit};
+ghost use Rattle.format.specs.WellFormed.{WellFormed};
+ghost use Rattle.format.specs.Codes.{codes, headerCodes, headerLimit};
 ghost use Rattle.header.specs.Head.{saying, Room};
 ghost use Rattle.records.specs.Keeping.{Keeps};
 ghost use Rattle.house.specs.Judging.{matchedTo, Judges, JudgesBehind};
+ghost use Rattle.format.specs.Label.{labelLimit};
 
 // A refusal; or the file's records, and whether it is house-written.
 pub enum Judged {
@@ -23,7 +25,7 @@ pub enum Judged {
 
 // Room for the codes of the header or of a record.
 fn room() -> [u8; 4187]
-    ensures { λ r. ⌜ length r ≡ 4187 ⌝ }
+    ensures { λ r. ⌜ length r ≡ headerLimit ⌝ }
 {
     [0; 4187]
 }
@@ -31,7 +33,7 @@ fn room() -> [u8; 4187]
 // Where the codes end that stand in the file from `at` on; past the end of every file
 // where others stand there.
 fn matched(file: &[u8], at: usize, codes: &[u8]) -> usize
-    requires { ⌜ (at ≤ 16777217) × (length (now codes) ≤ 4187) ⌝ }
+    requires { ⌜ (at ≤ fileLimit + 1) × (length (now codes) ≤ headerLimit) ⌝ }
     ensures { λ r. ⌜ r ≡ matchedTo (now (file .entry)) at (now (codes .entry)) ⌝ }
 {
     let end = at + codes.len();
@@ -51,14 +53,14 @@ fn matched_record(
     at: usize,
     room: &mut [u8],
     setting: Setting,
-    last: &[u8; 4096],
+    last: &[u8; LABEL_LIMIT],
     len: usize,
-    name: &[u8; 4096],
+    name: &[u8; LABEL_LIMIT],
     n: usize,
     fields: Fields,
 ) -> usize
-    requires { ⌜ (at ≤ 16777217) × (length (now room) ≡ 4187) × (len ≤ 4096) × (length (now last) ≡ 4096) × (n ≤ 4096) × (length (now name) ≡ 4096) × WellFormed (recordOf fields (take n (now name))) ⌝ }
-    ensures { λ r. ⌜ (r ≡ matchedTo (now (file .entry)) at (codes (stateOf setting (take len (now (last .entry)))) (recordOf fields (take n (now (name .entry)))))) × (length (now (room .exit)) ≡ 4187) ⌝ }
+    requires { ⌜ (at ≤ fileLimit + 1) × (length (now room) ≡ headerLimit) × (len ≤ labelLimit) × (length (now last) ≡ labelLimit) × (n ≤ labelLimit) × (length (now name) ≡ labelLimit) × WellFormed (recordOf fields (take n (now name))) ⌝ }
+    ensures { λ r. ⌜ (r ≡ matchedTo (now (file .entry)) at (codes (stateOf setting (take len (now (last .entry)))) (recordOf fields (take n (now (name .entry)))))) × (length (now (room .exit)) ≡ headerLimit) ⌝ }
 {
     let before = &last[..];
     let own = &name[..];
@@ -67,8 +69,14 @@ fn matched_record(
 }
 
 // Keeps a record's label, the first n bytes of `name`, as the one before the next.
-fn keep(last: &mut [u8; 4096], len: usize, name: &[u8; 4096], n: usize, fields: Fields) -> usize
-    requires { ⌜ (len ≤ 4096) × (length (now last) ≡ 4096) × (n ≤ 4096) × (length (now name) ≡ 4096) ⌝ }
+fn keep(
+    last: &mut [u8; LABEL_LIMIT],
+    len: usize,
+    name: &[u8; LABEL_LIMIT],
+    n: usize,
+    fields: Fields,
+) -> usize
+    requires { ⌜ (len ≤ labelLimit) × (length (now last) ≡ labelLimit) × (n ≤ labelLimit) × (length (now name) ≡ labelLimit) ⌝ }
     ensures { λ r. ⌜ Keeps (now (last .entry)) (now (last .exit)) len (take n (now (name .entry))) fields r ⌝ }
 {
     let own = &name[..];
@@ -79,7 +87,7 @@ fn keep(last: &mut [u8; 4096], len: usize, name: &[u8; 4096], n: usize, fields: 
 // codes with the file's bytes. `head` is where the header's codes end in it, or past
 // its end.
 fn judge_records(file: &[u8], version: u8, place: usize, head: usize) -> Judged
-    requires { ⌜ (length (now file) ≤ 16777216) × (place ≤ length (now file)) × (head ≤ 16777217) ⌝ }
+    requires { ⌜ (length (now file) ≤ fileLimit) × (place ≤ length (now file)) × (head ≤ fileLimit + 1) ⌝ }
     ensures { λ r. ⌜ JudgesBehind (now (file .entry)) version place head r ⌝ }
 {
     let mut room = room();

@@ -2,14 +2,12 @@
 use Prim.Native.Nat.{ℕ, _+_, _≤_, _<_}
 use mathlib.Core.Path.{_≡_, refl, sym, ap, _∙_}
 use mathlib.Core.List.{List, [], _∷_, _++_}
-use mathlib.Core.Bool.{Bool, true, false, _&&_, _||_}
 use native.Mathlib.Omega.{arith}
 use lib.ListN.{length, take, drop}
 use lib.Seq.{length-take-le}
-use lib.Dec.{eqb, ltb}
-use borrow.Author.Tests.{lt-ltb, le-ltb, eq-eqb, ne-eqb}
-use Rattle.format.specs.Bytes.{pick}
-use Rattle.format.specs.Label.{Cut, empty, back, Labelled, tooShort, tooLong, labelled, labelStep, labelLimit}
+use Rattle.format.specs.Label.{Labelled, tooShort, tooLong, labelled, labelStep, labelLimit}
+use Rattle.format.specs.declared.Cut.{Cut}
+use Rattle.format.specs.declared.Cut.the-variants.{Empty, Back}
 use Rattle.format.specs.Items.{Item, Stop as stopItem, Style as styleItem, Move as moveItem, NoDate as noDateItem, Date as dateItem, Error as errorItem, Decoded, faulty, whole, itemOf}
 use Rattle.format.specs.State.{State, Record, Next, bad, end, on, made, dateOf, badDates, onLabel, legFrom, apply, nextOf}
 use Rattle.format.specs.Reading.{next}
@@ -19,9 +17,8 @@ use Rattle.format.specs.declared.Dated.{Dated}
 use Rattle.format.specs.declared.Dated.the-variants.{Undated}
 use Rattle.format.specs.declared.Position.{Position}
 use Rattle.format.specs.declared.Position.the-variants.{Unset, Stands}
-use Rattle.label.specs.Seen.{cutOf, relabelledSeen, Tells as LabelTells}
-use Rattle.label.specs.declared.Cut.{Cut as Cutting}
-use Rattle.label.specs.declared.Cut.the-variants.{Back}
+use Rattle.format.proofs.ApplyLaws.{style-other as style-others, style-first as style-firsts, style-end as style-ends, date-before as dates-before, date-late as dates-late, date-on as dates-on, stop-end, stop-empties, leg-unset as legs-unset, leg-set as legs-set}
+use Rattle.label.specs.Seen.{relabelledSeen, Tells as LabelTells}
 use Rattle.label.specs.declared.Relabelled.the-variants.{TooShort, TooLong, Fits}
 use Rattle.decode.specs.Seen.{itemSeen, relabelItem, dropped, Suits, Reads}
 use Rattle.item.specs.Seen.{seen, Short, Tells, madeOf, Does}
@@ -43,16 +40,13 @@ module _ (k len : ℕ) (st to : Setting) where
   StyleDoes r = Does r (λ b. apply (stateOf st (take len b)) 1 (styleItem k)) len
 
   pub style-other : to ≡ record { style = k; date = st .date; position = st .position } → (k ≡ 0 → ⊥) → StyleDoes (On 1 len to)
-  unfolding pick
-  style-other e h = record { same = λ b. simp (e, ne-eqb k 0 h); short = λ q. q }
+  style-other e h = record { same = λ b. rw e (sym (style-others (stateOf st (take len b)) 1 k h)); short = λ q. q }
 
   pub style-first : to ≡ record { style = k; date = st .date; position = st .position } → k ≡ 0 → (st .style ≡ 0 → ⊥) → StyleDoes (On 1 len to)
-  unfolding pick
-  style-first e z h = record { same = λ b. simp (e, eq-eqb k 0 z, ne-eqb (st .style) 0 h); short = λ q. q }
+  style-first e z h = record { same = λ b. rw e (sym (style-firsts (stateOf st (take len b)) 1 k z h)); short = λ q. q }
 
   pub style-end : k ≡ 0 → st .style ≡ 0 → StyleDoes End
-  unfolding pick
-  style-end z h = record { same = λ b. simp (eq-eqb k 0 z, eq-eqb (st .style) 0 h); short = λ q. tt }
+  style-end z h = record { same = λ b. sym (style-ends (stateOf st (take len b)) 1 k z h); short = λ q. tt }
 
 -- ---- a date
 
@@ -61,16 +55,13 @@ module _ (n first last len : ℕ) (st to : Setting) where
   DateDoes r = Does r (λ b. apply (stateOf st (take len b)) n (dateItem first last)) len
 
   pub date-before : last < first → DateDoes (Bad 9)
-  unfolding badDates pick
-  date-before h = record { same = λ b. simp (lt-ltb _ _ h); short = λ q. tt }
+  date-before h = record { same = λ b. sym (dates-before (stateOf st (take len b)) n first last h); short = λ q. tt }
 
   pub date-late : first ≤ last → 65535 < last → DateDoes (Bad 9)
-  unfolding badDates pick
-  date-late h k = record { same = λ b. simp (le-ltb _ _ h, lt-ltb _ _ k); short = λ q. tt }
+  date-late h k = record { same = λ b. sym (dates-late (stateOf st (take len b)) n first last h k); short = λ q. tt }
 
   pub date-on : first ≤ last → last ≤ 65535 → to ≡ record { style = st .style; date = dateOf first last; position = st .position } → DateDoes (On n len to)
-  unfolding badDates pick
-  date-on h k e = record { same = λ b. simp (e, le-ltb _ _ h, le-ltb _ _ k); short = λ q. q }
+  date-on h k e = record { same = λ b. rw e (sym (dates-on (stateOf st (take len b)) n first last h k)); short = λ q. q }
 
 -- ---- an item whose label is in the buffer
 
@@ -79,11 +70,11 @@ module _ (n len : ℕ) (st to : Setting) where
   MadeDoes body r = Does r (λ b. madeOf body (stateOf st []) n (take len b)) len
 
   pub leg-unset : (flags : ℕ) (p : Point) → st .position ≡ Unset → MadeDoes (LineBody flags p) (Bad 8)
-  leg-unset flags p e = record { same = λ b. rw e; short = λ q. tt }
+  leg-unset flags p e = record { same = λ b. sym (legs-unset (stateOf st []) n flags p (take len b) e); short = λ q. tt }
 
   pub leg-made : (flags : ℕ) (from p : Point) → st .position ≡ Stands from → to ≡ record { style = st .style; date = st .date; position = Stands p }
       → MadeDoes (LineBody flags p) (Made n len to (Leg flags (st .style) (st .date) from p))
-  leg-made flags from p e f = record { same = λ b. rw (e, f); short = λ q. q }
+  leg-made flags from p e f = record { same = λ b. rw f (sym (legs-set (stateOf st []) n flags p (take len b) e)); short = λ q. q }
 
 -- ---- the label step first
 
@@ -110,12 +101,12 @@ made-label (LineBody flags p) st l n m = go (st .position)
     go (Stands from) = refl
 
 -- an item that changes the label is its label step first
-relabel-apply : (st : State) (n : ℕ) (body : Body) (cut : Cutting) (count : ℕ) (s : List ℕ) → Suits body cut count
-    → apply st n (relabelItem body cut (take count s)) ≡ onLabel (labelStep (st .label) (cutOf cut) (take count s)) (λ l. madeOf body st n l)
+relabel-apply : (st : State) (n : ℕ) (body : Body) (cut : Cut) (count : ℕ) (s : List ℕ) → Suits body cut count
+    → apply st n (relabelItem body cut (take count s)) ≡ onLabel (labelStep (st .label) cut (take count s)) (λ l. madeOf body st n l)
 relabel-apply st n Only cut count s e = rw e
-relabel-apply st n (SectionBody last size) cut count s e = rw (sym (ap cutOf e))
-relabel-apply st n (StationBody flags p) cut count s e = rw (sym (ap cutOf e))
-relabel-apply st n (LineBody flags p) cut count s e = rw (sym (ap cutOf e))
+relabel-apply st n (SectionBody last size) cut count s e = rw (sym e)
+relabel-apply st n (StationBody flags p) cut count s e = rw (sym e)
+relabel-apply st n (LineBody flags p) cut count s e = rw (sym e)
 
 module _ (version : ℕ) (s : List ℕ) (st : Setting) (len : ℕ) (b : List ℕ) (w : length b ≡ 4096) (h : len ≤ 4096) where
   abbrev Comes : Step → Type 0
@@ -130,14 +121,12 @@ module _ (version : ℕ) (s : List ℕ) (st : Setting) (len : ℕ) (b : List ℕ
   comes-faulty k R = record { same = due (Faulty k) R; whole = w; short = tt }
 
   pub comes-end : Reads Stop s (itemOf version s) → len ≡ 0 → Comes End
-  unfolding pick
-  comes-end R e = record { same = rw e (rw e at (due Stop R)); whole = w; short = tt }
+  comes-end R e = record { same = sym (stop-end (stateOf st (take len b)) 1 (rw e)) ∙ due Stop R; whole = w; short = tt }
 
   pub comes-emptied : Reads Stop s (itemOf version s) → (len ≡ 0 → ⊥) → Comes (On 1 0 st)
-  unfolding pick labelStep
   comes-emptied R e =
       let t : length (take len b) ≡ len = length-take-le len b (omega arith) in
-      record { same = simp (t, ne-eqb len 0 e) at (due Stop R); whole = w; short = omega arith }
+      record { same = sym (stop-empties (stateOf st (take len b)) 1 (λ q. e (sym t ∙ q))) ∙ due Stop R; whole = w; short = omega arith }
 
   pub comes-does : (it : Told) (n : ℕ) (i : Item) (r : Step) → itemSeen it s ≡ whole n i → Reads it s (itemOf version s) → Does r (λ c. apply (stateOf st (take len c)) n i) len → Comes r
   comes-does it n i r e R D = record { same = D .same b ∙ ap (nextOf (stateOf st (take len b))) (sym e) ∙ due it R; whole = w; short = D .short h }
@@ -152,13 +141,13 @@ module _ (version : ℕ) (s : List ℕ) (st : Setting) (len : ℕ) (b : List ℕ
   comes-error t R = record { same = due (ErrorTold t) R; whole = w; short = h }
 
 -- the label's bytes may change: b is the buffer before, c after
-pub comes-relabelled : (version : ℕ) (s : List ℕ) (st : Setting) (l c : List ℕ) (n : ℕ) (cut : Cutting) (from count : ℕ) (body : Body) (r : Step) → Reads (Relabel n cut from count body) s (itemOf version s)
-    → Tells r c (onLabel (labelStep l (cutOf cut) (take count (drop from s))) (λ m. madeOf body (stateOf st []) n m)) → Tells r c (next version s (stateOf st l))
+pub comes-relabelled : (version : ℕ) (s : List ℕ) (st : Setting) (l c : List ℕ) (n : ℕ) (cut : Cut) (from count : ℕ) (body : Body) (r : Step) → Reads (Relabel n cut from count body) s (itemOf version s)
+    → Tells r c (onLabel (labelStep l cut (take count (drop from s))) (λ m. madeOf body (stateOf st []) n m)) → Tells r c (next version s (stateOf st l))
 unfolding next
 comes-relabelled version s st l c n cut from count body r R T =
     let e = relabel-apply (stateOf st l) n body cut count (drop from s) (R .sound .1) in
-    let f : onLabel (labelStep l (cutOf cut) (take count (drop from s))) (λ m. madeOf body (stateOf st []) n m) ≡ onLabel (labelStep l (cutOf cut) (take count (drop from s))) (λ m. madeOf body (stateOf st l) n m) =
-    same-label (labelStep l (cutOf cut) (take count (drop from s))) in
+    let f : onLabel (labelStep l cut (take count (drop from s))) (λ m. madeOf body (stateOf st []) n m) ≡ onLabel (labelStep l cut (take count (drop from s))) (λ m. madeOf body (stateOf st l) n m) =
+    same-label (labelStep l cut (take count (drop from s))) in
     record { same = T .same ∙ f ∙ sym e ∙ ap (nextOf (stateOf st l)) (R .same); whole = T .whole; short = T .short }
   where
     same-label : (x : Labelled) → onLabel x (λ m. madeOf body (stateOf st []) n m) ≡ onLabel x (λ m. madeOf body (stateOf st l) n m)

@@ -3,12 +3,15 @@
 use decode::Body;
 use decode::Item;
 use decode::decode;
+use format::Cut;
 use format::Dated;
 use format::Fields;
+use format::LABEL_LIMIT;
 use format::Point;
 use format::Position;
+use format::Section;
 use format::Setting;
-use label::Cut;
+use format::Station;
 use label::Relabelled;
 use label::label_step;
 ghost use mathlib.Core.Path.{_≡_};
@@ -16,10 +19,9 @@ ghost use mathlib.Core.List.{[]};
 ghost use Prim.Native.Nat.{ℕ, _+_, _≤_};
 ghost use lib.ListN.{length, take, drop};
 ghost use Rattle.format.specs.Items.{Style as styleItem, Date as dateItem};
-ghost use Rattle.format.specs.Label.{labelStep};
+ghost use Rattle.format.specs.Label.{labelStep, labelLimit};
 ghost use Rattle.format.specs.State.{dateOf, apply, onLabel};
 ghost use Rattle.format.specs.Fields.{stateOf};
-ghost use Rattle.label.specs.Seen.{cutOf};
 ghost use Rattle.format.specs.Reading.{next};
 ghost use Rattle.item.specs.Seen.{Does, Tells, madeOf};
 
@@ -168,13 +170,17 @@ fn made_step(size: usize, len: usize, setting: Setting, body: Body) -> Step
             size,
             len,
             setting,
-            fields: Fields::Section { last, size: dims },
+            fields: Fields::Section {
+                section: Section { last, size: dims },
+            },
         },
         Body::Station { flags, place } => Step::Made {
             size,
             len,
             setting,
-            fields: Fields::Station { flags, place },
+            fields: Fields::Station {
+                station: Station { flags, place },
+            },
         },
         Body::Line { flags, place } => leg_step(size, len, setting, flags, place),
     }
@@ -183,7 +189,7 @@ fn made_step(size: usize, len: usize, setting: Setting, body: Body) -> Step
 // An item that changes the label: 6 and 7 before all else.
 fn relabel_step(
     s: &[u8],
-    bytes: &mut [u8; 4096],
+    bytes: &mut [u8; LABEL_LIMIT],
     len: usize,
     setting: Setting,
     size: usize,
@@ -192,8 +198,8 @@ fn relabel_step(
     count: usize,
     body: Body,
 ) -> Step
-    requires { ⌜ (len ≤ 4096) × (length (now bytes) ≡ 4096) × (from + count ≤ length (now s)) ⌝ }
-    ensures { λ r. ⌜ Tells r (now (bytes .exit)) (onLabel (labelStep (take len (now (bytes .entry))) (cutOf cut) (take count (drop from (now (s .entry))))) (λ l. madeOf body (stateOf setting []) size l)) ⌝ }
+    requires { ⌜ (len ≤ labelLimit) × (length (now bytes) ≡ labelLimit) × (from + count ≤ length (now s)) ⌝ }
+    ensures { λ r. ⌜ Tells r (now (bytes .exit)) (onLabel (labelStep (take len (now (bytes .entry))) cut (take count (drop from (now (s .entry))))) (λ l. madeOf body (stateOf setting []) size l)) ⌝ }
 {
     let to = from + count;
     let after = label_step(bytes, len, cut, &s[from..to]);
@@ -209,11 +215,11 @@ fn relabel_step(
 pub fn take_item(
     version: u8,
     s: &[u8],
-    bytes: &mut [u8; 4096],
+    bytes: &mut [u8; LABEL_LIMIT],
     len: usize,
     setting: Setting,
 ) -> Step
-    requires { ⌜ (len ≤ 4096) × (length (now bytes) ≡ 4096) ⌝ }
+    requires { ⌜ (len ≤ labelLimit) × (length (now bytes) ≡ labelLimit) ⌝ }
     ensures { λ r. ⌜ Tells r (now (bytes .exit)) (next version (now (s .entry)) (stateOf setting (take len (now (bytes .entry))))) ⌝ }
 {
     let it = decode(version, s);

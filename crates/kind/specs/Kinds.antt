@@ -6,8 +6,9 @@ use mathlib.Core.Bool.{Bool}
 use lib.ListN.{drop}
 use lib.Dec.{ltb}
 use Rattle.format.specs.Bytes.{pick, le16, le32, widened}
-use Rattle.format.specs.Items.{Item, Stop as stopItem, Shorten as shortenItem, Style as styleItem, NoDate as noDateItem, Xsect, Station as stationPlaced, Line as linePlaced, Decoded, whole, reserved, Part, part, labelledItem, pointOf, dimensionsOf, moveItem, errorItem, dayItem, spanItem, daysItem, secondsItem, twoSecondsItem, newLowItem, newHighItem}
-use Rattle.label.specs.Seen.{cutOf}
+use Rattle.format.specs.Items.{Item, Stop as stopItem, Shorten as shortenItem, Style as styleItem, NoDate as noDateItem, Xsect, Label as stationPlaced, Line as linePlaced, Decoded, whole, reserved, labelledItem, pointOf, dimensionsOf, moveItem, errorItem, dayItem, spanItem, daysItem, secondsItem, twoSecondsItem, newLowItem, newHighItem}
+use Rattle.format.specs.declared.LabelPart.{LabelPart}
+use Rattle.format.specs.declared.LabelPart.the-variants.{Numbers}
 use Rattle.length.specs.Parts.{finished}
 use Rattle.kind.specs.declared.Tail.{Tail}
 use Rattle.kind.specs.declared.Tail.the-variants.{Short, Long, Station, Line}
@@ -33,18 +34,18 @@ makeOf (Line flags) d added rest = linePlaced flags (pointOf le32 rest) d added
 -- ---- kinds
 
 -- an item with a label, after its code; a bare one has no label part
-unfoldable pub labelledBy : Bool → Tail → (List ℕ → Part) → List ℕ → Decoded
-labelledBy bare tail p t = labelledItem (pick bare (part 0 0 0) (p t)) t (tailOf tail) (makeOf tail)
+unfoldable pub labelledBy : Bool → Tail → (List ℕ → LabelPart) → List ℕ → Decoded
+labelledBy bare tail p t = labelledItem (pick bare (Numbers 0 0 0) (p t)) t (tailOf tail) (makeOf tail)
 
 -- the label part of an item at the front of s, where it is finished and the rest of the item is there
-abbrev pub partThere : Bool → Tail → (List ℕ → Part) → List ℕ → Part
-partThere bare tail p s = finished (pick bare (part 0 0 0) (p (drop 1 s))) (drop 1 s) (tailOf tail)
+abbrev pub partThere : Bool → Tail → (List ℕ → LabelPart) → List ℕ → LabelPart
+partThere bare tail p s = finished (pick bare (Numbers 0 0 0) (p (drop 1 s))) (drop 1 s) (tailOf tail)
 
 -- the item at the front of s, where its code is of the kind, and p reads a label part
-abbrev pub kindItem : Kind → (List ℕ → Part) → List ℕ → Decoded
+abbrev pub kindItem : Kind → (List ℕ → LabelPart) → List ℕ → Decoded
 kindItem Reserved p s = reserved
 kindItem Stop p s = whole 1 stopItem
-kindItem (Shorten cut) p s = whole 1 (shortenItem (cutOf cut))
+kindItem (Shorten cut) p s = whole 1 (shortenItem cut)
 kindItem (Style style) p s = whole 1 (styleItem style)
 kindItem Move p s = moveItem s
 kindItem NoDate p s = whole 1 noDateItem
@@ -57,11 +58,11 @@ kindItem Error p s = errorItem s
 kindItem (Labelled bare tail) p s = labelledBy bare tail p (drop 1 s)
 
 -- a kind says what f does of every s, where p reads a label part; and so for every p
-abbrev pub SaysBy : (List ℕ → Part) → Kind → (List ℕ → Decoded) → Type 0
+abbrev pub SaysBy : (List ℕ → LabelPart) → Kind → (List ℕ → Decoded) → Type 0
 SaysBy p k f = (s : List ℕ) → kindItem k p s ≡ f s
 
-abbrev pub Says : Kind → ((List ℕ → Part) → List ℕ → Decoded) → Type 0
-Says k f = (p : List ℕ → Part) → SaysBy p k (f p)
+abbrev pub Says : Kind → ((List ℕ → LabelPart) → List ℕ → Decoded) → Type 0
+Says k f = (p : List ℕ → LabelPart) → SaysBy p k (f p)
 
 -- ---- v8
 
@@ -83,4 +84,4 @@ Newer (Labelled bare tail) = Unit
 
 -- the item of a code in v8, at the front of s
 unfoldable pub newItem : ℕ → List ℕ → Decoded
-newItem code s = pick (ltb code 48) (newLowItem code s) (newHighItem code (drop 1 s))
+newItem code s = pick (ltb code 0x30) (newLowItem code s) (newHighItem code (drop 1 s))

@@ -1,5 +1,5 @@
 // What a code says in a version.
-use label::Cut;
+use format::Cut;
 use number::index;
 ghost use mathlib.Core.Path.{_≡_};
 ghost use mathlib.Core.List.{List};
@@ -40,15 +40,15 @@ pub enum Kind {
 fn old_low(code: u8) -> Kind
     ensures { λ r. ⌜ Says r (λ p s. oldLowItem code s) ⌝ }
 {
-    if code == 0 {
+    if code == 0x00 {
         return Kind::Stop;
     }
-    if code < 15 {
+    if code < 0x0f {
         return Kind::Shorten {
             cut: Cut::ToDot { dots: index(code) },
         };
     }
-    if code == 15 {
+    if code == 0x0f {
         return Kind::Move;
     }
     Kind::Shorten {
@@ -62,10 +62,10 @@ fn old_low(code: u8) -> Kind
 fn old_date(code: u8) -> Kind
     ensures { λ r. ⌜ Says r (λ p s. oldDateItem code s) ⌝ }
 {
-    if code == 32 {
+    if code == 0x20 {
         return Kind::Seconds;
     }
-    if code == 33 {
+    if code == 0x21 {
         return Kind::TwoSeconds;
     }
     Kind::Reserved
@@ -75,16 +75,16 @@ fn old_date(code: u8) -> Kind
 fn v7_date(code: u8) -> Kind
     ensures { λ r. ⌜ Says r (λ p s. v7DateItem code s) ⌝ }
 {
-    if code == 32 {
+    if code == 0x20 {
         return Kind::Day;
     }
-    if code == 33 {
+    if code == 0x21 {
         return Kind::Span;
     }
-    if code == 35 {
+    if code == 0x23 {
         return Kind::Days;
     }
-    if code == 36 {
+    if code == 0x24 {
         return Kind::NoDate;
     }
     Kind::Reserved
@@ -94,7 +94,7 @@ fn v7_date(code: u8) -> Kind
 fn old_middle(version: u8, code: u8) -> Kind
     ensures { λ r. ⌜ Says r (λ p s. oldMiddleItem version code s) ⌝ }
 {
-    if code == 34 {
+    if code == 0x22 {
         if version < 6 {
             return Kind::Reserved;
         }
@@ -114,7 +114,7 @@ fn section(code: u8) -> Kind
     ensures { λ r. ⌜ Says r (λ p s. sectionItem code (p (drop 1 s)) (drop 1 s)) × Newer r ⌝ }
 {
     let last = code % 2;
-    if code < 50 {
+    if code < 0x32 {
         return Kind::Labelled {
             bare: false,
             tail: Tail::Short { last },
@@ -130,28 +130,28 @@ fn section(code: u8) -> Kind
 fn old_high(version: u8, code: u8) -> Kind
     ensures { λ r. ⌜ SaysBy oldPart r (λ s. oldHighItem version code (drop 1 s)) ⌝ }
 {
-    if code < 52 {
+    if code < 0x34 {
         if version < 5 {
             return Kind::Reserved;
         }
         return section(code);
     }
-    if code < 64 {
+    if code < 0x40 {
         return Kind::Reserved;
     }
-    if code < 96 {
+    if code < 0x60 {
         return Kind::Labelled {
             bare: false,
-            tail: Tail::Station { flags: code - 64 },
+            tail: Tail::Station { flags: code - 0x40 },
         };
     }
-    if code < 128 {
+    if code < 0x80 {
         return Kind::Reserved;
     }
-    if code < 136 {
+    if code < 0x88 {
         return Kind::Labelled {
             bare: false,
-            tail: Tail::Line { flags: code - 128 },
+            tail: Tail::Line { flags: code - 0x80 },
         };
     }
     Kind::Reserved
@@ -161,13 +161,13 @@ fn old_high(version: u8, code: u8) -> Kind
 fn new_date(code: u8) -> Kind
     ensures { λ r. ⌜ Says r (λ p s. newDateItem code s) × Newer r ⌝ }
 {
-    if code == 16 {
+    if code == 0x10 {
         return Kind::NoDate;
     }
-    if code == 17 {
+    if code == 0x11 {
         return Kind::Day;
     }
-    if code == 18 {
+    if code == 0x12 {
         return Kind::Span;
     }
     Kind::Days
@@ -177,19 +177,19 @@ fn new_date(code: u8) -> Kind
 fn new_low(code: u8) -> Kind
     ensures { λ r. ⌜ Says r (λ p s. newLowItem code s) × Newer r ⌝ }
 {
-    if code < 5 {
+    if code < 0x05 {
         return Kind::Style { style: code };
     }
-    if code < 15 {
+    if code < 0x0f {
         return Kind::Reserved;
     }
-    if code == 15 {
+    if code == 0x0f {
         return Kind::Move;
     }
-    if code < 20 {
+    if code < 0x14 {
         return new_date(code);
     }
-    if code == 31 {
+    if code == 0x1f {
         return Kind::Error;
     }
     Kind::Reserved
@@ -199,33 +199,33 @@ fn new_low(code: u8) -> Kind
 fn new_high(code: u8) -> Kind
     ensures { λ r. ⌜ SaysBy newPart r (λ s. newHighItem code (drop 1 s)) × Newer r ⌝ }
 {
-    if code < 52 {
+    if code < 0x34 {
         return section(code);
     }
-    if code < 64 {
+    if code < 0x40 {
         return Kind::Reserved;
     }
-    if code < 72 {
+    if code < 0x48 {
         return Kind::Labelled {
             bare: false,
-            tail: Tail::Line { flags: code - 64 },
+            tail: Tail::Line { flags: code - 0x40 },
         };
     }
-    if code < 96 {
+    if code < 0x60 {
         return Kind::Reserved;
     }
-    if code < 104 {
+    if code < 0x68 {
         return Kind::Labelled {
             bare: true,
-            tail: Tail::Line { flags: code - 96 },
+            tail: Tail::Line { flags: code - 0x60 },
         };
     }
-    if code < 128 {
+    if code < 0x80 {
         return Kind::Reserved;
     }
     Kind::Labelled {
         bare: false,
-        tail: Tail::Station { flags: code - 128 },
+        tail: Tail::Station { flags: code - 0x80 },
     }
 }
 
@@ -233,7 +233,7 @@ fn new_high(code: u8) -> Kind
 pub fn new_kind(code: u8) -> Kind
     ensures { λ r. ⌜ SaysBy newPart r (newItem code) × Newer r ⌝ }
 {
-    if code < 48 {
+    if code < 0x30 {
         return new_low(code);
     }
     new_high(code)
@@ -245,15 +245,15 @@ pub fn kind_of(version: u8, code: u8) -> Kind
     ensures { λ r. ⌜ ((s : List ℕ) → 1 ≤ length s → getD s 0 0 ≡ code → kindItem r (partAt version) s ≡ itemOf version s) ⌝ }
 {
     if version < 8 {
-        if code < 32 {
+        if code < 0x20 {
             return old_low(code);
         }
-        if code < 48 {
+        if code < 0x30 {
             return old_middle(version, code);
         }
         return old_high(version, code);
     }
-    if code < 48 {
+    if code < 0x30 {
         return new_low(code);
     }
     new_high(code)

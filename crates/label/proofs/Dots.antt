@@ -9,7 +9,8 @@ use lib.Seq.{drop-cons, drop-length, length-take-le, getD-take}
 use lib.Dec.{eqb}
 use borrow.Author.Tests.{eq-eqb, ne-eqb}
 use Rattle.format.specs.Bytes.{pick}
-use Rattle.format.specs.Label.{keeps, lacks, dots, dotFrom}
+use Rattle.format.specs.Label.{dots, dotFrom}
+use Rattle.format.specs.declared.Kept.the-variants.{Keeps, Lacks}
 
 -- ---- a dot with n dots from it on is the nth from the end
 
@@ -24,7 +25,7 @@ dots-drop (b ∷ s) (suc i) = go (eqb b 46) (dots-drop s i)
     go true h = omega arith
     go false h = h
 
-pub found-from : (l : List ℕ) (k i n : ℕ) → i < length l → getD l i 0 ≡ 46 → dots (drop i l) ≡ n → dotFrom n k l ≡ keeps (k + i + 1)
+pub found-from : (l : List ℕ) (k i n : ℕ) → i < length l → getD l i 0 ≡ 46 → dots (drop i l) ≡ n → dotFrom n k l ≡ Keeps (k + i + 1)
 unfolding dotFrom dots pick
 found-from [] k i n h e d = absurd (omega arith)
 found-from (b ∷ s) k zero n h e d =
@@ -35,10 +36,10 @@ found-from (b ∷ s) k (suc i) n h e d =
     let r = found-from s (k + 1) i n (omega arith) e d in
     let z : k + 1 + i + 1 ≡ k + suc i + 1 = omega arith in
     let w : dots s + 1 ≡ n → ⊥ = λ q. omega (arith, dots-drop s i) in
-    go (eqb b 46) (r ∙ ap keeps z) (ne-eqb (dots s + 1) n w)
+    go (eqb b 46) (r ∙ ap Keeps z) (ne-eqb (dots s + 1) n w)
   where
-    go : (t : Bool) → dotFrom n (k + 1) s ≡ keeps (k + suc i + 1) → eqb (dots s + 1) n ≡ false
-        → pick (t && eqb (dots s + 1) n) (keeps (k + 1)) (dotFrom n (k + 1) s) ≡ keeps (k + suc i + 1)
+    go : (t : Bool) → dotFrom n (k + 1) s ≡ Keeps (k + suc i + 1) → eqb (dots s + 1) n ≡ false
+        → pick (t && eqb (dots s + 1) n) (Keeps (k + 1)) (dotFrom n (k + 1) s) ≡ Keeps (k + suc i + 1)
     go true r f = simp f r
     go false r f = r
 
@@ -75,7 +76,7 @@ module _ (l : List ℕ) (n i : ℕ) (hi : 0 < i) (h : i ≤ length l) where
 pub record Passed (b : List ℕ) (len n i d : ℕ) : Type 0 where
   pub few : d + i ≤ len
   pub count : d ≡ dots (drop i (take len b))
-  pub none : dotFrom n i (drop i (take len b)) ≡ lacks
+  pub none : dotFrom n i (drop i (take len b)) ≡ Lacks
 
 module _ (b : List ℕ) (len n : ℕ) (hb : len ≤ length b) where
   all : drop len (take len b) ≡ []
@@ -85,7 +86,7 @@ module _ (b : List ℕ) (len n : ℕ) (hb : len ≤ length b) where
   unfolding dots dotFrom
   passed-start = record { few = omega arith; count = sym (ap dots all); none = ap (dotFrom n len) all }
 
-  pub passed-none : (d : ℕ) → Passed b len n 0 d → lacks ≡ dotFrom n 0 (take len b)
+  pub passed-none : (d : ℕ) → Passed b len n 0 d → Lacks ≡ dotFrom n 0 (take len b)
   passed-none d P = sym (P .none)
 
   module _ (i d : ℕ) (hi : 0 < i) (P : Passed b len n i d) where
@@ -113,9 +114,9 @@ module _ (b : List ℕ) (len n : ℕ) (hb : len ≤ length b) where
           none = from-other (take len b) n i hi inside e′ ∙ P .none;
         }
 
-    pub passed-found : getD b (i - 1) 0 ≡ 46 → d + 1 ≡ n → keeps (i - 1 + 1) ≡ dotFrom n 0 (take len b)
+    pub passed-found : getD b (i - 1) 0 ≡ 46 → d + 1 ≡ n → Keeps (i - 1 + 1) ≡ dotFrom n 0 (take len b)
     passed-found e q =
         let z : 0 + (i - 1) + 1 ≡ i - 1 + 1 = omega arith in
         let e′ = here ∙ e in
         let k : dots (drop (i - 1) (take len b)) ≡ n = omega (arith, P .count, dots-dot (take len b) n i hi inside e′) in
-        sym (found-from (take len b) 0 (i - 1) n (omega (arith, inside)) e′ k ∙ ap keeps z)
+        sym (found-from (take len b) 0 (i - 1) n (omega (arith, inside)) e′ k ∙ ap Keeps z)

@@ -5,42 +5,30 @@ use mathlib.Core.List.{List}
 use lib.ListN.{length, take}
 use lib.Dec.{ltb}
 use Rattle.format.specs.Bytes.{pick}
-use Rattle.format.specs.Label.{Cut, empty, toDot, trim, back, Kept, keeps, lacks, Labelled, tooShort, tooLong, labelled, labelLimit}
-use Rattle.label.specs.declared.Cut.{Cut as Cutting}
-use Rattle.label.specs.declared.Cut.the-variants.{Empty, ToDot, Trim, Back}
+use Rattle.format.specs.Label.{Labelled, tooShort, tooLong, labelled, labelLimit}
+use Rattle.format.specs.declared.Kept.{Kept}
+use Rattle.format.specs.declared.Kept.the-variants.{Keeps, Lacks}
 use Rattle.label.specs.declared.Dot.{Dot}
 use Rattle.label.specs.declared.Dot.the-variants.{At, Missing}
-use Rattle.label.specs.declared.Kept.{Kept as Keeping}
-use Rattle.label.specs.declared.Kept.the-variants.{Keeps, Lacks}
 use Rattle.label.specs.declared.Relabelled.{Relabelled}
 use Rattle.label.specs.declared.Relabelled.the-variants.{TooShort, TooLong, Fits}
 
-abbrev pub cutOf : Cutting → Cut
-cutOf Empty = empty
-cutOf (ToDot n) = toDot n
-cutOf (Trim n) = trim n
-cutOf (Back n) = back n
-
 -- "that dot stays"
 abbrev pub dotSeen : Dot → Kept
-dotSeen (At p) = keeps (p + 1)
-dotSeen Missing = lacks
+dotSeen (At p) = Keeps (p + 1)
+dotSeen Missing = Lacks
 
 -- its place is one of the label's
 abbrev pub Inside : ℕ → Dot → Type 0
 Inside len (At p) = p < len
 Inside len Missing = Unit
 
-abbrev pub keptSeen : Keeping → Kept
-keptSeen (Keeps n) = keeps n
-keptSeen Lacks = lacks
-
 -- what stays of len bytes after n of them are dropped, where least have to stay
 unfoldable pub keptAfter : ℕ → ℕ → ℕ → Kept
-keptAfter len n least = pick (ltb len (n + least)) lacks (keeps (len - n))
+keptAfter len n least = pick (ltb len (n + least)) Lacks (Keeps (len - n))
 
 -- what stays is no more than there was
-abbrev pub Within : ℕ → Keeping → Type 0
+abbrev pub Within : ℕ → Kept → Type 0
 Within len (Keeps n) = n ≤ len
 Within len Lacks = Unit
 

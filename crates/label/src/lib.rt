@@ -1,36 +1,24 @@
 // The current label: its buffer of 4,096 bytes, and the one step that changes it in
 // every version. The buffer is lent, beside plain numbers: nothing here copies it.
+use format::Cut;
+use format::Kept;
+use format::LABEL_LIMIT;
 ghost use mathlib.Core.Path.{_≡_};
 ghost use Prim.Native.Nat.{ℕ, _+_, _≤_};
 ghost use lib.ListN.{length, take};
 ghost use lib.Seq.{paste};
-ghost use Rattle.format.specs.Label.{dotFrom, keptToDot, keptOf, labelStep};
-ghost use Rattle.label.specs.Seen.{cutOf, dotSeen, Inside, keptSeen, Within, keptAfter, Tells};
+ghost use Rattle.format.specs.Label.{dotFrom, keptToDot, keptOf, labelStep, labelLimit};
+ghost use Rattle.label.specs.Seen.{dotSeen, Inside, Within, keptAfter, Tells};
 
 pub struct Label {
-    pub bytes: [u8; 4096],
+    pub bytes: [u8; LABEL_LIMIT],
     pub len: usize,
-}
-
-// How an item shortens the label: it empties it; 16 bytes off, then back to a dot;
-// some bytes off, and one at least stays; some bytes off.
-pub enum Cut {
-    Empty,
-    ToDot { dots: usize },
-    Trim { bytes: usize },
-    Back { bytes: usize },
 }
 
 // The place of a dot, or the want of one.
 pub enum Dot {
     At(usize),
     Missing,
-}
-
-// How many bytes of the label stay, or that it is too short.
-pub enum Kept {
-    Keeps { bytes: usize },
-    Lacks,
 }
 
 // What a step comes to: the label would be too short, or too long, or its new length.
@@ -44,13 +32,13 @@ pub enum Relabelled {
 pub fn blank() -> Label
     ensures { λ r. ⌜ r .len ≡ 0 ⌝ }
 {
-    let bytes = [0u8; 4096];
+    let bytes = [0u8; LABEL_LIMIT];
     Label { bytes, len: 0 }
 }
 
 // The place of the nth dot from the end of the first len bytes.
-fn nth_dot(bytes: &[u8; 4096], len: usize, n: usize) -> Dot
-    requires { ⌜ (len ≤ 4096) × (length (now bytes) ≡ 4096) ⌝ }
+fn nth_dot(bytes: &[u8; LABEL_LIMIT], len: usize, n: usize) -> Dot
+    requires { ⌜ (len ≤ labelLimit) × (length (now bytes) ≡ labelLimit) ⌝ }
     ensures { λ r. ⌜ (dotSeen r ≡ dotFrom n 0 (take len (now (bytes .entry)))) × Inside len r ⌝ }
 {
     let mut i = len;
@@ -71,9 +59,9 @@ fn nth_dot(bytes: &[u8; 4096], len: usize, n: usize) -> Dot
 }
 
 // What stays of the label of len bytes, 16 bytes off and then back to the nth dot.
-fn kept_to_dot(bytes: &[u8; 4096], len: usize, n: usize) -> Kept
-    requires { ⌜ (len ≤ 4096) × (length (now bytes) ≡ 4096) ⌝ }
-    ensures { λ r. ⌜ (keptSeen r ≡ keptToDot (take len (now (bytes .entry))) n) × Within len r ⌝ }
+fn kept_to_dot(bytes: &[u8; LABEL_LIMIT], len: usize, n: usize) -> Kept
+    requires { ⌜ (len ≤ labelLimit) × (length (now bytes) ≡ labelLimit) ⌝ }
+    ensures { λ r. ⌜ (r ≡ keptToDot (take len (now (bytes .entry))) n) × Within len r ⌝ }
 {
     if len < 16 {
         return Kept::Lacks;
@@ -88,7 +76,7 @@ fn kept_to_dot(bytes: &[u8; 4096], len: usize, n: usize) -> Kept
 
 // What stays of len bytes after off of them are dropped, where least have to stay.
 fn kept_after(len: usize, off: usize, least: usize) -> Kept
-    ensures { λ r. ⌜ (keptSeen r ≡ keptAfter len off least) × Within len r ⌝ }
+    ensures { λ r. ⌜ (r ≡ keptAfter len off least) × Within len r ⌝ }
 {
     if len < off {
         return Kept::Lacks;
@@ -101,9 +89,9 @@ fn kept_after(len: usize, off: usize, least: usize) -> Kept
 }
 
 // What stays of the label of len bytes.
-fn kept_of(bytes: &[u8; 4096], len: usize, cut: Cut) -> Kept
-    requires { ⌜ (len ≤ 4096) × (length (now bytes) ≡ 4096) ⌝ }
-    ensures { λ r. ⌜ (keptSeen r ≡ keptOf (take len (now (bytes .entry))) (cutOf cut)) × Within len r ⌝ }
+fn kept_of(bytes: &[u8; LABEL_LIMIT], len: usize, cut: Cut) -> Kept
+    requires { ⌜ (len ≤ labelLimit) × (length (now bytes) ≡ labelLimit) ⌝ }
+    ensures { λ r. ⌜ (r ≡ keptOf (take len (now (bytes .entry))) cut) × Within len r ⌝ }
 {
     match cut {
         Cut::Empty => Kept::Keeps { bytes: 0 },
@@ -114,8 +102,8 @@ fn kept_of(bytes: &[u8; 4096], len: usize, cut: Cut) -> Kept
 }
 
 // Lays added over the label's bytes from keep on.
-fn append(bytes: &mut [u8; 4096], keep: usize, added: &[u8])
-    requires { ⌜ (keep + length (now added) ≤ 4096) × (length (now bytes) ≡ 4096) ⌝ }
+fn append(bytes: &mut [u8; LABEL_LIMIT], keep: usize, added: &[u8])
+    requires { ⌜ (keep + length (now added) ≤ labelLimit) × (length (now bytes) ≡ labelLimit) ⌝ }
     ensures { λ _. ⌜ now (bytes .exit) ≡ paste (now (bytes .entry)) keep (now (added .entry)) (length (now (added .entry))) ⌝ }
 {
     let mut i: usize = 0;
@@ -127,15 +115,15 @@ fn append(bytes: &mut [u8; 4096], keep: usize, added: &[u8])
 
 // The label step of every version: what stays of the label of len bytes, then the
 // bytes to append.
-pub fn label_step(bytes: &mut [u8; 4096], len: usize, cut: Cut, added: &[u8]) -> Relabelled
-    requires { ⌜ (len ≤ 4096) × (length (now bytes) ≡ 4096) ⌝ }
-    ensures { λ r. ⌜ Tells r (now (bytes .exit)) (labelStep (take len (now (bytes .entry))) (cutOf cut) (now (added .entry))) ⌝ }
+pub fn label_step(bytes: &mut [u8; LABEL_LIMIT], len: usize, cut: Cut, added: &[u8]) -> Relabelled
+    requires { ⌜ (len ≤ labelLimit) × (length (now bytes) ≡ labelLimit) ⌝ }
+    ensures { λ r. ⌜ Tells r (now (bytes .exit)) (labelStep (take len (now (bytes .entry))) cut (now (added .entry))) ⌝ }
 {
     let kept = kept_of(bytes, len, cut);
     match kept {
         Kept::Lacks => Relabelled::TooShort,
         Kept::Keeps { bytes: keep } => {
-            if 4096 - keep < added.len() {
+            if LABEL_LIMIT - keep < added.len() {
                 return Relabelled::TooLong;
             }
             append(bytes, keep, added);

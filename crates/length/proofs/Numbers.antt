@@ -8,7 +8,8 @@ use lib.Seq.{drop-drop}
 use borrow.Rule.Slice.PartAt.{part-to-end}
 use borrow.Author.Tests.{ltb-true, ltb-false, eq-eqb, ne-eqb}
 use Rattle.format.specs.Bytes.{pick}
-use Rattle.format.specs.Items.{unfinished, part, lengthSize, lengthValue, longPart}
+use Rattle.format.specs.Items.{lengthSize, lengthValue, longPart}
+use Rattle.format.specs.declared.LabelPart.the-variants.{Unfinished, Numbers}
 use Rattle.format.proofs.Basics.{pick-case}
 
 -- a number that is finished has a byte, and five where the first is ff
@@ -29,15 +30,15 @@ pub second-part : (t : List ℕ) (d : ℕ) → take (length (drop 1 t) - d) (dro
 second-part t d = part-to-end (drop 1 t) d ∙ drop-drop d 1 t
 
 module _ (t : List ℕ) (d : ℕ) (e : d ≡ lengthSize (drop 1 t)) where
-  pub long-none : d ≡ 0 → unfinished ≡ longPart t
+  pub long-none : d ≡ 0 → Unfinished ≡ longPart t
   unfolding longPart pick
   long-none h = simp (← e, eq-eqb d 0 h)
 
   module _ (a : ℕ) (e1 : a ≡ lengthSize (drop (1 + d) t)) (h : d ≡ 0 → ⊥) where
-    pub long-half : a ≡ 0 → unfinished ≡ longPart t
+    pub long-half : a ≡ 0 → Unfinished ≡ longPart t
     unfolding longPart pick
     long-half k = simp (← e, ← e1, ne-eqb d 0 h, eq-eqb a 0 k)
 
-    pub long-both : (a ≡ 0 → ⊥) → (v w : ℕ) → v ≡ lengthValue (drop 1 t) → w ≡ lengthValue (drop (1 + d) t) → part (1 + d + a) v w ≡ longPart t
+    pub long-both : (a ≡ 0 → ⊥) → (v w : ℕ) → v ≡ lengthValue (drop 1 t) → w ≡ lengthValue (drop (1 + d) t) → Numbers (1 + d + a) v w ≡ longPart t
     unfolding longPart pick
     long-both k v w ev ew = simp (← e, ← e1, ne-eqb d 0 h, ne-eqb a 0 k, ← ev, ← ew)

@@ -1,30 +1,34 @@
 // Prints the sheet of a 3d file as text. The file is standard input, at most 16,384 bytes.
-ghost use Prim.Native.Nat.{_≤_};
-ghost use lib.ListN.{length};
-ghost use Rattle.listing.specs.Puts.{Wrote};
-ghost use Rattle.lister.specs.Text.{printed};
+ghost use mathlib.Core.Path.{_≡_};
+ghost use Prim.Native.Nat.{_+_, _≤_};
+ghost use lib.ListN.{length, take};
+ghost use Rattle.listing.specs.Lines.{inputLimit, listerSheetLimit, listerTextLimit, listerText};
 use format::Answer;
-use listing::Told;
+use listing::Printed;
 
-// The text for an input, over the front of out where it fits; its length either way. No
-// text is longer than 262,144 bytes.
-fn text_of(file: &[u8], sheet: &mut [u8], out: &mut [u8]) -> usize
-    requires { ⌜ length (now sheet) ≤ 49152 ⌝ }
-    ensures { λ r. ⌜ Wrote (printed (now (file .entry)) (now (sheet .entry))) (now (out .entry)) r (now (out .exit)) × (r ≤ 262144) ⌝ }
+// "at most 16,384 bytes, else prints `too long`"
+const INPUT_LIMIT: usize = 16384;
+
+// The text for the n bytes that were read to the front of input, over the front of out;
+// its length. What input has room for beyond the limit tells that there was more.
+fn text_of(input: &[u8], n: usize, sheet: &mut [u8], out: &mut [u8]) -> usize
+    requires { ⌜ (length (now input) ≡ inputLimit + 1) × (n ≤ length (now input)) × (length (now sheet) ≡ listerSheetLimit) × (length (now out) ≡ listerTextLimit) ⌝ }
+    ensures { λ r. ⌜ (r ≤ listerTextLimit) × (take r (now (out .exit)) ≡ listerText (take n (now (input .entry)))) ⌝ }
 {
-    if 16384 < file.len() {
-        return listing::list(Told::TooLong, &file[0..0], out);
+    let file = &input[..n];
+    if INPUT_LIMIT < n {
+        return listing::list(Printed::TooLong, b"", out);
     }
     let a = read::read(file, sheet);
     match a {
         Answer::Refused { number, place } => {
-            listing::list(Told::Refused { number, place }, &file[0..0], out)
+            listing::list(Printed::Refused { number, place }, b"", out)
         }
         Answer::Done {
             bytes,
             records: _,
             version,
-        } => listing::list(Told::Sheet { version }, &sheet[..bytes], out),
+        } => listing::list(Printed::Sheet { version }, &sheet[..bytes], out),
     }
 }
 
@@ -33,6 +37,6 @@ fn main() {
     let n = io::read_full(0, &mut input);
     let mut sheet = [0u8; 49152];
     let mut out = [0u8; 262144];
-    let size = text_of(&input[..n], &mut sheet, &mut out);
+    let size = text_of(&input, n, &mut sheet, &mut out);
     io::write_all(1, &out[..size]);
 }

@@ -5,7 +5,8 @@ use Prim.Native.Nat.{ℕ, _+_, _-_, _*_, _≤_, _<_}
 use native.Mathlib.Omega.{arith}
 use lib.ListN.{length, length-append}
 use Rattle.format.specs.State.{Record, leg, station, section, error}
-use Rattle.format.specs.Sheet.{layout, GoodPoint, GoodDimensions, GoodTraverse, GoodDated, WellFormed}
+use Rattle.format.specs.Sheet.{sheetVersion, layout}
+use Rattle.format.specs.WellFormed.{GoodPoint, GoodDimensions, GoodTraverse, GoodDated, WellFormed}
 use Rattle.format.specs.declared.Point.{Point}
 use Rattle.format.specs.declared.Dimensions.{Dimensions}
 use Rattle.format.specs.declared.Traverse.{Traverse}
@@ -93,24 +94,24 @@ leg-few flags style date hf hs g =
     let c = date-few date g in
     simp length-append (omega arith)
 
-pub record-short : (r : Record) → WellFormed r → length (recordLine r) ≤ 4 * length (layout r)
+pub record-short : (r : Record) → WellFormed r → length (recordLine r) ≤ 4 * length (layout sheetVersion r)
 unfolding legWord stationWord sectionWord errorWord
-record-short (leg flags style date from to label) g =
-    let a = leg-few flags style date (g .flags-fit) (g .style-fits) (g .date-fits) in
-    let b = point-few from (g .from-fits) in
-    let c = point-few to (g .to-fits) in
+record-short (leg g label) w =
+    let a = leg-few (g .flags) (g .style) (g .date) (w .flags-fit) (w .style-fits) (w .date-fits) in
+    let b = point-few (g .from) (w .from-fits) in
+    let c = point-few (g .to) (w .to-fits) in
     let d = text-few label in
-    rw (← leg-parts flags style date from to label) (simp length-append (omega (arith, layout-leg flags style date from to label)))
-record-short (station flags p label) g =
-    let a = digits-few 2 flags (omega (arith, g .flags-fit)) in
-    let b = point-few p (g .place-fits) in
+    rw (← leg-parts g label) (simp length-append (omega (arith, layout-leg g label)))
+record-short (station s label) w =
+    let a = digits-few 2 (s .flags) (omega (arith, w .flags-fit)) in
+    let b = point-few (s .place) (w .place-fits) in
     let c = text-few label in
-    rw (← station-parts p label {n = flags} {flags = flags} refl) (simp length-append (omega (arith, layout-station flags p label)))
-record-short (section last d label) g =
-    let a = digits-few 0 last (omega (arith, g .last-fits)) in
-    let b = dimensions-few d (g .dimensions-fit) in
+    rw (← station-parts s label {n = s .flags} refl) (simp length-append (omega (arith, layout-station s label)))
+record-short (section s label) w =
+    let a = digits-few 0 (s .last) (omega (arith, w .last-fits)) in
+    let b = dimensions-few (s .size) (w .dimensions-fit) in
     let c = text-few label in
-    rw (← section-parts d label {n = last} {last = last} refl) (simp length-append (omega (arith, layout-section last d label)))
+    rw (← section-parts s label {n = s .last} refl) (simp length-append (omega (arith, layout-section s label)))
 record-short (error t) g =
     let a = traverse-few t g in
     rw (← error-parts t) (simp length-append (omega (arith, layout-error t)))

@@ -7,6 +7,9 @@ use Rattle.format.specs.Header.{Header}
 use Rattle.format.specs.declared.Point.{Point}
 use Rattle.format.specs.declared.Dimensions.{Dimensions}
 use Rattle.format.specs.declared.Traverse.{Traverse}
+use Rattle.format.specs.declared.Leg.{Leg}
+use Rattle.format.specs.declared.Station.{Station}
+use Rattle.format.specs.declared.Section.{Section}
 use Rattle.format.specs.declared.Dated.{Dated}
 use Rattle.listing.specs.Text.{decimalText, signedText, textOf, spaced, line}
 use Rattle.listing.specs.Lines.{versionWord, titleWord, timeWord, extendedWord, stationWord, legWord, sectionWord, errorWord, endWord, refusedWord, atWord, dateText, pointWords, dimensionWords, traverseWords, legLine, stationLine, sectionLine, errorLine, headerLine, endLine, refusalLine}
@@ -41,23 +44,23 @@ leg-join : (w f s d x y z x′ y′ z′ t e : List ℕ)
     ≡ w ++ ((f ++ (s ++ (d ++ (x ++ (y ++ (z ++ (x′ ++ (y′ ++ (z′ ++ (t ++ [])))))))))) ++ e)
 leg-join w f s d x y z x′ y′ z′ t e = simp (append-assoc, append-nil)
 
-pub leg-parts : (flags style : ℕ) (date : Dated) (from to : Point) (label : List ℕ)
-    → legFront flags style date ++ spaced (pointWords from) ++ spaced (pointWords to) ++ lastName label ≡ legLine flags style date from to label
+pub leg-parts : (g : Leg) (label : List ℕ)
+    → legFront (g .flags) (g .style) (g .date) ++ spaced (pointWords (g .from)) ++ spaced (pointWords (g .to)) ++ lastName label ≡ legLine g label
 unfolding legLine line spaced
-leg-parts flags style date from to label =
-    leg-join legWord (word (decimalText flags)) (word (decimalText style)) (word (dateText date))
-    (word (signedText (from .x))) (word (signedText (from .y))) (word (signedText (from .z)))
-    (word (signedText (to .x))) (word (signedText (to .y))) (word (signedText (to .z))) (word (textOf label)) (10 ∷ [])
+leg-parts g label =
+    leg-join legWord (word (decimalText (g .flags))) (word (decimalText (g .style))) (word (dateText (g .date)))
+    (word (signedText (g .from .x))) (word (signedText (g .from .y))) (word (signedText (g .from .z)))
+    (word (signedText (g .to .x))) (word (signedText (g .to .y))) (word (signedText (g .to .z))) (word (textOf label)) (10 ∷ [])
 
-pub station-parts : (p : Point) (label : List ℕ) {n flags : ℕ} → n ≡ flags
-    → stationWord ++ number n ++ spaced (pointWords p) ++ lastName label ≡ stationLine flags p label
+pub station-parts : (s : Station) (label : List ℕ) {n : ℕ} → n ≡ s .flags
+    → stationWord ++ number n ++ spaced (pointWords (s .place)) ++ lastName label ≡ stationLine s label
 unfolding stationLine line spaced
-station-parts p label e = simp (e, append-assoc, append-nil)
+station-parts s label e = simp (e, append-assoc, append-nil)
 
-pub section-parts : (d : Dimensions) (label : List ℕ) {n last : ℕ} → n ≡ last
-    → sectionWord ++ number n ++ spaced (dimensionWords d) ++ lastName label ≡ sectionLine last d label
+pub section-parts : (s : Section) (label : List ℕ) {n : ℕ} → n ≡ s .last
+    → sectionWord ++ number n ++ spaced (dimensionWords (s .size)) ++ lastName label ≡ sectionLine s label
 unfolding sectionLine line spaced
-section-parts d label e = simp (e, append-assoc, append-nil)
+section-parts s label e = simp (e, append-assoc, append-nil)
 
 pub error-parts : (t : Traverse) → errorWord ++ spaced (traverseWords t) ++ (10 ∷ []) ≡ errorLine t
 unfolding errorLine line

@@ -7,7 +7,7 @@ use native.Mathlib.Numerals.{add-one}
 use native.Mathlib.Omega.{arith}
 use borrow.Author.Tests.{lt-ltb, le-ltb}
 use lib.ListN.{length, take, drop, getD, set, length-append}
-use lib.Seq.{sets, sets-eq, length-sets, set-out, take-suc}
+use lib.Seq.{sets, sets-eq, length-sets, set-out, take-at, take-suc}
 use Rattle.format.specs.Bytes.{pick, over}
 use Rattle.listing.specs.Puts.{fitted, Wrote, Put}
 
@@ -94,3 +94,10 @@ module _ (text d part x : List ℕ) {m n : ℕ} (e : length part ≡ 0) (p : Put
 
   pub line-fits : {r : ℕ} {new : List ℕ} → n ≤ length (x ++ d) → Put m text (x ++ d) 0 r new → Wrote text d r new × (r ≤ m)
   line-fits h q = (wrote-all text d size (rw still at h) (rw still at q), omega (arith, q .few))
+
+-- a text that fits stands at the front
+pub wrote-front : (text old new : List ℕ) (r : ℕ) → Wrote text old r new → r ≤ length old → take r new ≡ text
+unfolding fitted over pick
+wrote-front text old new r W h =
+    let z : length text ≤ length old = omega (arith, W .size) in
+    rw (W .holds, W .size, le-ltb (length old) (length text) z) (take-at text (drop (length text) old) (length text) refl)

@@ -1,4 +1,4 @@
 pub mod Text
 pub mod Lines
 pub mod Puts
-pub mod Told
+pub mod Printed

@@ -1,19 +1,25 @@
 -- The lines of the lister, document 01, "Cases at the edges", the lister: "Fields: ..", and what it prints for an input. Assumes nothing.
-use Prim.Native.Nat.{ℕ, _+_}
+use Prim.Native.Nat.{ℕ, _+_, _^_}
 use mathlib.Core.List.{List, [], _∷_, _++_}
 use lib.ListN.{length}
 use lib.Dec.{ltb}
 use Rattle.format.specs.Bytes.{pick}
 use Rattle.format.specs.Header.{Header, Opening, shut, opened, openingOf}
 use Rattle.format.specs.State.{Record, leg, station, section, error}
-use Rattle.format.specs.Sheet.{Entry, flawed, entry, goodFront, frontHeader, sheetResult}
-use Rattle.format.specs.Reading.{Outcome, accepted, refused, itemsOf, readFrom}
+use Rattle.format.specs.Sheet.{frontHeader, sheetResult}
+use Rattle.format.specs.Reading.{itemsOf, readFrom}
+use Rattle.format.specs.Refusals.{Outcome, accepted, refused}
 use Rattle.format.specs.declared.Point.{Point}
 use Rattle.format.specs.declared.Dimensions.{Dimensions}
 use Rattle.format.specs.declared.Traverse.{Traverse}
+use Rattle.format.specs.declared.Leg.{Leg}
+use Rattle.format.specs.declared.Station.{Station}
+use Rattle.format.specs.declared.Section.{Section}
+use Rattle.format.specs.declared.Verdict.{Verdict}
+use Rattle.format.specs.declared.Verdict.the-variants.{Good, Refusal}
 use Rattle.format.specs.declared.Dated.{Dated}
 use Rattle.format.specs.declared.Dated.the-variants.{Undated, Day, Range}
-use Rattle.listing.specs.Text.{decimalText, signedText, textOf, spaced, line}
+use Rattle.listing.specs.Text.{decimalText, signedText, textOf, line}
 
 -- ---- the words
 
@@ -76,26 +82,26 @@ abbrev pub traverseWords : Traverse → List (List ℕ)
 traverseWords t = signedText (t .legs) ∷ signedText (t .total) ∷ signedText (t .e) ∷ signedText (t .h) ∷ signedText (t .v) ∷ []
 
 -- "leg flags, style, date (`none`, day, or day-day), from, to, survey"
-unfoldable pub legLine : ℕ → ℕ → Dated → Point → Point → List ℕ → List ℕ
-legLine flags style date from to label =
-    line legWord (decimalText flags ∷ decimalText style ∷ dateText date ∷ (pointWords from ++ (pointWords to ++ textOf label ∷ [])))
+unfoldable pub legLine : Leg → List ℕ → List ℕ
+legLine g label =
+    line legWord (decimalText (g .flags) ∷ decimalText (g .style) ∷ dateText (g .date) ∷ (pointWords (g .from) ++ (pointWords (g .to) ++ textOf label ∷ [])))
 
 -- "station flags, x y z, name"
-unfoldable pub stationLine : ℕ → Point → List ℕ → List ℕ
-stationLine flags p label = line stationWord (decimalText flags ∷ (pointWords p ++ textOf label ∷ []))
+unfoldable pub stationLine : Station → List ℕ → List ℕ
+stationLine s label = line stationWord (decimalText (s .flags) ∷ (pointWords (s .place) ++ textOf label ∷ []))
 
 -- "`xsect` last, L R U D, name"
-unfoldable pub sectionLine : ℕ → Dimensions → List ℕ → List ℕ
-sectionLine last d label = line sectionWord (decimalText last ∷ (dimensionWords d ++ textOf label ∷ []))
+unfoldable pub sectionLine : Section → List ℕ → List ℕ
+sectionLine s label = line sectionWord (decimalText (s .last) ∷ (dimensionWords (s .size) ++ textOf label ∷ []))
 
 -- "`error` and five numbers"
 unfoldable pub errorLine : Traverse → List ℕ
 errorLine t = line errorWord (traverseWords t)
 
 abbrev pub recordLine : Record → List ℕ
-recordLine (leg flags style date from to label) = legLine flags style date from to label
-recordLine (station flags p label) = stationLine flags p label
-recordLine (section last d label) = sectionLine last d label
+recordLine (leg g label) = legLine g label
+recordLine (station s label) = stationLine s label
+recordLine (section s label) = sectionLine s label
 recordLine (error t) = errorLine t
 
 -- `version 8 title A time @0 extended 0`
@@ -128,21 +134,36 @@ restOf n rs = recordLines rs ++ endLine (n + length rs)
 unfoldable pub listingOf : ℕ → Header → List Record → List ℕ
 listingOf version h rs = headerLine version h ++ restOf 0 rs
 
--- the same of a sheet's bytes: its header and the records up to where it breaks the layout; nothing where its front does
+-- a sheet of so many bytes or more prints `too long`: the library's own limit, above any memory, so that no count of its lines' bytes wraps
+abbrev pub listingLimit : ℕ
+listingLimit = 2 ^ 55
+
+-- the listing of a sheet's bytes on which the writer has that verdict: "A refusal prints only `refused N at P`"; 12, "sheet breaks the layout"
+abbrev pub judgedListing : Verdict → ℕ → List ℕ → List ℕ
+judgedListing Good version sheet = listingOf version (frontHeader sheet) (sheetResult sheet .records)
+judgedListing (Refusal n p) version sheet = refusalLine n p
+
 unfoldable pub sheetListing : ℕ → List ℕ → List ℕ
-sheetListing version sheet = pick (goodFront sheet) (listingOf version (frontHeader sheet) (sheetResult sheet .records)) []
+sheetListing version sheet = pick (ltb (length sheet) listingLimit) (judgedListing (sheetResult sheet .verdict) version sheet) tooLongLine
 
--- ---- what the lister prints for an input: "A refusal prints only `refused N at P`; a sheet over 49,152 bytes gives 11"
+-- ---- what the lister prints for an input
 
+-- "The lister reads standard input, at most 16,384 bytes"
 abbrev pub inputLimit : ℕ
 inputLimit = 16384
 
-abbrev pub sheetLimit : ℕ
-sheetLimit = 49152
+-- "a sheet over 49,152 bytes gives 11"
+abbrev pub listerSheetLimit : ℕ
+listerSheetLimit = 49152
 
-abbrev pub printed : Outcome → List ℕ → List ℕ
-printed (refused n p) text = refusalLine n p
-printed (accepted bytes records version) text = text
+-- no text of the lister's is longer: a line takes at most four times the bytes of its record
+abbrev pub listerTextLimit : ℕ
+listerTextLimit = 262144
+
+-- what is printed after an answer: "A refusal prints only `refused N at P`"
+abbrev pub outcomeText : Outcome → List ℕ → List ℕ
+outcomeText (refused n p) text = refusalLine n p
+outcomeText (accepted bytes records version) text = text
 
 abbrev pub listingFrom : Opening → List ℕ → List ℕ
 listingFrom (shut n p) file = []
@@ -151,4 +172,4 @@ listingFrom (opened version place h) file = listingOf version h (itemsOf version
 -- "The lister reads standard input, at most 16,384 bytes, else prints `too long`"
 unfoldable pub listerText : List ℕ → List ℕ
 listerText input =
-    pick (ltb inputLimit (length input)) tooLongLine (printed (readFrom (openingOf input) input sheetLimit) (listingFrom (openingOf input) input))
+    pick (ltb inputLimit (length input)) tooLongLine (outcomeText (readFrom (openingOf input) input listerSheetLimit) (listingFrom (openingOf input) input))

@@ -4,8 +4,12 @@
 use format::Dated;
 use format::Dimensions;
 use format::Fields;
+use format::Leg;
 use format::Point;
+use format::Section;
+use format::Station;
 use format::Traverse;
+use format::Verdict;
 use number::index;
 use sheet::Entry;
 use sheet::Front;
@@ -17,17 +21,24 @@ ghost use mathlib.Core.List.{[], _∷_, _++_};
 ghost use Prim.Native.Nat.{ℕ, _+_, _*_, _^_, _≤_, _<_};
 ghost use lib.ListN.{length, drop};
 ghost use Rattle.listing.specs.Text.{decimalText, signedText, hexDigit, plain, escapedByte, escaped, textOf, spaced};
-ghost use Rattle.listing.specs.Lines.{legWord, versionWord, titleWord, dateText, pointWords, dimensionWords, traverseWords, legLine, stationLine, sectionLine, errorLine, recordLine, headerLine, endLine, refusalLine, tooLongLine, restOf, sheetListing};
+ghost use Rattle.listing.specs.Lines.{legWord, versionWord, titleWord, dateText, pointWords, dimensionWords, traverseWords, legLine, stationLine, sectionLine, errorLine, recordLine, headerLine, endLine, refusalLine, tooLongLine, restOf, listingOf, sheetListing, listingLimit};
 ghost use Rattle.listing.specs.Puts.{Put, Wrote, lineLimit};
-ghost use Rattle.listing.specs.Told.{toldText, toldLimit};
+ghost use Rattle.listing.specs.Printed.{printedText, printedLimit};
 ghost use Rattle.format.specs.Fields.{recordOf};
-ghost use Rattle.format.specs.Sheet.{recordsOf};
+ghost use Rattle.format.specs.Sheet.{sheetVersion, recordsOf, frontHeader, sheetResult};
+ghost use Rattle.format.specs.declared.Verdict.the-variants.{Good};
 ghost use Rattle.format.specs.Label.{labelLimit};
 ghost use Rattle.format.specs.Header.{titleLimit, timeLimit};
 
+// A sheet of so many bytes or more is not listed: its lines might not be counted.
+const LISTING_LIMIT: usize = 36028797018963968;
+
+// "sheet breaks the layout"
+const LAYOUT_BROKEN: u8 = 12;
+
 // What is to be printed: that the input is too long; a refusal; or a sheet, read from a
 // file of that version.
-pub enum Told {
+pub enum Printed {
     TooLong,
     Refused { number: u8, place: usize },
     Sheet { version: u8 },
@@ -80,7 +91,7 @@ fn signed(out: &mut [u8], at: usize, n: u32) -> usize
     if size < 2147483648 {
         return decimal(out, at, size);
     }
-    let k = put(out, at, 45);
+    let k = put(out, at, b'-');
     decimal(out, k, 4294967296 - size)
 }
 
@@ -105,7 +116,7 @@ fn is_plain(b: u8) -> bool
     if 126 < b {
         return false;
     }
-    b != 37
+    b != b'%'
 }
 
 // Puts a byte of text.
@@ -116,14 +127,14 @@ fn text_byte(out: &mut [u8], at: usize, b: u8) -> usize
     if is_plain(b) {
         return put(out, at, b);
     }
-    let k = put(out, at, 37);
+    let k = put(out, at, b'%');
     let k = put(out, k, hex(b / 16));
     put(out, k, hex(b % 16))
 }
 
 // Puts the bytes of text.
 fn escape(out: &mut [u8], at: usize, s: &[u8]) -> usize
-    requires { ⌜ (at < 2 ^ 61) × (length (now s) ≤ 4096) ⌝ }
+    requires { ⌜ (at < 2 ^ 61) × (length (now s) ≤ labelLimit) ⌝ }
     ensures { λ r. ⌜ Put (3 * length (now (s .entry))) (escaped (now (s .entry))) (now (out .entry)) at r (now (out .exit)) ⌝ }
 {
     let mut k = at;
@@ -137,11 +148,11 @@ fn escape(out: &mut [u8], at: usize, s: &[u8]) -> usize
 
 // Puts text; empty text is `-`.
 fn text(out: &mut [u8], at: usize, s: &[u8]) -> usize
-    requires { ⌜ (at < 2 ^ 61) × (length (now s) ≤ 4096) ⌝ }
+    requires { ⌜ (at < 2 ^ 61) × (length (now s) ≤ labelLimit) ⌝ }
     ensures { λ r. ⌜ Put (64 + 3 * length (now (s .entry))) (textOf (now (s .entry))) (now (out .entry)) at r (now (out .exit)) ⌝ }
 {
     if s.len() == 0 {
-        return put(out, at, 45);
+        return put(out, at, b'-');
     }
     if same_bytes(s, b"-") {
         return word(out, at, b"%2d");
@@ -154,7 +165,7 @@ fn number(out: &mut [u8], at: usize, n: usize) -> usize
     requires { ⌜ at < 2 ^ 61 ⌝ }
     ensures { λ r. ⌜ Put 21 (32 ∷ decimalText n) (now (out .entry)) at r (now (out .exit)) ⌝ }
 {
-    let k = put(out, at, 32);
+    let k = put(out, at, b' ');
     decimal(out, k, n)
 }
 
@@ -163,16 +174,16 @@ fn signed_number(out: &mut [u8], at: usize, n: u32) -> usize
     requires { ⌜ at < 2 ^ 60 ⌝ }
     ensures { λ r. ⌜ Put 22 (32 ∷ signedText n) (now (out .entry)) at r (now (out .exit)) ⌝ }
 {
-    let k = put(out, at, 32);
+    let k = put(out, at, b' ');
     signed(out, k, n)
 }
 
 // Puts a space and text.
 fn name(out: &mut [u8], at: usize, s: &[u8]) -> usize
-    requires { ⌜ (at < 2 ^ 60) × (length (now s) ≤ 4096) ⌝ }
+    requires { ⌜ (at < 2 ^ 60) × (length (now s) ≤ labelLimit) ⌝ }
     ensures { λ r. ⌜ Put (65 + 3 * length (now (s .entry))) (32 ∷ textOf (now (s .entry))) (now (out .entry)) at r (now (out .exit)) ⌝ }
 {
-    let k = put(out, at, 32);
+    let k = put(out, at, b' ');
     text(out, k, s)
 }
 
@@ -186,7 +197,7 @@ fn date(out: &mut [u8], at: usize, d: Dated) -> usize
         Dated::Day { day } => number(out, at, day as usize),
         Dated::Range { first, last } => {
             let k = number(out, at, first as usize);
-            let k = put(out, k, 45);
+            let k = put(out, k, b'-');
             decimal(out, k, last as usize)
         }
     }
@@ -227,11 +238,11 @@ fn traverse(out: &mut [u8], at: usize, t: Traverse) -> usize
 
 // Puts a space, text and a linefeed.
 fn last_name(out: &mut [u8], at: usize, s: &[u8]) -> usize
-    requires { ⌜ (at < 2 ^ 59) × (length (now s) ≤ 4096) ⌝ }
+    requires { ⌜ (at < 2 ^ 59) × (length (now s) ≤ labelLimit) ⌝ }
     ensures { λ r. ⌜ Put 12354 (32 ∷ (textOf (now (s .entry)) ++ 10 ∷ [])) (now (out .entry)) at r (now (out .exit)) ⌝ }
 {
     let k = name(out, at, s);
-    put(out, k, 10)
+    put(out, k, b'\n')
 }
 
 // Puts a space, a number and a linefeed.
@@ -240,7 +251,7 @@ fn last_number(out: &mut [u8], at: usize, n: usize) -> usize
     ensures { λ r. ⌜ Put 22 (32 ∷ (decimalText n ++ 10 ∷ [])) (now (out .entry)) at r (now (out .exit)) ⌝ }
 {
     let k = number(out, at, n);
-    put(out, k, 10)
+    put(out, k, b'\n')
 }
 
 // Puts a leg's line up to its date.
@@ -255,60 +266,52 @@ fn leg_front(out: &mut [u8], at: usize, flags: u8, style: u8, day: Dated) -> usi
 }
 
 // Puts a leg's line.
-fn leg(
-    out: &mut [u8],
-    at: usize,
-    flags: u8,
-    style: u8,
-    day: Dated,
-    from: Point,
-    to: Point,
-    label: &[u8],
-) -> usize
-    requires { ⌜ (at < 2 ^ 58) × (length (now label) ≤ 4096) ⌝ }
-    ensures { λ r. ⌜ Put lineLimit (legLine flags style day from to (now (label .entry))) (now (out .entry)) at r (now (out .exit)) ⌝ }
+fn leg_line(out: &mut [u8], at: usize, leg: Leg, label: &[u8]) -> usize
+    requires { ⌜ (at < 2 ^ 58) × (length (now label) ≤ labelLimit) ⌝ }
+    ensures { λ r. ⌜ Put lineLimit (legLine leg (now (label .entry))) (now (out .entry)) at r (now (out .exit)) ⌝ }
 {
-    let k = leg_front(out, at, flags, style, day);
-    let k = point(out, k, from);
-    let k = point(out, k, to);
+    let day = leg.date;
+    let k = leg_front(out, at, leg.flags, leg.style, day);
+    let k = point(out, k, leg.from);
+    let k = point(out, k, leg.to);
     last_name(out, k, label)
 }
 
 // Puts a station's line.
-fn station(out: &mut [u8], at: usize, flags: u8, place: Point, label: &[u8]) -> usize
-    requires { ⌜ (at < 2 ^ 58) × (length (now label) ≤ 4096) ⌝ }
-    ensures { λ r. ⌜ Put lineLimit (stationLine flags place (now (label .entry))) (now (out .entry)) at r (now (out .exit)) ⌝ }
+fn station_line(out: &mut [u8], at: usize, station: Station, label: &[u8]) -> usize
+    requires { ⌜ (at < 2 ^ 58) × (length (now label) ≤ labelLimit) ⌝ }
+    ensures { λ r. ⌜ Put lineLimit (stationLine station (now (label .entry))) (now (out .entry)) at r (now (out .exit)) ⌝ }
 {
     let k = word(out, at, b"station");
-    let k = number(out, k, index(flags));
-    let k = point(out, k, place);
+    let k = number(out, k, index(station.flags));
+    let k = point(out, k, station.place);
     last_name(out, k, label)
 }
 
 // Puts a cross-section's line.
-fn section(out: &mut [u8], at: usize, last: u8, size: Dimensions, label: &[u8]) -> usize
-    requires { ⌜ (at < 2 ^ 58) × (length (now label) ≤ 4096) ⌝ }
-    ensures { λ r. ⌜ Put lineLimit (sectionLine last size (now (label .entry))) (now (out .entry)) at r (now (out .exit)) ⌝ }
+fn section_line(out: &mut [u8], at: usize, section: Section, label: &[u8]) -> usize
+    requires { ⌜ (at < 2 ^ 58) × (length (now label) ≤ labelLimit) ⌝ }
+    ensures { λ r. ⌜ Put lineLimit (sectionLine section (now (label .entry))) (now (out .entry)) at r (now (out .exit)) ⌝ }
 {
     let k = word(out, at, b"xsect");
-    let k = number(out, k, index(last));
-    let k = dimensions(out, k, size);
+    let k = number(out, k, index(section.last));
+    let k = dimensions(out, k, section.size);
     last_name(out, k, label)
 }
 
 // Puts a traverse error's line.
-fn error(out: &mut [u8], at: usize, t: Traverse) -> usize
+fn error_line(out: &mut [u8], at: usize, t: Traverse) -> usize
     requires { ⌜ at < 2 ^ 58 ⌝ }
     ensures { λ r. ⌜ Put lineLimit (errorLine t) (now (out .entry)) at r (now (out .exit)) ⌝ }
 {
     let k = word(out, at, b"error");
     let k = traverse(out, k, t);
-    put(out, k, 10)
+    put(out, k, b'\n')
 }
 
 // Puts a record's line.
 fn record_line(out: &mut [u8], at: usize, fields: Fields, label: &[u8]) -> usize
-    requires { ⌜ (at < 2 ^ 58) × (length (now label) ≤ 4096) ⌝ }
+    requires { ⌜ (at < 2 ^ 58) × (length (now label) ≤ labelLimit) ⌝ }
     ensures { λ r. ⌜ Put lineLimit (recordLine (recordOf fields (now (label .entry)))) (now (out .entry)) at r (now (out .exit)) ⌝ }
 {
     match fields {
@@ -318,16 +321,25 @@ fn record_line(out: &mut [u8], at: usize, fields: Fields, label: &[u8]) -> usize
             date: day,
             from,
             to,
-        } => leg(out, at, flags, style, day, from, to, label),
-        Fields::Station { flags, place } => station(out, at, flags, place, label),
-        Fields::Section { last, size } => section(out, at, last, size, label),
-        Fields::Error { traverse: t } => error(out, at, t),
+        } => {
+            let leg = Leg {
+                flags,
+                style,
+                date: day,
+                from,
+                to,
+            };
+            leg_line(out, at, leg, label)
+        }
+        Fields::Station { station } => station_line(out, at, station, label),
+        Fields::Section { section } => section_line(out, at, section, label),
+        Fields::Error { traverse: t } => error_line(out, at, t),
     }
 }
 
 // Puts the header's line up to its time.
 fn header_front(out: &mut [u8], at: usize, version: u8, title: &[u8]) -> usize
-    requires { ⌜ (at < 2 ^ 59) × (length (now title) ≤ 4096) ⌝ }
+    requires { ⌜ (at < 2 ^ 59) × (length (now title) ≤ titleLimit) ⌝ }
     ensures { λ r. ⌜ Put 12502 (versionWord ++ spaced (decimalText version ∷ titleWord ∷ textOf (now (title .entry)) ∷ [])) (now (out .entry)) at r (now (out .exit)) ⌝ }
 {
     let k = word(out, at, b"version");
@@ -345,7 +357,7 @@ fn header_line(
     title: &[u8],
     time: &[u8],
 ) -> usize
-    requires { ⌜ (at < 2 ^ 58) × (length (now title) ≤ 4096) × (length (now time) ≤ 64) ⌝ }
+    requires { ⌜ (at < 2 ^ 58) × (length (now title) ≤ titleLimit) × (length (now time) ≤ timeLimit) ⌝ }
     ensures { λ r. ⌜ Put lineLimit (headerLine version (record { extended = extended; title = now (title .entry); time = now (time .entry) })) (now (out .entry)) at r (now (out .exit)) ⌝ }
 {
     let k = header_front(out, at, version, title);
@@ -377,8 +389,8 @@ fn refusal_line(out: &mut [u8], at: usize, refused: u8, place: usize) -> usize
 
 // Puts the lines of the records from a place of the sheet on, and the last line.
 fn rest_lines(sheet: &[u8], from: usize, out: &mut [u8], begin: usize) -> usize
-    requires { ⌜ (from ≤ length (now sheet)) × (length (now sheet) < 2 ^ 55) × (begin ≤ lineLimit) ⌝ }
-    ensures { λ r. ⌜ Put (4 * length (now (sheet .entry)) + lineLimit) (restOf 0 (recordsOf (drop from (now (sheet .entry))) .records)) (now (out .entry)) begin r (now (out .exit)) ⌝ }
+    requires { ⌜ (from ≤ length (now sheet)) × (length (now sheet) < listingLimit) × (begin ≤ lineLimit) ⌝ }
+    ensures { λ r. ⌜ Put (4 * length (now (sheet .entry)) + lineLimit) (restOf 0 (recordsOf sheetVersion (drop from (now (sheet .entry))) .records)) (now (out .entry)) begin r (now (out .exit)) ⌝ }
 {
     let mut at = from;
     let mut k = begin;
@@ -403,10 +415,59 @@ fn rest_lines(sheet: &[u8], from: usize, out: &mut [u8], begin: usize) -> usize
     }
 }
 
-// Puts the lines of a sheet.
+// What the writer says of the records from a place of the sheet on.
+fn records_verdict(sheet: &[u8], from: usize) -> Verdict
+    requires { ⌜ from ≤ length (now sheet) ⌝ }
+    ensures { λ r. ⌜ r ≡ recordsOf sheetVersion (drop from (now (sheet .entry))) .verdict ⌝ }
+{
+    let mut at = from;
+    let mut record: usize = 0;
+    loop {
+        if at == sheet.len() {
+            return Verdict::Good;
+        }
+        let found = read_entry(&sheet[at..]);
+        match found {
+            Entry::Flawed => {
+                return Verdict::Refusal {
+                    number: LAYOUT_BROKEN,
+                    place: record,
+                };
+            }
+            Entry::Whole {
+                size,
+                fields: _,
+                from: _,
+            } => {
+                record += 1;
+                at += size;
+            }
+        }
+    }
+}
+
+// What the writer says of a sheet: 12 where it breaks the layout.
+fn sheet_verdict(sheet: &[u8]) -> Verdict
+    ensures { λ r. ⌜ r ≡ sheetResult (now (sheet .entry)) .verdict ⌝ }
+{
+    let front = read_front(sheet);
+    match front {
+        Front::Flawed => Verdict::Refusal {
+            number: LAYOUT_BROKEN,
+            place: 0,
+        },
+        Front::Whole {
+            extended: _,
+            title,
+            time,
+        } => records_verdict(sheet, 7 + title + time),
+    }
+}
+
+// Puts the lines of a sheet that keeps the layout.
 fn sheet_lines(sheet: &[u8], version: u8, out: &mut [u8]) -> usize
-    requires { ⌜ length (now sheet) < 2 ^ 55 ⌝ }
-    ensures { λ r. ⌜ Put (4 * length (now (sheet .entry)) + 2 * lineLimit) (sheetListing version (now (sheet .entry))) (now (out .entry)) 0 r (now (out .exit)) ⌝ }
+    requires { ⌜ (length (now sheet) < listingLimit) × (sheetResult (now sheet) .verdict ≡ Good) ⌝ }
+    ensures { λ r. ⌜ Put (4 * length (now (sheet .entry)) + 2 * lineLimit) (listingOf version (frontHeader (now (sheet .entry))) (sheetResult (now (sheet .entry)) .records)) (now (out .entry)) 0 r (now (out .exit)) ⌝ }
 {
     let front = read_front(sheet);
     match front {
@@ -431,11 +492,11 @@ fn sheet_lines(sheet: &[u8], version: u8, out: &mut [u8]) -> usize
     }
 }
 
-// Writes the listing of a sheet, read from a file of that version, over the front of out
-// where it fits, and answers its length either way.
-fn list_sheet(sheet: &[u8], version: u8, out: &mut [u8]) -> usize
-    requires { ⌜ length (now sheet) < 2 ^ 55 ⌝ }
-    ensures { λ r. ⌜ Wrote (sheetListing version (now (sheet .entry))) (now (out .entry)) r (now (out .exit)) × (r ≤ 4 * length (now (sheet .entry)) + 2 * lineLimit) ⌝ }
+// Writes the lines of a sheet that keeps the layout, read from a file of that version,
+// over the front of out where they fit, and answers their length either way.
+fn list_lines(sheet: &[u8], version: u8, out: &mut [u8]) -> usize
+    requires { ⌜ (length (now sheet) < listingLimit) × (sheetResult (now sheet) .verdict ≡ Good) ⌝ }
+    ensures { λ r. ⌜ Wrote (listingOf version (frontHeader (now (sheet .entry))) (sheetResult (now (sheet .entry)) .records)) (now (out .entry)) r (now (out .exit)) × (r ≤ 4 * length (now (sheet .entry)) + 2 * lineLimit) ⌝ }
 {
     let size = sheet_lines(sheet, version, &mut out[0..0]);
     if out.len() < size {
@@ -446,7 +507,7 @@ fn list_sheet(sheet: &[u8], version: u8, out: &mut [u8]) -> usize
 
 // Writes a refusal's line over the front of out where it fits, and answers its length
 // either way. It stands alone.
-fn put_refusal(out: &mut [u8], refused: u8, place: usize) -> usize
+fn list_refusal(out: &mut [u8], refused: u8, place: usize) -> usize
     ensures { λ r. ⌜ Wrote (refusalLine refused place) (now (out .entry)) r (now (out .exit)) × (r ≤ lineLimit) ⌝ }
 {
     let size = refusal_line(&mut out[0..0], 0, refused, place);
@@ -457,7 +518,7 @@ fn put_refusal(out: &mut [u8], refused: u8, place: usize) -> usize
 }
 
 // The same for an input that is too long.
-fn put_too_long(out: &mut [u8]) -> usize
+fn list_too_long(out: &mut [u8]) -> usize
     ensures { λ r. ⌜ Wrote tooLongLine (now (out .entry)) r (now (out .exit)) × (r ≤ lineLimit) ⌝ }
 {
     let text = b"too long\n";
@@ -467,14 +528,27 @@ fn put_too_long(out: &mut [u8]) -> usize
     word(out, 0, text)
 }
 
-// Writes the text over the front of out where it fits, and answers its length either way.
-pub fn list(told: Told, sheet: &[u8], out: &mut [u8]) -> usize
-    requires { ⌜ length (now sheet) < 2 ^ 55 ⌝ }
-    ensures { λ r. ⌜ Wrote (toldText told (now (sheet .entry))) (now (out .entry)) r (now (out .exit)) × (r ≤ toldLimit told (length (now (sheet .entry)))) ⌝ }
+// The same for a sheet, read from a file of that version.
+fn list_sheet(sheet: &[u8], version: u8, out: &mut [u8]) -> usize
+    ensures { λ r. ⌜ Wrote (sheetListing version (now (sheet .entry))) (now (out .entry)) r (now (out .exit)) × (r ≤ 4 * length (now (sheet .entry)) + 2 * lineLimit) ⌝ }
 {
-    match told {
-        Told::TooLong => put_too_long(out),
-        Told::Refused { number, place } => put_refusal(out, number, place),
-        Told::Sheet { version } => list_sheet(sheet, version, out),
+    if LISTING_LIMIT <= sheet.len() {
+        return list_too_long(out);
+    }
+    let verdict = sheet_verdict(sheet);
+    match verdict {
+        Verdict::Good => list_lines(sheet, version, out),
+        Verdict::Refusal { number, place } => list_refusal(out, number, place),
+    }
+}
+
+// Writes the text over the front of out where it fits, and answers its length either way.
+pub fn list(printed: Printed, sheet: &[u8], out: &mut [u8]) -> usize
+    ensures { λ r. ⌜ Wrote (printedText printed (now (sheet .entry))) (now (out .entry)) r (now (out .exit)) × (r ≤ printedLimit printed (length (now (sheet .entry)))) ⌝ }
+{
+    match printed {
+        Printed::TooLong => list_too_long(out),
+        Printed::Refused { number, place } => list_refusal(out, number, place),
+        Printed::Sheet { version } => list_sheet(sheet, version, out),
     }
 }

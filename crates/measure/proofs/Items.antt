@@ -6,17 +6,21 @@ use mathlib.Core.Bool.{Bool, true, false}
 use native.Mathlib.Omega.{arith}
 use lib.ListN.{length, getD, take, drop, length-append, length-drop}
 use lib.Seq.{length-take-le}
-use borrow.Author.Tests.{lt-ltb, le-ltb, eq-eqb, ne-eqb}
+use borrow.Author.Tests.{lt-ltb, le-ltb}
 use Rattle.format.specs.Bytes.{pick, le32}
-use Rattle.format.specs.Label.{back, tooShort, tooLong, labelled, labelStep, labelLimit}
-use Rattle.format.specs.Items.{Item, Style as styleItem, Move as moveTo, NoDate as noDateItem, Date as dateItem, Error as errorOf, Decoded, sized, part, unfinished, newPart, pointOf, itemOf}
-use Rattle.format.specs.State.{State, leg, error, named, styled, datedBy, moved, bad, dateOf, badDates, onLabel, legFrom, apply, nextOf}
+use Rattle.format.specs.Label.{labelStep, labelLimit}
+use Rattle.format.specs.declared.Cut.the-variants.{Back}
+use Rattle.format.specs.Items.{Item, Style as styleItem, Move as moveTo, NoDate as noDateItem, Date as dateItem, Error as errorOf, Decoded, sized, newPart, pointOf, itemOf}
+use Rattle.format.specs.declared.LabelPart.the-variants.{Numbers, Unfinished}
+use Rattle.format.specs.State.{State, leg, error, named, styled, datedBy, moved, bad, dateOf, onLabel, legFrom, apply, nextOf}
 use Rattle.format.specs.Reading.{next}
 use Rattle.format.specs.declared.Point.{Point}
 use Rattle.format.specs.declared.Traverse.{Traverse}
 use Rattle.format.specs.declared.Dated.the-variants.{Undated}
 use Rattle.format.specs.declared.Position.{Position}
 use Rattle.format.specs.declared.Position.the-variants.{Unset, Stands}
+use Rattle.format.proofs.LabelLaws.{step-short, step-long, step-fits, back-lacks, back-keeps}
+use Rattle.format.proofs.ApplyLaws.{style-other as style-others, style-first as style-firsts, style-end as style-ends, date-before as dates-before, date-late as dates-late, date-on as dates-on}
 use Rattle.format.proofs.SheetLaws.{layout-leg, layout-station, layout-section, layout-error}
 use Rattle.kind.specs.Kinds.{tailOf, makeOf, labelledBy, partThere, newItem}
 use Rattle.kind.specs.declared.Tail.{Tail}
@@ -36,16 +40,13 @@ module _ (k old len : ℕ) (placed : Bool) where
   restyled st K = record { label-is = K .label-is; style-is = refl; position-is = K .position-is }
 
   pub style-other : (k ≡ 0 → ⊥) → StyleComes (Styled k)
-  unfolding pick
-  style-other h st K = record { after = styled k st; same = simp (ne-eqb k 0 h); keeps = restyled st K }
+  style-other h st K = record { after = styled k st; same = style-others st 1 k h; keeps = restyled st K }
 
   pub style-first : k ≡ 0 → (old ≡ 0 → ⊥) → StyleComes (Styled k)
-  unfolding pick
-  style-first z h st K = record { after = styled k st; same = simp (eq-eqb k 0 z, K .style-is, ne-eqb old 0 h); keeps = restyled st K }
+  style-first z h st K = record { after = styled k st; same = style-firsts st 1 k z (λ q. h (sym (K .style-is) ∙ q)); keeps = restyled st K }
 
   pub style-end : k ≡ 0 → old ≡ 0 → StyleComes End
-  unfolding pick
-  style-end z h st K = simp (eq-eqb k 0 z, K .style-is, eq-eqb old 0 h)
+  style-end z h st K = style-ends st 1 k z (K .style-is ∙ h)
 
 -- ---- items of a fixed size
 
@@ -57,6 +58,9 @@ pub sized-whole : (n : ℕ) (s : List ℕ) (it : Item) (r : Measured) (len style
     → ComesIn r len style placed (λ st. nextOf st (sized n s it))
 unfolding sized pick
 sized-whole n s it r len style placed h f st K = simp (le-ltb _ _ h) (f st K)
+
+pub sized-comes : (n : ℕ) (s : List ℕ) (it : Item) (r : Measured) → n ≤ length s → Comes r (λ st. apply st n it) → Comes r (λ st. nextOf st (sized n s it))
+sized-comes n s it r h f len style placed = sized-whole n s it r len style placed h (f len style placed)
 
 pub comes-moved : (p : Point) → Comes Moved (λ st. apply st 13 (moveTo p))
 comes-moved p len style placed st K = record { after = moved p st; same = refl; keeps = record { label-is = K .label-is; style-is = K .style-is; position-is = refl } }
@@ -74,19 +78,16 @@ module _ (n first last : ℕ) where
   DateComes r = Comes r (λ st. apply st n (dateItem first last))
 
   pub date-before : last < first → DateComes (Bad 9)
-  unfolding badDates pick
-  date-before h len style placed st K = simp (lt-ltb _ _ h)
+  date-before h len style placed st K = dates-before st n first last h
 
   pub date-late : first ≤ last → 65535 < last → DateComes (Bad 9)
-  unfolding badDates pick
-  date-late h k len style placed st K = simp (le-ltb _ _ h, lt-ltb _ _ k)
+  date-late h k len style placed st K = dates-late st n first last h k
 
   pub date-on : first ≤ last → last ≤ 65535 → DateComes (Passes n)
-  unfolding badDates pick
   date-on h k len style placed st K =
       record {
         after = datedBy (dateOf first last) st;
-        same = simp (le-ltb _ _ h, le-ltb _ _ k);
+        same = dates-on st n first last h k;
         keeps = record { label-is = K .label-is; style-is = K .style-is; position-is = K .position-is };
       }
 
@@ -97,51 +98,38 @@ module _ (placed : Bool) (n m : ℕ) where
   renamed st len style l K h = record { label-is = h; style-is = K .style-is; position-is = K .position-is }
 
   pub tail-short : (last : ℕ) → Tailed (Made n m (20 + m)) (Short last) placed n m
-  tail-short last st len style K rest l h = record { after = named l st; gives = _; same = refl; size = layout-section _ _ l ∙ omega arith; keeps = renamed st len style l K h }
+  tail-short last st len style K rest l h = record { after = named l st; gives = _; same = refl; size = layout-section _ l ∙ omega arith; keeps = renamed st len style l K h }
 
   pub tail-long : (last : ℕ) → Tailed (Made n m (20 + m)) (Long last) placed n m
-  tail-long last st len style K rest l h = record { after = named l st; gives = _; same = refl; size = layout-section _ _ l ∙ omega arith; keeps = renamed st len style l K h }
+  tail-long last st len style K rest l h = record { after = named l st; gives = _; same = refl; size = layout-section _ l ∙ omega arith; keeps = renamed st len style l K h }
 
   pub tail-station : (flags : ℕ) → Tailed (Made n m (16 + m)) (Station flags) placed n m
-  tail-station flags st len style K rest l h = record { after = named l st; gives = _; same = refl; size = layout-station _ _ l ∙ omega arith; keeps = renamed st len style l K h }
+  tail-station flags st len style K rest l h = record { after = named l st; gives = _; same = refl; size = layout-station _ l ∙ omega arith; keeps = renamed st len style l K h }
 
   pub tail-unset : (flags : ℕ) → placed ≡ false → Tailed (Bad 8) (Line flags) placed n m
-  tail-unset flags e st len style K rest l h = go (st .position) (K .position-is ∙ e)
+  tail-unset flags e st len style K rest l h = go (st .setting .position) (K .position-is ∙ e)
     where
       go : (p : Position) → isSet p ≡ false → legFrom p n st flags (pointOf le32 rest) l ≡ bad 8
       go Unset q = refl
       go (Stands from) q = absurd (let z : _≡_ {A = ℕ} 0 1 = cc in omega arith)
 
   pub tail-line : (flags : ℕ) → placed ≡ true → Tailed (Made n m (34 + m)) (Line flags) placed n m
-  tail-line flags e st len style K rest l h = go (st .position) (K .position-is ∙ e)
+  tail-line flags e st len style K rest l h = go (st .setting .position) (K .position-is ∙ e)
     where
       go : (p : Position) → isSet p ≡ true → Makes (legFrom p n st flags (pointOf le32 rest) l) n (34 + m) m style placed
       go Unset q = absurd (let z : _≡_ {A = ℕ} 0 1 = cc in omega arith)
       go (Stands from) q =
           record {
             after = moved (pointOf le32 rest) (named l st);
-            gives = leg flags (st .style) (st .date) from (pointOf le32 rest) l;
+            gives = leg (record { flags = flags; style = st .setting .style; date = st .setting .date; from = from; to = pointOf le32 rest }) l;
             same = refl;
-            size = layout-leg flags (st .style) (st .date) from (pointOf le32 rest) l ∙ omega arith;
+            size = layout-leg _ l ∙ omega arith;
             keeps = record { label-is = h; style-is = K .style-is; position-is = sym e };
           }
 
 -- ---- its label step
 
-module _ (l : List ℕ) (d : ℕ) (added : List ℕ) where
-  label-short : length l < d → labelStep l (back d) added ≡ tooShort
-  unfolding labelStep pick
-  label-short h = simp (lt-ltb _ _ h)
-
-  label-long : d ≤ length l → labelLimit < length l - d + length added → labelStep l (back d) added ≡ tooLong
-  unfolding labelStep pick
-  label-long h k = simp (le-ltb _ _ h, lt-ltb _ _ k)
-
-  label-fits : d ≤ length l → length l - d + length added ≤ labelLimit → labelStep l (back d) added ≡ labelled (take (length l - d) l ++ added)
-  unfolding labelStep pick
-  label-fits h k = simp (le-ltb _ _ h, le-ltb _ _ k)
-
-tail-apply : (tail : Tail) (st : State) (n d : ℕ) (added rest : List ℕ) → apply st n (makeOf tail d added rest) ≡ onLabel (labelStep (st .label) (back d) added) (λ l. tailNext tail st n rest l)
+tail-apply : (tail : Tail) (st : State) (n d : ℕ) (added rest : List ℕ) → apply st n (makeOf tail d added rest) ≡ onLabel (labelStep (st .label) (Back d) added) (λ l. tailNext tail st n rest l)
 tail-apply (Short last) st n d added rest = refl
 tail-apply (Long last) st n d added rest = refl
 tail-apply (Station flags) st n d added rest = refl
@@ -151,10 +139,10 @@ module _ (s : List ℕ) (bare : Bool) (tail : Tail) (len style : ℕ) (placed : 
   abbrev LabelComes : Measured → Type 0
   LabelComes r = ComesIn r len style placed (λ st. nextOf st (labelledBy bare tail newPart (drop 1 s)))
 
-  pub label-unfinished : unfinished ≡ partThere bare tail newPart s → LabelComes (Bad 5)
+  pub label-unfinished : Unfinished ≡ partThere bare tail newPart s → LabelComes (Bad 5)
   label-unfinished e st K = ap (nextOf st) (sym (labelled-short s bare tail newPart e))
 
-  module _ (k d a : ℕ) (e : part k d a ≡ partThere bare tail newPart s) where
+  module _ (k d a : ℕ) (e : Numbers k d a ≡ partThere bare tail newPart s) where
     abbrev added : List ℕ
     added = take a (drop (1 + k) s)
 
@@ -167,14 +155,17 @@ module _ (s : List ℕ) (bare : Bool) (tail : Tail) (len style : ℕ) (placed : 
     added-length : length added ≡ a
     added-length = let f = labelled-fits s bare tail newPart k d a e in let l = length-drop 1 s in length-take-le a (drop (1 + k) s) (simp length-drop (omega arith))
 
-    comes : (st : State) → nextOf st (labelledBy bare tail newPart (drop 1 s)) ≡ onLabel (labelStep (st .label) (back d) added) (λ l. tailNext tail st size rest l)
+    comes : (st : State) → nextOf st (labelledBy bare tail newPart (drop 1 s)) ≡ onLabel (labelStep (st .label) (Back d) added) (λ l. tailNext tail st size rest l)
     comes st = ap (nextOf st) (sym (labelled-made s bare tail newPart k d a e)) ∙ tail-apply tail st size d added rest
 
     pub label-six : len < d → LabelComes (Bad 6)
-    label-six h st K = comes st ∙ rw (label-short (st .label) d added (omega (arith, K .label-is)))
+    label-six h st K = comes st ∙ rw (step-short (st .label) (Back d) added (back-lacks (st .label) d (omega (arith, K .label-is))))
 
     pub label-seven : d ≤ len → labelLimit < len - d + a → LabelComes (Bad 7)
-    label-seven h j st K = let z = added-length in comes st ∙ rw (label-long (st .label) d added (omega (arith, K .label-is)) (omega (arith, K .label-is)))
+    label-seven h j st K =
+        let z = added-length in
+        let q = K .label-is in
+        comes st ∙ rw (step-long (st .label) (Back d) added (length (st .label) - d) (back-keeps (st .label) d (omega arith)) (omega arith))
 
     pub label-tailed : d ≤ len → len - d + a ≤ labelLimit → (r : Measured) → Tailed r tail placed size (len - d + a) → LabelComes r
     label-tailed h j r T st K =
@@ -183,7 +174,7 @@ module _ (s : List ℕ) (bare : Bool) (tail : Tail) (len style : ℕ) (placed : 
         let l = take (length (st .label) - d) (st .label) ++ added in
         let t = length-take-le (length (st .label) - d) (st .label) (omega arith) in
         let w : length l ≡ len - d + a = omega (arith, length-append (take (length (st .label) - d) (st .label)) added) in
-        rw (comes st, label-fits (st .label) d added (omega arith) (omega arith)) (T st len style K rest l w)
+        rw (comes st, step-fits (st .label) (Back d) added (length (st .label) - d) (back-keeps (st .label) d (omega arith)) (omega arith)) (T st len style K rest l w)
 
 -- ---- the item at the front of s
 

@@ -2,21 +2,18 @@
 use Prim.Native.Nat.{ℕ, _+_, _-_, _*_, _≤_, _<_}
 use mathlib.Core.Path.{_≡_, refl, sym, _∙_}
 use mathlib.Core.List.{List}
-use mathlib.Core.Bool.{Bool, false}
+use mathlib.Core.Bool.{Bool, true, false}
 use native.Mathlib.Omega.{arith}
-use lib.ListN.{length, take, drop, length-drop}
-use lib.Seq.{drop-drop}
-use borrow.Rule.Slice.PartAt.{part-to-end}
-use borrow.Author.Tests.{lt-ltb, le-ltb}
-use Rattle.format.specs.Bytes.{pick}
-use Rattle.format.specs.State.{State, start, Next, bad, end, on, made}
-use Rattle.format.specs.Sheet.{refusal, Result}
-use Rattle.format.specs.Reading.{next, ended, afterItem, run, itemsOf}
-use Rattle.format.proofs.ReadingLaws.{SizedNext, next-sized, run-eq}
+use lib.ListN.{length, take, drop}
+use Rattle.format.specs.State.{State, start}
+use Rattle.format.specs.Refusals.{stop}
+use Rattle.format.specs.declared.Verdict.{Verdict}
+use Rattle.format.specs.Reading.{next, run, itemsOf}
+use Rattle.format.proofs.ReadingLaws.{there-within, left-bad, left-after, left-done, left-on, left-made}
 use Rattle.measure.specs.Measures.{Keeps, Goes, Makes, Measures, ComesIn}
-use Rattle.measure.specs.Totals.{passOf}
+use Rattle.measure.specs.Totals.{passedBy, passOf}
 use Rattle.measure.specs.declared.Measured.{Measured}
-use Rattle.measure.specs.declared.Measured.the-variants.{Bad, End}
+use Rattle.measure.specs.declared.Measured.the-variants.{Bad, End, Styled, Moved, Passes, Made}
 use Rattle.measure.specs.declared.Passed.{Passed}
 use Rattle.measure.specs.declared.Passed.the-variants.{Refused, Done}
 use Rattle.measure.proofs.Sums.{pass-also, pass-stop}
@@ -44,6 +41,15 @@ going-first file place front h =
       answer = refl;
     }
 
+-- the item's bytes are there
+abbrev pub Within : ℕ → ℕ → Measured → Type 0
+Within m at (Bad k) = Unit
+Within m at End = Unit
+Within m at (Styled to) = at + 1 ≤ m
+Within m at Moved = at + 13 ≤ m
+Within m at (Passes n) = (1 ≤ n) × (at + n ≤ m)
+Within m at (Made n k bytes) = (1 ≤ n) × (at + n ≤ m)
+
 module _ (file : List ℕ) (place front at out records len style : ℕ) (placed : Bool) (G : Going file place front at out records len style placed) where
   -- what an answer tells of the item there, as the code cuts it out
   abbrev pub Found : Measured → Type 0
@@ -52,34 +58,25 @@ module _ (file : List ℕ) (place front at out records len style : ℕ) (placed 
   abbrev whole : Passed
   whole = passOf front 0 (itemsOf 8 place file)
 
-  pub found : (r : Measured) → Found r → Measures r len style placed (next 8 (drop at file) (G .state))
-  found r f = rw (part-to-end file at) at (f (G .state) (G .keeps))
+  pub found : (r : Measured) → Found r → Measures r len style placed (next 8 (take (length file - at) (drop at file)) (G .state))
+  found r f = f (G .state) (G .keeps)
 
-  module _ (x : Next) (e : next 8 (drop at file) (G .state) ≡ x) where
-    abbrev then : Result
-    then = afterItem x at (drop at file) (λ n st. run 8 (at + n) (drop (at + n) file) st)
-
-    turn : passOf out records then ≡ whole
-    turn = let q : run 8 at (drop at file) (G .state) ≡ then = run-eq 8 at (drop at file) (G .state) ∙ simp (e, drop-drop) in rw q at (G .answer)
-
-    size : SizedNext (length file - at) x
-    size = rw (← e, ← length-drop at file) (next-sized 8 (drop at file) (G .state))
+  pub ends : {v : Verdict} → run 8 at (drop at file) (G .state) ≡ stop v → passedBy v out records ≡ whole
+  ends {v} e = sym (pass-stop out records v) ∙ rw e at (G .answer)
 
   pub ends-bad : (k : ℕ) → Found (Bad k) → Refused k at ≡ whole
-  ends-bad k f = sym (pass-stop out records (refusal k at)) ∙ turn (bad k) (found (Bad k) f)
+  ends-bad k f = ends (left-bad 8 file at (G .state) (sym (found (Bad k) f)))
 
   pub ends-after : Found End → 1 < length (drop at file) → Refused 10 (at + 1) ≡ whole
-  unfolding ended pick
-  ends-after f h = simp (lt-ltb _ _ h, pass-stop) at (turn end (found End f))
+  ends-after f h = ends (left-after 8 file at (G .state) (sym (found End f)) h)
 
   pub ends-done : Found End → length (drop at file) ≤ 1 → Done out records ≡ whole
-  unfolding ended pick
-  ends-done f h = simp (le-ltb _ _ h, pass-stop) at (turn end (found End f))
+  ends-done f h = ends (left-done 8 file at (G .state) (sym (found End f)) h)
 
   -- an item that makes no record
-  module _ (n m y : ℕ) (p : Bool) (g : Goes (next 8 (drop at file) (G .state)) n m y p) where
-    pub goes-size : (1 ≤ n) × (at + n ≤ length file)
-    goes-size = let z = size (on n (g .after)) (g .same) in let i = G .inside in (z .0, omega arith)
+  module _ (n m y : ℕ) (p : Bool) (g : Goes (next 8 (take (length file - at) (drop at file)) (G .state)) n m y p) where
+    goes-size : (1 ≤ n) × (at + n ≤ length file)
+    goes-size = there-within 8 file at (G .state) (G .inside) (sym (g .same))
 
     pub going-on : m ≤ 4096 → Going file place front (at + n) out records m y p
     going-on h =
@@ -91,13 +88,13 @@ module _ (file : List ℕ) (place front at out records len style : ℕ) (placed 
           short = h;
           out-few = omega (arith, G .out-few);
           records-few = omega (arith, G .records-few);
-          answer = turn (on n (g .after)) (g .same);
+          answer = rw (left-on 8 file at (G .state) (sym (g .same))) at (G .answer);
         }
 
   -- an item that makes one
-  module _ (n bytes m : ℕ) (g : Makes (next 8 (drop at file) (G .state)) n bytes m style placed) where
-    pub makes-size : (1 ≤ n) × (at + n ≤ length file)
-    makes-size = let z = size (made n (g .gives) (g .after)) (g .same) in let i = G .inside in (z .0, omega arith)
+  module _ (n bytes m : ℕ) (g : Makes (next 8 (take (length file - at) (drop at file)) (G .state)) n bytes m style placed) where
+    makes-size : (1 ≤ n) × (at + n ≤ length file)
+    makes-size = there-within 8 file at (G .state) (G .inside) (sym (g .same))
 
     pub going-made : m ≤ 4096 → bytes ≤ 4130 → Going file place front (at + n) (out + bytes) (records + 1) m style placed
     going-made h k =
@@ -109,5 +106,13 @@ module _ (file : List ℕ) (place front at out records len style : ℕ) (placed 
           short = h;
           out-few = omega (arith, G .out-few);
           records-few = omega (arith, G .records-few);
-          answer = rw (← (g .size)) (sym (pass-also out records (g .gives) _) ∙ turn (made n (g .gives) (g .after)) (g .same));
+          answer = rw (← (g .size)) (sym (pass-also out records (g .gives) _) ∙ rw (left-made 8 file at (G .state) (sym (g .same))) at (G .answer));
         }
+
+  pub item-within : (r : Measured) → Found r → Within (length file) at r
+  item-within (Bad k) f = tt
+  item-within End f = tt
+  item-within (Styled to) f = goes-size 1 len to placed (found (Styled to) f) .1
+  item-within Moved f = goes-size 13 len style true (found Moved f) .1
+  item-within (Passes n) f = goes-size n len style placed (found (Passes n) f)
+  item-within (Made n m bytes) f = makes-size n bytes m (found (Made n m bytes) f)

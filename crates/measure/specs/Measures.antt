@@ -8,7 +8,7 @@ use Rattle.format.specs.Bytes.{le16, le32, widened}
 use Rattle.format.specs.Items.{pointOf, dimensionsOf}
 use Rattle.format.specs.Label.{labelLimit}
 use Rattle.format.specs.State.{State, Record, station, section, named, Next, bad, end, on, made, legFrom}
-use Rattle.format.specs.Sheet.{layout}
+use Rattle.format.specs.Sheet.{sheetVersion, recordLimit, layout}
 use Rattle.format.specs.declared.Position.{Position}
 use Rattle.format.specs.declared.Position.the-variants.{Unset, Stands}
 use Rattle.kind.specs.declared.Tail.{Tail}
@@ -24,8 +24,8 @@ isSet (Stands p) = true
 
 pub record Keeps (st : State) (len style : ℕ) (placed : Bool) : Type 0 where
   pub label-is : length (st .label) ≡ len
-  pub style-is : st .style ≡ style
-  pub position-is : isSet (st .position) ≡ placed
+  pub style-is : st .setting .style ≡ style
+  pub position-is : isSet (st .setting .position) ≡ placed
 
 -- ---- an item
 
@@ -40,7 +40,7 @@ pub record Makes (x : Next) (n bytes len style : ℕ) (placed : Bool) : Type 0 w
   pub after : State
   pub gives : Record
   pub same : x ≡ made n gives after
-  pub size : length (layout gives) ≡ bytes
+  pub size : length (layout sheetVersion gives) ≡ bytes
   pub keeps : Keeps after len style placed
 
 -- an answer tells what an item comes to, with what was kept before it
@@ -59,7 +59,7 @@ Small End = Unit
 Small (Styled to) = Unit
 Small Moved = Unit
 Small (Passes n) = Unit
-Small (Made n m bytes) = (m ≤ labelLimit) × (bytes ≤ 4130)
+Small (Made n m bytes) = (m ≤ labelLimit) × (bytes ≤ recordLimit)
 
 -- an answer tells what f gives in every state of which this is kept
 abbrev pub ComesIn : Measured → ℕ → ℕ → Bool → (State → Next) → Type 0
@@ -72,10 +72,10 @@ Comes r f = (len style : ℕ) (placed : Bool) → ComesIn r len style placed f
 -- ---- an item with a label, once it has the label l; `rest` is what follows the label in the file
 
 abbrev pub tailNext : Tail → State → ℕ → List ℕ → List ℕ → Next
-tailNext (Short last) st n rest l = made n (section last (dimensionsOf 2 (λ s. widened (le16 s)) rest) l) (named l st)
-tailNext (Long last) st n rest l = made n (section last (dimensionsOf 4 le32 rest) l) (named l st)
-tailNext (Station flags) st n rest l = made n (station flags (pointOf le32 rest) l) (named l st)
-tailNext (Line flags) st n rest l = legFrom (st .position) n st flags (pointOf le32 rest) l
+tailNext (Short last) st n rest l = made n (section (record { last = last; size = dimensionsOf 2 (λ s. widened (le16 s)) rest }) l) (named l st)
+tailNext (Long last) st n rest l = made n (section (record { last = last; size = dimensionsOf 4 le32 rest }) l) (named l st)
+tailNext (Station flags) st n rest l = made n (station (record { flags = flags; place = pointOf le32 rest }) l) (named l st)
+tailNext (Line flags) st n rest l = legFrom (st .setting .position) n st flags (pointOf le32 rest) l
 
 -- the label has m bytes
 abbrev pub Tailed : Measured → Tail → Bool → ℕ → ℕ → Type 0

@@ -1,10 +1,11 @@
 // The bytes and records of a v8 file's sheet, before any is written. Only the lengths of
 // labels count here, so no label is kept: v3 to v7 look for dots, and v8 does not.
+use format::LABEL_LIMIT;
+use format::LabelPart;
 use kind::Kind;
 use kind::Tail;
 use kind::new_kind;
 use kind::tail_size;
-use length::Part;
 use length::part_of;
 use length::whole_part;
 use number::get_le16;
@@ -19,6 +20,9 @@ ghost use Rattle.format.specs.Reading.{next, itemsOf};
 ghost use Rattle.kind.specs.Kinds.{labelledBy};
 ghost use Rattle.measure.specs.Measures.{Keeps, Comes, ComesIn, Small, Tailed};
 ghost use Rattle.measure.specs.Totals.{passOf};
+ghost use Rattle.format.specs.Header.{fileLimit};
+ghost use Rattle.format.specs.Label.{labelLimit};
+ghost use Rattle.format.specs.Sheet.{frontLimit};
 
 // What the items of a file come to: a refusal; or the sheet's bytes and records.
 pub enum Passed {
@@ -117,7 +121,7 @@ fn days(s: &[u8]) -> Measured
 }
 
 fn error(s: &[u8], len: usize) -> Measured
-    requires { ⌜ len ≤ 4096 ⌝ }
+    requires { ⌜ len ≤ labelLimit ⌝ }
     ensures { λ r. ⌜ Small r × ((style : ℕ) (placed : Bool) → ComesIn r len style placed (λ st. nextOf st (errorItem (now (s .entry))))) ⌝ }
 {
     if s.len() < 21 {
@@ -134,7 +138,7 @@ fn error(s: &[u8], len: usize) -> Measured
 
 // What an item of so many bytes comes to once its label has len.
 fn tailed(tail: Tail, placed: bool, size: usize, len: usize) -> Measured
-    requires { ⌜ len ≤ 4096 ⌝ }
+    requires { ⌜ len ≤ labelLimit ⌝ }
     ensures { λ r. ⌜ Small r × Tailed r tail placed size len ⌝ }
 {
     match tail {
@@ -168,7 +172,7 @@ fn tailed(tail: Tail, placed: bool, size: usize, len: usize) -> Measured
 
 // 5, then 6 and 7, and then the position.
 fn labelled(s: &[u8], bare: bool, tail: Tail, len: usize, placed: bool) -> Measured
-    requires { ⌜ (1 ≤ length (now s)) × (len ≤ 4096) ⌝ }
+    requires { ⌜ (1 ≤ length (now s)) × (len ≤ labelLimit) ⌝ }
     ensures { λ r. ⌜ Small r × ((style : ℕ) → ComesIn r len style placed (λ st. nextOf st (labelledBy bare tail newPart (drop 1 (now (s .entry)))))) ⌝ }
 {
     let t = &s[1..];
@@ -176,13 +180,13 @@ fn labelled(s: &[u8], bare: bool, tail: Tail, len: usize, placed: bool) -> Measu
     let p = part_of(8, bare, t);
     let q = whole_part(p, t, n);
     match q {
-        Part::Unfinished => Measured::Bad { number: 5 },
-        Part::Numbers { size, drop, add } => {
+        LabelPart::Unfinished => Measured::Bad { number: 5 },
+        LabelPart::Numbers { size, drop, add } => {
             if len < drop {
                 return Measured::Bad { number: 6 };
             }
             let keep = len - drop;
-            if 4096 - keep < add {
+            if LABEL_LIMIT - keep < add {
                 return Measured::Bad { number: 7 };
             }
             tailed(tail, placed, 1 + (size + add + n), keep + add)
@@ -194,7 +198,7 @@ fn labelled(s: &[u8], bare: bool, tail: Tail, len: usize, placed: bool) -> Measu
 
 // What the item at the front of s comes to.
 fn measure_item(s: &[u8], len: usize, style: u8, placed: bool) -> Measured
-    requires { ⌜ len ≤ 4096 ⌝ }
+    requires { ⌜ len ≤ labelLimit ⌝ }
     ensures { λ r. ⌜ Small r × ComesIn r len style placed (λ st. next 8 (now (s .entry)) st) ⌝ }
 {
     if s.len() < 1 {
@@ -221,7 +225,7 @@ fn measure_item(s: &[u8], len: usize, style: u8, placed: bool) -> Measured
 // The items of a v8 file from `place` on: the answer for a sheet with room enough, whose
 // first record goes to `front`.
 pub fn measure(file: &[u8], place: usize, front: usize) -> Passed
-    requires { ⌜ (length (now file) ≤ 16777216) × (place ≤ length (now file)) × (front ≤ 4167) ⌝ }
+    requires { ⌜ (length (now file) ≤ fileLimit) × (place ≤ length (now file)) × (front ≤ frontLimit) ⌝ }
     ensures { λ r. ⌜ r ≡ passOf front 0 (itemsOf 8 place (now (file .entry))) ⌝ }
 {
     let mut at = place;

@@ -9,11 +9,10 @@ use lib.Seq.{take-all}
 use lib.Dec.{eqb, ltb, leb}
 use borrow.Author.Tests.{lt-ltb, le-ltb, leb-true, eq-eqb, ne-eqb}
 use Rattle.format.specs.Bytes.{pick, same, toLe32}
-use Rattle.format.specs.Writing.{common, keptBytes, lengthCodes, partCodes}
+use Rattle.format.specs.Codes.{common, keptBytes, lengthCodes, shortPart, partCodes}
 use Rattle.format.proofs.Basics.{pick-true, pick-false, both, same-true, same-refl}
 use Rattle.format.proofs.WritingLaws.{common-le, common-take}
 use Rattle.wire.proofs.Laws.{same-false}
-use Rattle.part.specs.Short.{shortPart}
 
 -- ---- whether two labels are the same, by how much they have in common
 

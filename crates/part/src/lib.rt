@@ -5,9 +5,9 @@ ghost use mathlib.Core.List.{_++_};
 ghost use Prim.Native.Nat.{_-_, _≤_};
 ghost use lib.ListN.{length, drop};
 ghost use Rattle.format.specs.Bytes.{same};
-ghost use Rattle.format.specs.Writing.{common, keptBytes, lengthCodes, partCodes};
+ghost use Rattle.format.specs.Codes.{common, keptBytes, lengthCodes, shortPart, partCodes};
 ghost use Rattle.part.specs.Lays.{Lays};
-ghost use Rattle.part.specs.Short.{shortPart};
+ghost use Rattle.format.specs.Label.{labelLimit};
 
 // How many bytes two labels have in common at their start, and whether they are the same.
 pub struct Overlap {
@@ -17,7 +17,7 @@ pub struct Overlap {
 
 // Writes s into out from `at` on where it fits; answers where it ends.
 pub fn put(out: &mut [u8], at: usize, s: &[u8]) -> usize
-    requires { ⌜ (at ≤ 65536) × (length (now s) ≤ 4096) ⌝ }
+    requires { ⌜ (at ≤ 65536) × (length (now s) ≤ labelLimit) ⌝ }
     ensures { λ r. ⌜ Lays (now (out .entry)) (now (out .exit)) at (now (s .entry)) (length (now (s .entry))) r ⌝ }
 {
     let end = at + s.len();
@@ -30,15 +30,15 @@ pub fn put(out: &mut [u8], at: usize, s: &[u8]) -> usize
 
 // A length: one byte below ff, or ff and 32 bits.
 fn put_length(out: &mut [u8], at: usize, n: usize) -> usize
-    requires { ⌜ (at ≤ 32768) × (n ≤ 4096) ⌝ }
+    requires { ⌜ (at ≤ 32768) × (n ≤ labelLimit) ⌝ }
     ensures { λ r. ⌜ Lays (now (out .entry)) (now (out .exit)) at (lengthCodes n) 5 r ⌝ }
 {
-    if n < 255 {
+    if n < 0xff {
         let code = [n as u8];
         return put(out, at, &code);
     }
     let b = number::le32_bytes(n as u32);
-    let code = [255, b[0], b[1], b[2], b[3]];
+    let code = [0xff, b[0], b[1], b[2], b[3]];
     put(out, at, &code)
 }
 
@@ -60,7 +60,7 @@ fn one_byte(d: usize, a: usize) -> bool
 
 // d bytes to drop and a to append: both in one byte, or 00 and each as a length.
 fn put_part(out: &mut [u8], at: usize, d: usize, a: usize) -> usize
-    requires { ⌜ (at ≤ 16384) × (d ≤ 4096) × (a ≤ 4096) ⌝ }
+    requires { ⌜ (at ≤ 16384) × (d ≤ labelLimit) × (a ≤ labelLimit) ⌝ }
     ensures { λ r. ⌜ Lays (now (out .entry)) (now (out .exit)) at (partCodes d a) 11 r ⌝ }
 {
     if one_byte(d, a) {
@@ -75,7 +75,7 @@ fn put_part(out: &mut [u8], at: usize, d: usize, a: usize) -> usize
 
 // The label `name` after one of len bytes, of which k stay.
 pub fn put_label(out: &mut [u8], at: usize, len: usize, name: &[u8], k: usize) -> usize
-    requires { ⌜ (at ≤ 8192) × (len ≤ 4096) × (length (now name) ≤ 4096) × (k ≤ len) × (k ≤ length (now name)) ⌝ }
+    requires { ⌜ (at ≤ 8192) × (len ≤ labelLimit) × (length (now name) ≤ labelLimit) × (k ≤ len) × (k ≤ length (now name)) ⌝ }
     ensures { λ r. ⌜ Lays (now (out .entry)) (now (out .exit)) at (partCodes (len - k) (length (now (name .entry)) - k) ++ drop k (now (name .entry))) 4107 r ⌝ }
 {
     let next = put_part(out, at, len - k, name.len() - k);

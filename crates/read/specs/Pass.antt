@@ -3,40 +3,24 @@ use Prim.Native.Nat.{ℕ, _+_}
 use mathlib.Core.List.{List, [], _∷_}
 use lib.ListN.{length}
 use Rattle.format.specs.State.{Record, Next, bad, end, on, made}
-use Rattle.format.specs.Sheet.{layout}
+use Rattle.format.specs.Sheet.{sheetVersion, layout}
 use Rattle.wire.specs.Laid.{laidIf}
 use mathlib.Core.Path.{_≡_}
-use Rattle.format.specs.declared.Dated.the-variants.{Undated}
-use Rattle.format.specs.declared.Position.the-variants.{Unset}
-use Rattle.format.specs.declared.Setting.{Setting}
-use Rattle.format.specs.Header.{openingOf, opened}
 use Rattle.format.specs.Reading.{readOutcome, readBuffer}
 use Rattle.format.specs.Answers.{answerOf}
 use Rattle.format.specs.declared.Answer.{Answer}
-use Rattle.header.specs.Head.{saying, Room}
 
 -- d with the record that an item makes, if any, in it from k on, where it fits
 abbrev pub laidBy : Next → List ℕ → ℕ → List ℕ
 laidBy (bad n) d k = d
 laidBy end d k = d
 laidBy (on n st) d k = d
-laidBy (made n r st) d k = laidIf d k (layout r)
+laidBy (made n r st) d k = laidIf d k (layout sheetVersion r)
 
 -- d with the records in it from k on, each where it fits
 unfoldable pub lay : List ℕ → ℕ → List Record → List ℕ
 lay d k [] = d
-lay d k (r ∷ rs) = lay (laidIf d k (layout r)) (k + length (layout r)) rs
-
--- "At the start .. the date none, the style "not said" (5 ..), the position unset"
-pub record Starts (setting : Setting) : Type 0 where
-  pub style-is : setting .style ≡ 5
-  pub date-is : setting .date ≡ Undated
-  pub position-is : setting .position ≡ Unset
-
--- a file that `opening` found whole
-pub record Opens (file : List ℕ) (version place extended title time : ℕ) : Type 0 where
-  pub due : openingOf file ≡ opened version place (saying extended title time file)
-  pub room : Room version place extended title time file
+lay d k (r ∷ rs) = lay (laidIf d k (layout sheetVersion r)) (k + length (layout sheetVersion r)) rs
 
 -- an answer and the sheet after it are what reading the file gives
 pub record ReadsTo (file old : List ℕ) (a : Answer) (sheet : List ℕ) : Type 0 where

@@ -9,38 +9,30 @@ ghost use Rattle.format.specs.Answers.{answerOf};
 ghost use Rattle.format.specs.Fields.{stateOf};
 ghost use Rattle.item.specs.Seen.{Tells};
 ghost use Rattle.measure.specs.Totals.{passOf};
-ghost use Rattle.read.specs.Pass.{laidBy, lay, Starts, Opens, ReadsTo};
+ghost use Rattle.read.specs.Pass.{laidBy, lay, ReadsTo};
+ghost use Rattle.header.specs.Head.{Opens};
+ghost use Rattle.format.specs.Header.{fileLimit};
+ghost use Rattle.format.specs.Label.{labelLimit};
+ghost use Rattle.format.specs.Sheet.{frontLimit};
 use format::Answer;
-use format::Dated;
-use format::Position;
+use format::LABEL_LIMIT;
 use format::Setting;
 use header::Head;
 use item::Step;
 use measure::Passed;
-
-// Style, date and position at the start of a file.
-fn start() -> Setting
-    ensures { λ r. ⌜ Starts r ⌝ }
-{
-    Setting {
-        style: 5,
-        date: Dated::Undated,
-        position: Position::Unset,
-    }
-}
 
 // The item at the front of s, in the state of a setting and a label; its record, where
 // it makes one, is laid into the sheet from `out` on.
 fn lay_item(
     version: u8,
     s: &[u8],
-    bytes: &mut [u8; 4096],
+    bytes: &mut [u8; LABEL_LIMIT],
     len: usize,
     setting: Setting,
     sheet: &mut [u8],
     out: usize,
 ) -> Step
-    requires { ⌜ (len ≤ 4096) × (length (now bytes) ≡ 4096) × (out < 2 ^ 62) ⌝ }
+    requires { ⌜ (len ≤ labelLimit) × (length (now bytes) ≡ labelLimit) × (out < 2 ^ 62) ⌝ }
     ensures told { λ r. ⌜ Tells r (now (bytes .exit)) (next version (now (s .entry)) (stateOf setting (take len (now (bytes .entry))))) ⌝ }
     ensures sheet { λ _. ⌜ now (sheet .exit) ≡ laidBy (next version (now (s .entry)) (stateOf setting (take len (now (bytes .entry))))) (now (sheet .entry)) out ⌝ }
 {
@@ -61,7 +53,7 @@ fn lay_item(
 // A pass over the items from `place` on: the answer for a sheet with room enough, and
 // each record laid in where there is room, the first of them at `front`.
 fn pass(file: &[u8], version: u8, place: usize, sheet: &mut [u8], front: usize) -> Passed
-    requires { ⌜ (length (now file) ≤ 16777216) × (place ≤ length (now file)) × (front ≤ 4167) ⌝ }
+    requires { ⌜ (length (now file) ≤ fileLimit) × (place ≤ length (now file)) × (front ≤ frontLimit) ⌝ }
     ensures answer { λ r. ⌜ r ≡ passOf front 0 (itemsOf version place (now (file .entry))) ⌝ }
     ensures sheet { λ _. ⌜ now (sheet .exit) ≡ lay (now (sheet .entry)) front (itemsOf version place (now (file .entry)) .records) ⌝ }
 {
@@ -69,7 +61,7 @@ fn pass(file: &[u8], version: u8, place: usize, sheet: &mut [u8], front: usize) 
     let mut out = front;
     let mut records: usize = 0;
     let mut label = label::blank();
-    let mut setting = start();
+    let mut setting = format::start_setting();
     loop {
         let rest = &file[at..];
         let old = label.len;
@@ -118,7 +110,7 @@ fn pass(file: &[u8], version: u8, place: usize, sheet: &mut [u8], front: usize) 
 // The first pass: the answer for a sheet with room enough, whose first record goes to
 // `front`. The sheet stays as it was.
 fn measured(file: &[u8], version: u8, place: usize, sheet: &mut [u8], front: usize) -> Passed
-    requires { ⌜ (length (now file) ≤ 16777216) × (place ≤ length (now file)) × (front ≤ 4167) × (version ≤ 8) ⌝ }
+    requires { ⌜ (length (now file) ≤ fileLimit) × (place ≤ length (now file)) × (front ≤ frontLimit) × (version ≤ 8) ⌝ }
     ensures answer { λ r. ⌜ r ≡ passOf front 0 (itemsOf version place (now (file .entry))) ⌝ }
     ensures sheet { λ _. ⌜ now (sheet .exit) ≡ now (sheet .entry) ⌝ }
 {
@@ -156,7 +148,7 @@ fn read_items(
             let from = ends + 1;
             let stops = from + time;
             record::put_front(sheet, extended, &file[24..ends], &file[from..stops]);
-            pass(file, version, place, sheet, front);
+            pass(file, version, place, &mut sheet[..bytes], front);
             Answer::Done {
                 bytes,
                 records,

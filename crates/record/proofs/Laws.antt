@@ -5,30 +5,24 @@ use mathlib.Core.List.{List, [], _∷_, _++_, append-assoc}
 use native.Mathlib.Omega.{arith}
 use lib.ListN.{length, take, drop, length-append}
 use Rattle.format.specs.Bytes.{over, toBe16, toBe32}
-use Rattle.format.specs.Sheet.{pointBytes, dimensionBytes, traverseBytes, dateBytes, legBody, stationBody, sectionBody, layout, headerLayout}
+use Rattle.format.specs.Sheet.{sheetVersion, pointBytes, dimensionBytes, traverseBytes, dateKind, dateDay, dateLast, legSize, stationSize, sectionSize, errorSize, legBody, stationBody, sectionBody, layout, headerLayout}
 use Rattle.format.specs.State.{leg, station, section, error}
-use Rattle.format.specs.Fields.{recordOf}
+use Rattle.format.specs.Fields.{recordSize}
 use Rattle.format.specs.declared.Point.{Point}
-use Rattle.format.specs.declared.Dimensions.{Dimensions}
 use Rattle.format.specs.declared.Traverse.{Traverse}
-use Rattle.format.specs.declared.Dated.{Dated}
+use Rattle.format.specs.declared.Leg.{Leg as LegFields}
+use Rattle.format.specs.declared.Station.{Station as StationFields}
+use Rattle.format.specs.declared.Section.{Section as SectionFields}
 use Rattle.format.specs.declared.Fields.{Fields}
 use Rattle.format.specs.declared.Fields.the-variants.{Leg, Station, Section, Error}
 use Rattle.format.proofs.SheetLaws.{layout-leg, layout-station, layout-section, layout-error}
 use Rattle.wire.specs.Laid.{laid, laidIf}
 use Rattle.wire.proofs.Laws.{length-over, laid-zero, laid-part, laid-next, laid-none, laid-some}
-use Rattle.record.specs.Size.{recordSize}
-
-pub size-is : (f : Fields) (l : List ℕ) → length (layout (recordOf f l)) ≡ recordSize f (length l)
-size-is (Leg flags style date from to) l = layout-leg flags style date from to l ∙ omega arith
-size-is (Station flags p) l = layout-station flags p l ∙ omega arith
-size-is (Section last d) l = layout-section last d l ∙ omega arith
-size-is (Error t) l = layout-error t
 
 pub size-some : (f : Fields) (n : ℕ) → 0 < recordSize f n
 size-some (Leg flags style date from to) n = omega arith
-size-some (Station flags place) n = omega arith
-size-some (Section last size) n = omega arith
+size-some (Station s) n = omega arith
+size-some (Section s) n = omega arith
 size-some (Error traverse) n = omega arith
 
 -- ---- a layout is a head and the label
@@ -38,23 +32,20 @@ body-length : (body : List ℕ) (k : ℕ) → length (toBe16 (length body) ++ bo
 unfolding toBe16
 body-length body k e = omega arith
 
-pub leg-parts : (flags style : ℕ) (date : Dated) (kind day last : ℕ) (from to : Point) (l : List ℕ) → dateBytes date ≡ kind ∷ (toBe16 day ++ toBe16 last)
-    → (toBe16 (32 + length l) ++ (1 ∷ flags ∷ style ∷ kind ∷ (toBe16 day ++ toBe16 last))) ++ (pointBytes toBe32 from ++ (pointBytes toBe32 to ++ l)) ≡ layout (leg flags style date from to l)
+pub leg-parts : (g : LegFields) (l : List ℕ)
+    → (toBe16 (legSize + length l) ++ (1 ∷ g .flags ∷ g .style ∷ dateKind (g .date) ∷ (toBe16 (dateDay (g .date)) ++ toBe16 (dateLast (g .date))))) ++ (pointBytes toBe32 (g .from) ++ (pointBytes toBe32 (g .to) ++ l)) ≡ layout sheetVersion (leg g l)
 unfolding layout
-leg-parts flags style date kind day last from to l e =
-    let b = legBody flags style date from to l in
-    let n = body-length b (32 + length l) (layout-leg flags style date from to l) in
-    rw (← n, e) (simp append-assoc)
+leg-parts g l = rw (← body-length (legBody g l) (legSize + length l) (layout-leg g l)) (simp append-assoc)
 
-pub station-parts : (flags : ℕ) (p : Point) (l : List ℕ) → (toBe16 (14 + length l) ++ (2 ∷ flags ∷ [])) ++ (pointBytes toBe32 p ++ l) ≡ layout (station flags p l)
+pub station-parts : (s : StationFields) (l : List ℕ) → (toBe16 (stationSize + length l) ++ (2 ∷ s .flags ∷ [])) ++ (pointBytes toBe32 (s .place) ++ l) ≡ layout sheetVersion (station s l)
 unfolding layout
-station-parts flags p l = rw (← body-length (stationBody flags p l) (14 + length l) (layout-station flags p l)) (simp append-assoc)
+station-parts s l = rw (← body-length (stationBody s l) (stationSize + length l) (layout-station s l)) (simp append-assoc)
 
-pub section-parts : (last : ℕ) (d : Dimensions) (l : List ℕ) → (toBe16 (18 + length l) ++ (3 ∷ last ∷ dimensionBytes toBe32 d)) ++ l ≡ layout (section last d l)
+pub section-parts : (s : SectionFields) (l : List ℕ) → (toBe16 (sectionSize + length l) ++ (3 ∷ s .last ∷ dimensionBytes toBe32 (s .size))) ++ l ≡ layout sheetVersion (section s l)
 unfolding layout
-section-parts last d l = rw (← body-length (sectionBody last d l) (18 + length l) (layout-section last d l)) (simp append-assoc)
+section-parts s l = rw (← body-length (sectionBody sheetVersion s l) (sectionSize + length l) (layout-section s l)) (simp append-assoc)
 
-pub error-parts : (t : Traverse) → toBe16 21 ++ (4 ∷ traverseBytes toBe32 t) ≡ layout (error t)
+pub error-parts : (t : Traverse) → toBe16 errorSize ++ (4 ∷ traverseBytes toBe32 t) ≡ layout sheetVersion (error t)
 unfolding layout toBe16 toBe32
 error-parts t = refl
 

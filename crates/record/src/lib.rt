@@ -4,13 +4,15 @@ ghost use mathlib.Core.List.{List, [], _∷_, _++_};
 ghost use Prim.Native.Nat.{ℕ, _+_, _^_, _≤_, _<_};
 ghost use lib.ListN.{length, take};
 ghost use Rattle.format.specs.Bytes.{over, toBe16, toBe32};
-ghost use Rattle.format.specs.Sheet.{pointBytes, dimensionBytes, traverseBytes, dateBytes, layout, headerLayout};
-ghost use Rattle.format.specs.Fields.{recordOf};
+ghost use Rattle.format.specs.Sheet.{sheetVersion, pointBytes, dimensionBytes, traverseBytes, dateKind, dateDay, dateLast, legSize, stationSize, sectionSize, errorSize, recordLimit, layout, headerLayout};
+ghost use Rattle.format.specs.Fields.{recordOf, recordSize};
 ghost use Rattle.wire.specs.Laid.{laid, laidIf};
-ghost use Rattle.record.specs.Size.{recordSize};
+ghost use Rattle.format.specs.Header.{timeLimit, titleLimit};
+ghost use Rattle.format.specs.Label.{labelLimit};
 use format::Dated;
 use format::Dimensions;
 use format::Fields;
+use format::LABEL_LIMIT;
 use format::Point;
 use format::Traverse;
 
@@ -22,7 +24,7 @@ pub struct Days {
 }
 
 fn days_of(date: Dated) -> Days
-    ensures { λ r. ⌜ dateBytes date ≡ r .kind ∷ (toBe16 (r .day) ++ toBe16 (r .last)) ⌝ }
+    ensures { λ r. ⌜ (r .kind ≡ dateKind date) × (r .day ≡ dateDay date) × (r .last ≡ dateLast date) ⌝ }
 {
     match date {
         Dated::Undated => Days {
@@ -45,8 +47,8 @@ fn days_of(date: Dated) -> Days
 
 // The length bytes of a leg whose label has len bytes, and its fields up to the date.
 fn leg_head(len: usize, flags: u8, style: u8, days: Days) -> [u8; 10]
-    requires { ⌜ len ≤ 4096 ⌝ }
-    ensures { λ r. ⌜ r ≡ toBe16 (32 + len) ++ (1 ∷ flags ∷ style ∷ days .kind ∷ (toBe16 (days .day) ++ toBe16 (days .last))) ⌝ }
+    requires { ⌜ len ≤ labelLimit ⌝ }
+    ensures { λ r. ⌜ r ≡ toBe16 (legSize + len) ++ (1 ∷ flags ∷ style ∷ days .kind ∷ (toBe16 (days .day) ++ toBe16 (days .last))) ⌝ }
 {
     let n = 32 + len;
     [
@@ -65,8 +67,8 @@ fn leg_head(len: usize, flags: u8, style: u8, days: Days) -> [u8; 10]
 
 // The length bytes, the kind and the flags of a station whose label has len bytes.
 fn station_head(len: usize, flags: u8) -> [u8; 4]
-    requires { ⌜ len ≤ 4096 ⌝ }
-    ensures { λ r. ⌜ r ≡ toBe16 (14 + len) ++ (2 ∷ flags ∷ []) ⌝ }
+    requires { ⌜ len ≤ labelLimit ⌝ }
+    ensures { λ r. ⌜ r ≡ toBe16 (stationSize + len) ++ (2 ∷ flags ∷ []) ⌝ }
 {
     let n = 14 + len;
     [(n / 256 % 256) as u8, (n % 256) as u8, 2, flags]
@@ -74,8 +76,8 @@ fn station_head(len: usize, flags: u8) -> [u8; 4]
 
 // The length bytes and the fields of a cross-section whose label has len bytes.
 fn section_head(len: usize, last: u8, d: Dimensions) -> [u8; 20]
-    requires { ⌜ len ≤ 4096 ⌝ }
-    ensures { λ r. ⌜ r ≡ toBe16 (18 + len) ++ (3 ∷ last ∷ dimensionBytes toBe32 d) ⌝ }
+    requires { ⌜ len ≤ labelLimit ⌝ }
+    ensures { λ r. ⌜ r ≡ toBe16 (sectionSize + len) ++ (3 ∷ last ∷ dimensionBytes toBe32 d) ⌝ }
 {
     let n = 18 + len;
     [
@@ -104,7 +106,7 @@ fn section_head(len: usize, last: u8, d: Dimensions) -> [u8; 20]
 
 // A traverse error, whole: it has no label.
 fn error_bytes(t: Traverse) -> [u8; 23]
-    ensures { λ r. ⌜ r ≡ toBe16 21 ++ (4 ∷ traverseBytes toBe32 t) ⌝ }
+    ensures { λ r. ⌜ r ≡ toBe16 errorSize ++ (4 ∷ traverseBytes toBe32 t) ⌝ }
 {
     [
         0,
@@ -162,8 +164,8 @@ fn put_point(out: &mut [u8], k: usize, p: Point)
 }
 
 // Copies the first len bytes of a label into out from index k on.
-fn put_label(out: &mut [u8], k: usize, bytes: &[u8; 4096], len: usize)
-    requires { ⌜ (len ≤ 4096) × (k + len ≤ length (now out)) × (length (now bytes) ≡ 4096) ⌝ }
+fn put_label(out: &mut [u8], k: usize, bytes: &[u8; LABEL_LIMIT], len: usize)
+    requires { ⌜ (len ≤ labelLimit) × (k + len ≤ length (now out)) × (length (now bytes) ≡ labelLimit) ⌝ }
     ensures { λ _. ⌜ now (out .exit) ≡ laid (now (out .entry)) k (take len (now (bytes .entry))) ⌝ }
 {
     let whole = &bytes[..];
@@ -171,8 +173,8 @@ fn put_label(out: &mut [u8], k: usize, bytes: &[u8; 4096], len: usize)
 }
 
 // Copies a record's head and then the first len bytes of its label to the front of out.
-fn put_parts(out: &mut [u8], head: &[u8], bytes: &[u8; 4096], len: usize)
-    requires { ⌜ (len ≤ 4096) × (length (now head) + len ≤ length (now out)) × (length (now bytes) ≡ 4096) ⌝ }
+fn put_parts(out: &mut [u8], head: &[u8], bytes: &[u8; LABEL_LIMIT], len: usize)
+    requires { ⌜ (len ≤ labelLimit) × (length (now head) + len ≤ length (now out)) × (length (now bytes) ≡ labelLimit) ⌝ }
     ensures { λ _. ⌜ now (out .exit) ≡ over (now (head .entry) ++ take len (now (bytes .entry))) (now (out .entry)) ⌝ }
 {
     let k = head.len();
@@ -183,8 +185,8 @@ fn put_parts(out: &mut [u8], head: &[u8], bytes: &[u8; 4096], len: usize)
 
 // How many bytes a record takes in a sheet, with its length bytes.
 pub fn record_size(fields: Fields, len: usize) -> usize
-    requires { ⌜ len ≤ 4096 ⌝ }
-    ensures { λ r. ⌜ (r ≡ recordSize fields len) × (r ≤ 4130) ⌝ }
+    requires { ⌜ len ≤ labelLimit ⌝ }
+    ensures { λ r. ⌜ (r ≡ recordSize fields len) × (r ≤ recordLimit) ⌝ }
 {
     match fields {
         Fields::Leg {
@@ -194,15 +196,22 @@ pub fn record_size(fields: Fields, len: usize) -> usize
             from: _,
             to: _,
         } => 34 + len,
-        Fields::Station { flags: _, place: _ } => 16 + len,
-        Fields::Section { last: _, size: _ } => 20 + len,
+        Fields::Station { station: _ } => 16 + len,
+        Fields::Section { section: _ } => 20 + len,
         Fields::Error { traverse: _ } => 23,
     }
 }
 
 // Lays a leg over the front of out, after its head of ten bytes.
-fn put_leg(out: &mut [u8], head: [u8; 10], from: Point, to: Point, bytes: &[u8; 4096], len: usize)
-    requires { ⌜ (len ≤ 4096) × (34 + len ≤ length (now out)) × (length (now bytes) ≡ 4096) ⌝ }
+fn put_leg(
+    out: &mut [u8],
+    head: [u8; 10],
+    from: Point,
+    to: Point,
+    bytes: &[u8; LABEL_LIMIT],
+    len: usize,
+)
+    requires { ⌜ (len ≤ labelLimit) × (34 + len ≤ length (now out)) × (length (now bytes) ≡ labelLimit) ⌝ }
     ensures { λ _. ⌜ now (out .exit) ≡ over (head ++ (pointBytes toBe32 from ++ (pointBytes toBe32 to ++ take len (now (bytes .entry))))) (now (out .entry)) ⌝ }
 {
     wire::copy(&head, out);
@@ -212,8 +221,8 @@ fn put_leg(out: &mut [u8], head: [u8; 10], from: Point, to: Point, bytes: &[u8; 
 }
 
 // Lays a station over the front of out, after its head of four bytes.
-fn put_station(out: &mut [u8], head: [u8; 4], place: Point, bytes: &[u8; 4096], len: usize)
-    requires { ⌜ (len ≤ 4096) × (16 + len ≤ length (now out)) × (length (now bytes) ≡ 4096) ⌝ }
+fn put_station(out: &mut [u8], head: [u8; 4], place: Point, bytes: &[u8; LABEL_LIMIT], len: usize)
+    requires { ⌜ (len ≤ labelLimit) × (16 + len ≤ length (now out)) × (length (now bytes) ≡ labelLimit) ⌝ }
     ensures { λ _. ⌜ now (out .exit) ≡ over (head ++ (pointBytes toBe32 place ++ take len (now (bytes .entry)))) (now (out .entry)) ⌝ }
 {
     wire::copy(&head, out);
@@ -222,9 +231,9 @@ fn put_station(out: &mut [u8], head: [u8; 4], place: Point, bytes: &[u8; 4096], 
 }
 
 // Lays a record over the front of out.
-fn put_record(out: &mut [u8], fields: Fields, bytes: &[u8; 4096], len: usize)
-    requires { ⌜ (len ≤ 4096) × (recordSize fields len ≤ length (now out)) × (length (now bytes) ≡ 4096) ⌝ }
-    ensures { λ _. ⌜ now (out .exit) ≡ over (layout (recordOf fields (take len (now (bytes .entry))))) (now (out .entry)) ⌝ }
+fn put_record(out: &mut [u8], fields: Fields, bytes: &[u8; LABEL_LIMIT], len: usize)
+    requires { ⌜ (len ≤ labelLimit) × (recordSize fields len ≤ length (now out)) × (length (now bytes) ≡ labelLimit) ⌝ }
+    ensures { λ _. ⌜ now (out .exit) ≡ over (layout sheetVersion (recordOf fields (take len (now (bytes .entry))))) (now (out .entry)) ⌝ }
 {
     match fields {
         Fields::Leg {
@@ -237,12 +246,14 @@ fn put_record(out: &mut [u8], fields: Fields, bytes: &[u8; 4096], len: usize)
             let head = leg_head(len, flags, style, days_of(date));
             put_leg(out, head, from, to, bytes, len);
         }
-        Fields::Station { flags, place } => {
-            let head = station_head(len, flags);
+        Fields::Station { station } => {
+            let place = station.place;
+            let head = station_head(len, station.flags);
             put_station(out, head, place, bytes, len);
         }
-        Fields::Section { last, size } => {
-            let head = section_head(len, last, size);
+        Fields::Section { section } => {
+            let size = section.size;
+            let head = section_head(len, section.last, size);
             put_parts(out, &head, bytes, len);
         }
         Fields::Error { traverse } => {
@@ -253,9 +264,15 @@ fn put_record(out: &mut [u8], fields: Fields, bytes: &[u8; 4096], len: usize)
 }
 
 // Lays a record into the sheet from index `at` on, where it fits.
-pub fn lay_record(sheet: &mut [u8], at: usize, fields: Fields, bytes: &[u8; 4096], len: usize)
-    requires { ⌜ (at < 2 ^ 63) × (len ≤ 4096) × (length (now bytes) ≡ 4096) ⌝ }
-    ensures { λ _. ⌜ now (sheet .exit) ≡ laidIf (now (sheet .entry)) at (layout (recordOf fields (take len (now (bytes .entry))))) ⌝ }
+pub fn lay_record(
+    sheet: &mut [u8],
+    at: usize,
+    fields: Fields,
+    bytes: &[u8; LABEL_LIMIT],
+    len: usize,
+)
+    requires { ⌜ (at < 2 ^ 63) × (len ≤ labelLimit) × (length (now bytes) ≡ labelLimit) ⌝ }
+    ensures { λ _. ⌜ now (sheet .exit) ≡ laidIf (now (sheet .entry)) at (layout sheetVersion (recordOf fields (take len (now (bytes .entry))))) ⌝ }
 {
     // The pass that measures is lent no bytes: it goes no further than this.
     if sheet.len() <= at {
@@ -271,7 +288,7 @@ pub fn lay_record(sheet: &mut [u8], at: usize, fields: Fields, bytes: &[u8; 4096
 // The version byte and the fields of a header whose title has t bytes and whose
 // time line has m.
 fn front_head(extended: u8, t: usize, m: usize) -> [u8; 7]
-    requires { ⌜ (t ≤ 4096) × (m ≤ 64) ⌝ }
+    requires { ⌜ (t ≤ titleLimit) × (m ≤ timeLimit) ⌝ }
     ensures { λ r. ⌜ r ≡ 1 ∷ (toBe16 (4 + t + m) ++ (0 ∷ extended ∷ toBe16 t)) ⌝ }
 {
     let n = 4 + t + m;
@@ -288,7 +305,7 @@ fn front_head(extended: u8, t: usize, m: usize) -> [u8; 7]
 
 // Lays the version byte and the header record over the front of a sheet.
 pub fn put_front(sheet: &mut [u8], extended: u8, title: &[u8], time: &[u8])
-    requires { ⌜ (length (now title) ≤ 4096) × (length (now time) ≤ 64) × (7 + length (now title) + length (now time) ≤ length (now sheet)) ⌝ }
+    requires { ⌜ (length (now title) ≤ titleLimit) × (length (now time) ≤ timeLimit) × (7 + length (now title) + length (now time) ≤ length (now sheet)) ⌝ }
     ensures { λ _. ⌜ now (sheet .exit) ≡ over (1 ∷ headerLayout (record { extended = extended; title = now (title .entry); time = now (time .entry) })) (now (sheet .entry)) ⌝ }
 {
     let t = title.len();

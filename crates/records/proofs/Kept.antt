@@ -5,7 +5,8 @@ use Prim.Native.Nat.{ℕ, _-_, _≤_}
 use native.Mathlib.Omega.{arith}
 use lib.ListN.{length, take}
 use lib.Seq.{length-take-le}
-use Rattle.format.specs.Label.{back, tooShort, tooLong, labelled, labelStep}
+use Rattle.format.specs.Label.{tooShort, tooLong, labelled, labelStep}
+use Rattle.format.specs.declared.Cut.the-variants.{Back}
 use Rattle.format.proofs.WritingLaws.{Shares, label-read}
 use Rattle.label.specs.Seen.{Tells}
 use Rattle.label.specs.declared.Relabelled.the-variants.{TooShort, TooLong, Fits}
@@ -18,18 +19,18 @@ module _ (b b′ name : List ℕ) (len : ℕ) (short : len ≤ 4096) (whole : le
   abbrev l : List ℕ
   l = take len b
 
-  swapped : labelStep l (back len) name ≡ labelled name
+  swapped : labelStep l (Back len) name ≡ labelled name
   swapped =
       let e : length l - 0 ≡ len = (let z = length-take-le len b (omega arith) in omega arith) in
       rw e at (label-read l name 0 (none-kept l name) fits)
 
-  pub swap-short : Tells TooShort b′ (labelStep l (back len) name) → ⊥
+  pub swap-short : Tells TooShort b′ (labelStep l (Back len) name) → ⊥
   swap-short T = let q : tooShort ≡ labelled name = T .same ∙ swapped in let z : _≡_ {A = ℕ} 0 1 = cc in omega arith
 
-  pub swap-long : Tells TooLong b′ (labelStep l (back len) name) → ⊥
+  pub swap-long : Tells TooLong b′ (labelStep l (Back len) name) → ⊥
   swap-long T = let q : tooLong ≡ labelled name = T .same ∙ swapped in let z : _≡_ {A = ℕ} 0 1 = cc in omega arith
 
-  pub swap-fits : (m : ℕ) → Tells (Fits m) b′ (labelStep l (back len) name) → Swaps b′ name m
+  pub swap-fits : (m : ℕ) → Tells (Fits m) b′ (labelStep l (Back len) name) → Swaps b′ name m
   swap-fits m T =
       let q : labelled (take m b′) ≡ labelled name = T .same ∙ swapped in
       record { label-is = cc; label-short = T .short; label-whole = T .whole }

@@ -8,7 +8,7 @@ use Rattle.records.specs.Places.{stateAt, leftAt, Starts}
 use Rattle.records.specs.declared.Place.{Place}
 
 pub starts-state : (p : Place) (at : ℕ) (b : List ℕ) → Starts p at → stateAt p b ≡ start
-starts-state p at b s = rw (s .label-empty, s .style-is, s .date-is, s .position-is)
+starts-state p at b s = rw (s .label-empty, s .setting-is)
 
 pub starts-left : (version : ℕ) (file : List ℕ) (p : Place) (at : ℕ) (b : List ℕ) → Starts p at → leftAt version file p b ≡ itemsOf version at file
 unfolding itemsOf

@@ -1,19 +1,15 @@
 -- The items up to the next record, on plain values: what the file comes to from an item on is what it comes to as a whole. Assumes nothing.
 use mathlib.Core.Path.{_≡_, refl, _∙_}
-use mathlib.Core.List.{List}
+use mathlib.Core.List.{List, []}
 use Prim.Native.Nat.{ℕ, _+_, _-_, _≤_, _<_}
 use native.Mathlib.Omega.{arith}
-use lib.ListN.{length, take, drop, length-drop}
-use lib.Seq.{drop-drop}
-use borrow.Rule.Slice.PartAt.{part-to-end}
-use borrow.Author.Tests.{lt-ltb, le-ltb}
-use Rattle.format.specs.Bytes.{pick}
+use lib.ListN.{length, take, drop}
 use Rattle.format.specs.State.{State}
-use Rattle.format.specs.Reading.{next, ended, afterItem, run}
+use Rattle.format.specs.Reading.{next, run}
 use Rattle.format.specs.Fields.{stateOf}
 use Rattle.format.specs.declared.Fields.{Fields}
 use Rattle.format.specs.declared.Setting.{Setting}
-use Rattle.format.proofs.ReadingLaws.{SizedNext, next-sized, run-eq}
+use Rattle.format.proofs.ReadingLaws.{Within, there-within, left-bad, left-after, left-done, left-on, left-made}
 use Rattle.item.specs.Seen.{seen, Tells}
 use Rattle.item.specs.declared.Step.{Step}
 use Rattle.item.specs.declared.Step.the-variants.{Bad, End, On, Made}
@@ -42,43 +38,32 @@ module _ (version : ℕ) (file : List ℕ) (was : Place) (b₀ : List ℕ) (at l
   abbrev pub Tell : Step → List ℕ → Type 0
   Tell it b′ = Tells it b′ (next version (take (length file - at) (drop at file)) st)
 
-  module _ (it : Step) (b′ : List ℕ) (T : Tell it b′) where
-    found : seen it b′ ≡ next version (drop at file) st
-    found = simp part-to-end at (T .same)
-
-    sized : SizedNext (length file - at) (seen it b′)
-    sized = rw (found, ← length-drop at file) (next-sized version (drop at file) st)
-
-    turn : leftAt version file was b₀ ≡ afterItem (seen it b′) at (drop at file) (λ n st′. run version (at + n) (drop (at + n) file) st′)
-    turn = G .same ∙ run-eq version at (drop at file) st ∙ simp (← found, drop-drop)
-
   pub finds-bad : (k : ℕ) (b′ : List ℕ) → Tell (Bad k) b′ → Finds version file was b₀ (FoundRefused k at) b′
-  finds-bad k b′ T = record { same = turn (Bad k) b′ T; further = T .whole }
+  finds-bad k b′ T = record { same = G .same ∙ left-bad version file at st (T .same); further = T .whole }
 
   pub finds-after : (b′ : List ℕ) → Tell End b′ → 1 < length (drop at file) → Finds version file was b₀ (FoundRefused 10 (at + 1)) b′
-  unfolding ended pick
-  finds-after b′ T h = record { same = turn End b′ T ∙ simp (lt-ltb _ _ h); further = T .whole }
+  finds-after b′ T h = record { same = G .same ∙ left-after version file at st (T .same) h; further = T .whole }
 
   pub finds-end : (b′ : List ℕ) → Tell End b′ → length (drop at file) ≤ 1 → Finds version file was b₀ FoundEnd b′
-  unfolding ended pick
-  finds-end b′ T h = record { same = turn End b′ T ∙ simp (le-ltb _ _ h); further = T .whole }
+  finds-end b′ T h = record { same = G .same ∙ left-done version file at st (T .same) h; further = T .whole }
 
-  pub on-size : (n m : ℕ) (st′ : Setting) (b′ : List ℕ) → Tell (On n m st′) b′ → (1 ≤ n) × (at + n ≤ length file)
-  on-size n m st′ b′ T = let z = sized (On n m st′) b′ T in (z .0, omega (arith, G .inside))
+  -- the item's bytes are there; which buffer they are seen by is all one
+  pub item-within : (it : Step) (b : List ℕ) → Tell it b → Within (length file) at (seen it [])
+  item-within (Bad k) b T = tt
+  item-within End b T = tt
+  item-within (On n m to) b T = there-within version file at st (G .inside) (T .same)
+  item-within (Made n m to f) b T = there-within version file at st (G .inside) (T .same)
 
   pub going-on : (n m : ℕ) (st′ : Setting) (b′ : List ℕ) → Tell (On n m st′) b′ → Going version file was b₀ (at + n) m st′ b′
   going-on n m st′ b′ T =
-      let z = on-size n m st′ b′ T in
-      record { inside = z .1; short = T .short; whole = T .whole; on = omega (arith, G .on); same = turn (On n m st′) b′ T }
-
-  pub made-size : (n m : ℕ) (st′ : Setting) (f : Fields) (b′ : List ℕ) → Tell (Made n m st′ f) b′ → (1 ≤ n) × (at + n ≤ length file)
-  made-size n m st′ f b′ T = let z = sized (Made n m st′ f) b′ T in (z .0, omega (arith, G .inside))
+      let z = item-within (On n m st′) b′ T in
+      record { inside = z .1; short = T .short; whole = T .whole; on = omega (arith, G .on); same = G .same ∙ left-on version file at st (T .same) }
 
   pub finds-record : (n m : ℕ) (st′ : Setting) (f : Fields) (b′ : List ℕ) → Tell (Made n m st′ f) b′
       → Finds version file was b₀ (FoundRecord (record { at = at + n; len = m; setting = st′ }) f) b′
   finds-record n m st′ f b′ T =
-      let z = made-size n m st′ f b′ T in
+      let z = item-within (Made n m st′ f) b′ T in
       record {
-        same = turn (Made n m st′ f) b′ T;
+        same = G .same ∙ left-made version file at st (T .same);
         further = (omega (arith, G .on), record { place-inside = z .1; label-short = T .short; label-whole = T .whole });
       }

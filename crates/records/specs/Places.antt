@@ -4,12 +4,11 @@ use mathlib.Core.Path.{_≡_}
 use mathlib.Core.List.{List}
 use lib.ListN.{length, take, drop}
 use Rattle.format.specs.Label.{labelLimit}
-use Rattle.format.specs.State.{State}
-use Rattle.format.specs.Sheet.{good, refusal, Result, stop, also}
+use Rattle.format.specs.State.{State, startSetting}
+use Rattle.format.specs.Refusals.{Result, stop, also}
+use Rattle.format.specs.declared.Verdict.the-variants.{Good, Refusal}
 use Rattle.format.specs.Reading.{run}
 use Rattle.format.specs.Fields.{recordOf, stateOf}
-use Rattle.format.specs.declared.Dated.the-variants.{Undated}
-use Rattle.format.specs.declared.Position.the-variants.{Unset}
 use Rattle.records.specs.declared.Place.{Place}
 use Rattle.records.specs.declared.Found.{Found}
 use Rattle.records.specs.declared.Found.the-variants.{Refused, End, Record as Next}
@@ -37,16 +36,14 @@ pub record Inside (file : List ℕ) (p : Place) (b : List ℕ) : Type 0 where
 pub record Starts (p : Place) (at : ℕ) : Type 0 where
   pub place-is : p .at ≡ at
   pub label-empty : p .len ≡ 0
-  pub style-is : p .setting .style ≡ 5
-  pub date-is : p .setting .date ≡ Undated
-  pub position-is : p .setting .position ≡ Unset
+  pub setting-is : p .setting ≡ startSetting
 
 -- ---- the next record
 
 -- what the file comes to, by an answer and the label's buffer after it
 abbrev pub foundResult : ℕ → List ℕ → Found → List ℕ → Result
-foundResult version file (Refused n p) b = stop (refusal n p)
-foundResult version file End b = stop good
+foundResult version file (Refused n p) b = stop (Refusal n p)
+foundResult version file End b = stop Good
 foundResult version file (Next p f) b = also (recordOf f (labelIn p b)) (leftAt version file p b)
 
 -- reading has gone on, and stands in the file

@@ -1,17 +1,17 @@
 // The records of a file, one at a time: the items are read where they lie, up to the
 // next one that makes a record.
-use format::Dated;
+use format::Cut;
 use format::Fields;
-use format::Position;
+use format::LABEL_LIMIT;
 use format::Setting;
 use item::Step;
-use label::Cut;
 use label::Relabelled;
 ghost use mathlib.Core.Path.{_≡_};
 ghost use Prim.Native.Nat.{_+_, _≤_};
 ghost use lib.ListN.{length};
 ghost use Rattle.records.specs.Places.{Starts, Finds};
 ghost use Rattle.records.specs.Keeping.{Swaps, Keeps};
+ghost use Rattle.format.specs.Label.{labelLimit};
 
 // Where reading stands: the next item's place, the label's length and the setting. The
 // label's bytes are lent beside it.
@@ -33,21 +33,16 @@ pub enum Found {
 pub fn first_place(at: usize) -> Place
     ensures { λ r. ⌜ Starts r at ⌝ }
 {
-    let setting = Setting {
-        style: 5,
-        date: Dated::Undated,
-        position: Position::Unset,
-    };
     Place {
         at,
         len: 0,
-        setting,
+        setting: format::start_setting(),
     }
 }
 
 // The next record of the file.
-pub fn next_record(file: &[u8], version: u8, from: Place, bytes: &mut [u8; 4096]) -> Found
-    requires { ⌜ (from .at ≤ length (now file)) × (from .len ≤ 4096) × (length (now bytes) ≡ 4096) ⌝ }
+pub fn next_record(file: &[u8], version: u8, from: Place, bytes: &mut [u8; LABEL_LIMIT]) -> Found
+    requires { ⌜ (from .at ≤ length (now file)) × (from .len ≤ labelLimit) × (length (now bytes) ≡ labelLimit) ⌝ }
     ensures { λ r. ⌜ Finds version (now (file .entry)) from (now (bytes .entry)) r (now (bytes .exit)) ⌝ }
 {
     let mut at = from.at;
@@ -98,8 +93,8 @@ pub fn next_record(file: &[u8], version: u8, from: Place, bytes: &mut [u8; 4096]
 }
 
 // A label in a buffer that held another, of len bytes: answers its length.
-fn swap_label(bytes: &mut [u8; 4096], len: usize, name: &[u8]) -> usize
-    requires { ⌜ (len ≤ 4096) × (length (now bytes) ≡ 4096) × (length (now name) ≤ 4096) ⌝ }
+fn swap_label(bytes: &mut [u8; LABEL_LIMIT], len: usize, name: &[u8]) -> usize
+    requires { ⌜ (len ≤ labelLimit) × (length (now bytes) ≡ labelLimit) × (length (now name) ≤ labelLimit) ⌝ }
     ensures { λ r. ⌜ Swaps (now (bytes .exit)) (now (name .entry)) r ⌝ }
 {
     let after = label::label_step(bytes, len, Cut::Back { bytes: len }, name);
@@ -112,8 +107,8 @@ fn swap_label(bytes: &mut [u8; 4096], len: usize, name: &[u8]) -> usize
 
 // The label after a record of this name, in a buffer that held the one before, of len
 // bytes: answers its length. A traverse error leaves the label as it was.
-pub fn keep_label(bytes: &mut [u8; 4096], len: usize, name: &[u8], fields: Fields) -> usize
-    requires { ⌜ (len ≤ 4096) × (length (now bytes) ≡ 4096) × (length (now name) ≤ 4096) ⌝ }
+pub fn keep_label(bytes: &mut [u8; LABEL_LIMIT], len: usize, name: &[u8], fields: Fields) -> usize
+    requires { ⌜ (len ≤ labelLimit) × (length (now bytes) ≡ labelLimit) × (length (now name) ≤ labelLimit) ⌝ }
     ensures { λ r. ⌜ Keeps (now (bytes .entry)) (now (bytes .exit)) len (now (name .entry)) fields r ⌝ }
 {
     match fields {
@@ -124,8 +119,8 @@ pub fn keep_label(bytes: &mut [u8; 4096], len: usize, name: &[u8], fields: Field
             from: _,
             to: _,
         } => swap_label(bytes, len, name),
-        Fields::Station { flags: _, place: _ } => swap_label(bytes, len, name),
-        Fields::Section { last: _, size: _ } => swap_label(bytes, len, name),
+        Fields::Station { station: _ } => swap_label(bytes, len, name),
+        Fields::Section { section: _ } => swap_label(bytes, len, name),
         Fields::Error { traverse: _ } => len,
     }
 }

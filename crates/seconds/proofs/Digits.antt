@@ -11,7 +11,7 @@ use borrow.Author.Tests.{le-leb, lt-leb, leb-true}
 use Rattle.format.specs.Bytes.{pick}
 use Rattle.format.specs.Times.{isDigit, allDigits, decimalFrom, decimal}
 use Rattle.format.proofs.Basics.{both}
-use Rattle.seconds.specs.declared.Spelled.the-variants.{Number, Nothing}
+use Rattle.format.specs.declared.Spelled.the-variants.{Number, Unreadable}
 use Rattle.seconds.specs.Reading.{spelled, numberFrom}
 
 -- ---- a number or nothing: what an answer says of the test
@@ -21,7 +21,7 @@ unfolding pick
 told true v n e = (refl, cc)
 told false v n e = absurd (let z : _≡_ {A = ℕ} 0 1 = cc in omega arith)
 
-pub untold : (b : Bool) (v : ℕ) → Nothing ≡ spelled b v → b ≡ false
+pub untold : (b : Bool) (v : ℕ) → Unreadable ≡ spelled b v → b ≡ false
 unfolding pick
 untold true v e = absurd (let z : _≡_ {A = ℕ} 0 1 = cc in omega arith)
 untold false v e = refl
@@ -43,16 +43,16 @@ module _ (n : ℕ) (s : List ℕ) (i : ℕ) (h : i < length s) where
   unfolding numberFrom allDigits decimalFrom
   next = ap (numberFrom n) (drop-cons s i 0 h)
 
-  pub below : getD s i 0 < 48 → numberFrom n (drop i s) ≡ Nothing
+  pub below : getD s i 0 < 48 → numberFrom n (drop i s) ≡ Unreadable
   unfolding isDigit pick
   below l = next ∙ simp (lt-leb 48 (getD s i 0) l)
 
-  pub above : 57 < getD s i 0 → numberFrom n (drop i s) ≡ Nothing
+  pub above : 57 < getD s i 0 → numberFrom n (drop i s) ≡ Unreadable
   unfolding isDigit pick
   above g = next ∙ simp (lt-leb (getD s i 0) 57 g, and-no)
 
   module _ (l : 48 ≤ getD s i 0) (g : getD s i 0 ≤ 57) where
-    pub large : 4294967295 < n * 10 + (getD s i 0 - 48) → numberFrom n (drop i s) ≡ Nothing
+    pub large : 4294967295 < n * 10 + (getD s i 0 - 48) → numberFrom n (drop i s) ≡ Unreadable
     unfolding pick
     large x =
         let z = grows (drop (suc i) s) (n * 10 + (getD s i 0 - 48)) in
@@ -104,5 +104,5 @@ module _ (w : ℕ) (fits : largest w 0 ≤ 4294967295) (l : List ℕ) where
       let t = told (allDigits (take w l)) (decimal (take w l)) n (e ∙ field-is) in
       record { digits = t .0; is = t .1 }
 
-  pub field-untold : Nothing ≡ numberFrom 0 (take w l) → allDigits (take w l) ≡ false
+  pub field-untold : Unreadable ≡ numberFrom 0 (take w l) → allDigits (take w l) ≡ false
   field-untold e = untold (allDigits (take w l)) (decimal (take w l)) (e ∙ field-is)

@@ -8,11 +8,11 @@ use lib.ListN.{length, getD, drop}
 use lib.Dec.{eqb, leb}
 use borrow.Author.Tests.{le-leb, leb-true}
 use Rattle.format.specs.Bytes.{pick}
-use Rattle.format.specs.Times.{allDigits, decimal, field, dayNumber, unreadable, seconds, atForm, textMarks, textDigits, textDay, textClock, textForm, textSeconds, secondsOf}
+use Rattle.format.specs.Times.{allDigits, decimal, field, dayNumber, atForm, textMarks, textDigits, textDay, textClock, textForm, textSeconds, secondsOf}
+use Rattle.format.specs.declared.Spelled.the-variants.{Unreadable, Number}
 use Rattle.format.proofs.Basics.{both, and-true, pick-true, pick-false}
-use Rattle.seconds.specs.declared.Spelled.{Spelled}
-use Rattle.seconds.specs.declared.Spelled.the-variants.{Number, Nothing}
-use Rattle.seconds.specs.Reading.{spelled, dateOf, clockOf, secondsSeen}
+use Rattle.format.specs.declared.Spelled.{Spelled}
+use Rattle.seconds.specs.Reading.{spelled, dateOf, clockOf}
 use Rattle.seconds.proofs.Digits.{told, untold, and-no}
 use Rattle.seconds.proofs.Days.{real, day-small}
 
@@ -74,13 +74,13 @@ module _ (line : List ℕ) where
     unfolding textForm textDigits
     form-is = simp (le-leb 25 (length line) l, m)
 
-    pub no-date : Nothing ≡ dateOf line → Nothing ≡ spelled (textForm line) (textSeconds line)
+    pub no-date : Unreadable ≡ dateOf line → Unreadable ≡ spelled (textForm line) (textSeconds line)
     unfolding dateOf
     no-date e =
         let u = untold (dateDigits && textDay line) days e in
         sym (pick-false _ _ (form-is ∙ no-left dateDigits clockDigits (textDay line) (textClock line) u))
 
-    pub no-clock : Nothing ≡ clockOf line → Nothing ≡ spelled (textForm line) (textSeconds line)
+    pub no-clock : Unreadable ≡ clockOf line → Unreadable ≡ spelled (textForm line) (textSeconds line)
     unfolding clockOf
     no-clock e =
         let u = untold (clockDigits && textClock line) time e in
@@ -99,18 +99,12 @@ module _ (line : List ℕ) where
 
   -- ---- either form
 
-  pub by-at : (n : ℕ) → Number n ≡ spelled (atForm line) (decimal (drop 1 line)) → seconds n ≡ secondsOf line
+  pub by-at : (n : ℕ) → Number n ≡ spelled (atForm line) (decimal (drop 1 line)) → Number n ≡ secondsOf line
   unfolding secondsOf
   by-at n e =
       let t = told (atForm line) (decimal (drop 1 line)) n e in
-      ap seconds (t .1) ∙ sym (pick-true _ _ (t .0))
+      ap Number (t .1) ∙ sym (pick-true _ _ (t .0))
 
-  seen : (b : Bool) (n : ℕ) → secondsSeen (spelled b n) ≡ pick b (seconds n) unreadable
-  unfolding pick
-  seen true n = refl
-  seen false n = refl
-
-  pub by-text : (r : Spelled) → Nothing ≡ spelled (atForm line) (decimal (drop 1 line)) → r ≡ spelled (textForm line) (textSeconds line) → secondsSeen r ≡ secondsOf line
+  pub by-text : (r : Spelled) → Unreadable ≡ spelled (atForm line) (decimal (drop 1 line)) → r ≡ spelled (textForm line) (textSeconds line) → r ≡ secondsOf line
   unfolding secondsOf
-  by-text r e f =
-      ap secondsSeen f ∙ (seen (textForm line) (textSeconds line) ∙ sym (pick-false _ _ (untold (atForm line) (decimal (drop 1 line)) e)))
+  by-text r e f = f ∙ sym (pick-false _ _ (untold (atForm line) (decimal (drop 1 line)) e))

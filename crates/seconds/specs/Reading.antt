@@ -4,13 +4,13 @@ use mathlib.Core.List.{List}
 use mathlib.Core.Bool.{Bool, _&&_}
 use lib.Dec.{leb}
 use Rattle.format.specs.Bytes.{pick}
-use Rattle.format.specs.Times.{allDigits, decimalFrom, decimal, field, dayNumber, textDay, textClock, Seconds, unreadable, seconds}
-use Rattle.seconds.specs.declared.Spelled.{Spelled}
-use Rattle.seconds.specs.declared.Spelled.the-variants.{Number, Nothing}
+use Rattle.format.specs.Times.{allDigits, decimalFrom, decimal, field, dayNumber, textDay, textClock}
+use Rattle.format.specs.declared.Spelled.{Spelled}
+use Rattle.format.specs.declared.Spelled.the-variants.{Unreadable, Number}
 
 -- a number where the test passes, else nothing
 abbrev pub spelled : Bool → ℕ → Spelled
-spelled b n = pick b (Number n) Nothing
+spelled b n = pick b (Number n) Unreadable
 
 -- "digits of at most 4294967295": the number that digits spell, after a number already read
 unfoldable pub numberFrom : ℕ → List ℕ → Spelled
@@ -27,8 +27,3 @@ unfoldable pub clockOf : List ℕ → Spelled
 clockOf line =
     spelled ((allDigits (field line 15 2) && (allDigits (field line 18 2) && allDigits (field line 21 2))) && textClock line)
     (decimal (field line 15 2) * 3600 + (decimal (field line 18 2) * 60 + decimal (field line 21 2)))
-
--- an answer as the seconds that it stands for
-abbrev pub secondsSeen : Spelled → Seconds
-secondsSeen (Number n) = seconds n
-secondsSeen Nothing = unreadable

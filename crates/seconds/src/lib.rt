@@ -1,15 +1,10 @@
 // The seconds since 1970 of a time line, in either of its forms.
+use format::Spelled;
 ghost use mathlib.Core.Path.{_≡_};
 ghost use Prim.Native.Nat.{_-_, _≤_, _<_};
 ghost use lib.ListN.{length, drop};
 ghost use Rattle.format.specs.Times.{leap, monthLength, monthDays, yearDays, dayNumber, realDate, decimal, atForm, textMarks, textForm, textSeconds, secondsOf};
-ghost use Rattle.seconds.specs.Reading.{spelled, numberFrom, dateOf, clockOf, secondsSeen};
-
-// A number that bytes spell; or that they spell none.
-pub enum Spelled {
-    Number { value: u64 },
-    Nothing,
-}
+ghost use Rattle.seconds.specs.Reading.{spelled, numberFrom, dateOf, clockOf};
 
 // The lengths of the months of a plain year and of a leap year.
 const MONTHS: [[u8; 12]; 2] = [
@@ -34,14 +29,14 @@ fn number(s: &[u8]) -> Spelled
     while i < s.len() {
         let b = s[i];
         if b < 48 {
-            return Spelled::Nothing;
+            return Spelled::Unreadable;
         }
         if 57 < b {
-            return Spelled::Nothing;
+            return Spelled::Unreadable;
         }
         let m = n * 10 + wide(b - 48);
         if 4294967295 < m {
-            return Spelled::Nothing;
+            return Spelled::Unreadable;
         }
         n = m;
         i += 1;
@@ -129,18 +124,18 @@ fn date(line: &[u8]) -> Spelled
 {
     let years = number(&line[4..8]);
     let Spelled::Number { value: year } = years else {
-        return Spelled::Nothing;
+        return Spelled::Unreadable;
     };
     let months = number(&line[9..11]);
     let Spelled::Number { value: month } = months else {
-        return Spelled::Nothing;
+        return Spelled::Unreadable;
     };
     let days = number(&line[12..14]);
     let Spelled::Number { value: day } = days else {
-        return Spelled::Nothing;
+        return Spelled::Unreadable;
     };
     if !real_date(year, month, day) {
-        return Spelled::Nothing;
+        return Spelled::Unreadable;
     }
     Spelled::Number {
         value: day_number(year, month, day),
@@ -154,24 +149,24 @@ fn clock(line: &[u8]) -> Spelled
 {
     let hours = number(&line[15..17]);
     let Spelled::Number { value: hour } = hours else {
-        return Spelled::Nothing;
+        return Spelled::Unreadable;
     };
     let minutes = number(&line[18..20]);
     let Spelled::Number { value: minute } = minutes else {
-        return Spelled::Nothing;
+        return Spelled::Unreadable;
     };
     let seconds = number(&line[21..23]);
     let Spelled::Number { value: second } = seconds else {
-        return Spelled::Nothing;
+        return Spelled::Unreadable;
     };
     if 23 < hour {
-        return Spelled::Nothing;
+        return Spelled::Unreadable;
     }
     if 59 < minute {
-        return Spelled::Nothing;
+        return Spelled::Unreadable;
     }
     if 59 < second {
-        return Spelled::Nothing;
+        return Spelled::Unreadable;
     }
     Spelled::Number {
         value: hour * 3600 + (minute * 60 + second),
@@ -209,13 +204,13 @@ fn at_form(line: &[u8]) -> Spelled
     ensures { λ r. ⌜ r ≡ spelled (atForm (now (line .entry))) (decimal (drop 1 (now (line .entry)))) ⌝ }
 {
     if line.len() < 2 {
-        return Spelled::Nothing;
+        return Spelled::Unreadable;
     }
     if 11 < line.len() {
-        return Spelled::Nothing;
+        return Spelled::Unreadable;
     }
     if line[0] != 64 {
-        return Spelled::Nothing;
+        return Spelled::Unreadable;
     }
     number(&line[1..])
 }
@@ -225,18 +220,18 @@ fn text_form(line: &[u8]) -> Spelled
     ensures { λ r. ⌜ r ≡ spelled (textForm (now (line .entry))) (textSeconds (now (line .entry))) ⌝ }
 {
     if line.len() < 25 {
-        return Spelled::Nothing;
+        return Spelled::Unreadable;
     }
     if !marks(line) {
-        return Spelled::Nothing;
+        return Spelled::Unreadable;
     }
     let dated = date(line);
     let Spelled::Number { value: days } = dated else {
-        return Spelled::Nothing;
+        return Spelled::Unreadable;
     };
     let timed = clock(line);
     let Spelled::Number { value: seconds } = timed else {
-        return Spelled::Nothing;
+        return Spelled::Unreadable;
     };
     Spelled::Number {
         value: days * 86400 + seconds,
@@ -245,11 +240,11 @@ fn text_form(line: &[u8]) -> Spelled
 
 // The seconds since 1970 of a time line, in either form.
 pub fn seconds_of(line: &[u8]) -> Spelled
-    ensures { λ r. ⌜ secondsSeen r ≡ secondsOf (now (line .entry)) ⌝ }
+    ensures { λ r. ⌜ r ≡ secondsOf (now (line .entry)) ⌝ }
 {
     let at = at_form(line);
     match at {
         Spelled::Number { value: _ } => at,
-        Spelled::Nothing => text_form(line),
+        Spelled::Unreadable => text_form(line),
     }
 }

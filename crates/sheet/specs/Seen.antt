@@ -2,12 +2,12 @@
 use Prim.Native.Nat.{ℕ, _+_, _-_, _≤_}
 use mathlib.Core.Path.{_≡_}
 use mathlib.Core.List.{List}
-use mathlib.Core.Bool.{Bool, true, false}
+use mathlib.Core.Bool.{true, false}
 use lib.ListN.{length, getD, take, drop}
 use Rattle.format.specs.Bytes.{be32}
-use Rattle.format.specs.Header.{Header}
 use Rattle.format.specs.Items.{pointOf}
-use Rattle.format.specs.Sheet.{Entry, flawed, entry, entryOf, headerFrom, goodHeader, goodFront, frontHeader, behindFront, WellFormed}
+use Rattle.format.specs.Sheet.{sheetVersion, Entry, flawed, entry, entryOf, headerFrom, goodHeader, goodFront, frontHeader, behindFront}
+use Rattle.format.specs.WellFormed.{WellFormed}
 use Rattle.format.specs.Fields.{recordOf}
 use Rattle.format.specs.declared.Dated.{Dated}
 use Rattle.format.specs.declared.Fields.{Fields}
@@ -52,7 +52,7 @@ FormedOf (Whole n f k) s = WellFormed (recordOf f (labelOf n k s))
 
 -- the same of the record at the front of s, which is well-formed
 pub record EntryTold (r : Found) (s : List ℕ) : Type 0 where
-  pub same : entrySeen r s ≡ entryOf s
+  pub same : entrySeen r s ≡ entryOf sheetVersion s
   pub inside : InsideOf r s
   pub formed : FormedOf r s
 

@@ -1,12 +1,15 @@
 // The sheet read back: its front, and the record at the front of the bytes that
 // follow one another behind it. Labels and texts stay where they stand.
+use format::LABEL_LIMIT;
+use format::TIME_LIMIT;
+use format::TITLE_LIMIT;
 ghost use mathlib.Core.Path.{_≡_};
 ghost use Prim.Native.Nat.{ℕ, _+_, _≤_};
 ghost use lib.ListN.{length, drop};
 ghost use Rattle.format.specs.Bytes.{be32};
 ghost use Rattle.format.specs.Header.{endsInReturn};
 ghost use Rattle.format.specs.Items.{pointOf, dimensionsOf, traverseOf};
-ghost use Rattle.format.specs.Sheet.{labelFits, goodDate, dateFrom, legEntry, stationEntry, sectionEntry, errorEntry, framed, goodText};
+ghost use Rattle.format.specs.Sheet.{sheetVersion, labelFits, goodDate, dateFrom, legEntry, stationEntry, sectionEntry, errorEntry, framed, goodText};
 ghost use Rattle.sheet.specs.Seen.{legOf, Told, EntryTold, HeaderTold, FrontTold};
 
 // The record at the front: none that is well-formed; or its size with the length
@@ -90,7 +93,7 @@ fn label_fits(n: usize, k: usize) -> bool
     requires { ⌜ k ≤ 32 ⌝ }
     ensures { λ r. ⌜ r ≡ labelFits n k ⌝ }
 {
-    k <= n && n <= k + 4096
+    k <= n && n <= k + LABEL_LIMIT
 }
 
 // Whether the days are those of a date of this kind: unused days are 0, and a range
@@ -142,7 +145,7 @@ fn leg_entry(s: &[u8], n: usize) -> Entry
     if !label_fits(n, 32) {
         return Entry::Flawed;
     }
-    if 7 < s[3] {
+    if 0x07 < s[3] {
         return Entry::Flawed;
     }
     if 5 < s[4] {
@@ -170,13 +173,14 @@ fn station_entry(s: &[u8], n: usize) -> Entry
         return Entry::Flawed;
     }
     let flags = s[3];
-    if 127 < flags {
+    if 0x7f < flags {
         return Entry::Flawed;
     }
     let place = point(&s[4..]);
+    let station = format::Station { flags, place };
     Entry::Whole {
         size: 2 + n,
-        fields: format::Fields::Station { flags, place },
+        fields: format::Fields::Station { station },
         from: 16,
     }
 }
@@ -184,7 +188,7 @@ fn station_entry(s: &[u8], n: usize) -> Entry
 // The cross-section of the record s, whose body has n bytes.
 fn section_entry(s: &[u8], n: usize) -> Entry
     requires { ⌜ 2 + n ≤ length (now s) ⌝ }
-    ensures { λ r. ⌜ Told r (now (s .entry)) (sectionEntry n (drop 2 (now (s .entry)))) ⌝ }
+    ensures { λ r. ⌜ Told r (now (s .entry)) (sectionEntry sheetVersion n (drop 2 (now (s .entry)))) ⌝ }
 {
     if !label_fits(n, 18) {
         return Entry::Flawed;
@@ -194,9 +198,10 @@ fn section_entry(s: &[u8], n: usize) -> Entry
         return Entry::Flawed;
     }
     let size = dimensions(&s[4..]);
+    let section = format::Section { last, size };
     Entry::Whole {
         size: 2 + n,
-        fields: format::Fields::Section { last, size },
+        fields: format::Fields::Section { section },
         from: 20,
     }
 }
@@ -293,10 +298,10 @@ fn header(t: &[u8], n: usize) -> Front
     if n < behind {
         return Front::Flawed;
     }
-    if !text_ok(&t[4..behind], 4096) {
+    if !text_ok(&t[4..behind], TITLE_LIMIT) {
         return Front::Flawed;
     }
-    if !text_ok(&t[behind..n], 64) {
+    if !text_ok(&t[behind..n], TIME_LIMIT) {
         return Front::Flawed;
     }
     Front::Whole {

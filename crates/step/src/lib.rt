@@ -6,12 +6,12 @@ ghost use lib.ListN.{length};
 ghost use Rattle.format.specs.Header.{openingOf};
 ghost use Rattle.format.specs.Stepping.{openStand, stepOf, stepBuffer};
 ghost use Rattle.format.specs.Answers.{openOutcome, openedOf, steppedOf};
-ghost use Rattle.step.specs.Standing.{Within, standSeen, Inside, Fresh, Stays, Ends, behindItem, Records, Steps};
+ghost use Rattle.format.specs.Label.{labelLimit};
+ghost use Rattle.step.specs.Standing.{standSeen, lesser, sliceLimit, Fresh, EndStepped, behindItem, RecordStepped, Steps};
 ghost use Rattle.step.specs.declared.Phase.the-variants.{Going};
-use format::Dated;
 use format::Fields;
+use format::LABEL_LIMIT;
 use format::Opened;
-use format::Position;
 use format::Setting;
 use format::Stepped;
 use header::Head;
@@ -42,7 +42,7 @@ pub struct Taken {
 
 // What opening answers: the version and the first item's place, or the refusal.
 pub fn opened(file: &[u8]) -> Opened
-    ensures { λ r. ⌜ (openedOf r ≡ openOutcome (openingOf (now (file .entry)))) × Within r (now (file .entry)) ⌝ }
+    ensures { λ r. ⌜ openedOf r ≡ openOutcome (openingOf (now (file .entry))) ⌝ }
 {
     let head = header::opening(file);
     match head {
@@ -57,16 +57,22 @@ pub fn opened(file: &[u8]) -> Opened
     }
 }
 
+// The lesser of two numbers.
+fn lesser(a: usize, b: usize) -> usize
+    ensures { λ r. ⌜ r ≡ lesser a b ⌝ }
+{
+    if b < a {
+        return b;
+    }
+    a
+}
+
 // The stand before an item, in the state at the start of a file.
 fn fresh(phase: Phase, version: u8, place: usize) -> Stand
     ensures { λ r. ⌜ Fresh r phase version place ⌝ }
 {
     let label = label::blank();
-    let setting = Setting {
-        style: 5,
-        date: Dated::Undated,
-        position: Position::Unset,
-    };
+    let setting = format::start_setting();
     Stand {
         phase,
         version,
@@ -79,7 +85,7 @@ fn fresh(phase: Phase, version: u8, place: usize) -> Stand
 // Where a reader of the file stands at first. After a refused opening every step answers
 // that refusal.
 fn open_at(file: &[u8]) -> Stand
-    ensures { λ r. ⌜ (standSeen r ≡ openStand (now (file .entry))) × Inside r (now (file .entry)) ⌝ }
+    ensures { λ r. ⌜ standSeen r ≡ openStand (now (file .entry)) ⌝ }
 {
     let o = opened(file);
     match o {
@@ -94,45 +100,38 @@ fn open_at(file: &[u8]) -> Stand
     }
 }
 
-// The stand after the end or a refusal.
-fn halted(stand: Stand, phase: Phase) -> Stand
-    ensures { λ r. ⌜ Stays r stand phase ⌝ }
+// A step after which the reader is halted: what it answers comes again.
+fn last_step(stand: Stand, answer: Stepped, phase: Phase) -> Taken
+    ensures { λ r. ⌜ (r .answer ≡ answer) × (r .stand .phase ≡ phase) ⌝ }
 {
     let version = stand.version;
     let place = stand.place;
     let label = stand.label;
     let setting = stand.setting;
-    Stand {
+    let halted = Stand {
         phase,
         version,
         place,
         label,
         setting,
-    }
-}
-
-// A step after which the reader is halted: what it answers comes again.
-fn last_step(stand: Stand, answer: Stepped, phase: Phase) -> Taken
-    ensures { λ r. ⌜ (r .answer ≡ answer) × Stays (r .stand) stand phase ⌝ }
-{
+    };
     Taken {
         answer,
-        stand: halted(stand, phase),
+        stand: halted,
     }
 }
 
 // A step at the end item, from which `left` bytes are left: 10 where others follow it.
 fn end_step(stand: Stand, left: usize) -> Taken
-    requires { ⌜ stand .place ≤ 9223372036854775807 ⌝ }
-    ensures { λ r. ⌜ Ends stand left r ⌝ }
+    requires { ⌜ stand .place ≤ sliceLimit ⌝ }
+    ensures { λ r. ⌜ EndStepped left stand r ⌝ }
 {
     if 1 < left {
-        let number = 10;
         let place = stand.place + 1;
         return last_step(
             stand,
-            Stepped::Refused { number, place },
-            Phase::Refused { number, place },
+            Stepped::Refused { number: 10, place },
+            Phase::Refused { number: 10, place },
         );
     }
     last_step(stand, Stepped::End, Phase::Ended)
@@ -140,7 +139,7 @@ fn end_step(stand: Stand, left: usize) -> Taken
 
 // The stand behind an item of so many bytes.
 fn behind(stand: Stand, size: usize, label: Label, setting: Setting) -> Stand
-    requires { ⌜ stand .place + size ≤ 9223372036854775807 ⌝ }
+    requires { ⌜ stand .place + size ≤ sliceLimit ⌝ }
     ensures { λ r. ⌜ r ≡ behindItem stand size label setting ⌝ }
 {
     Stand {
@@ -161,48 +160,52 @@ fn record_step(
     setting: Setting,
     fields: Fields,
 ) -> Taken
-    requires { ⌜ (stand .place + size ≤ 9223372036854775807) × (label .len ≤ 4096) × (length (label .bytes) ≡ 4096) ⌝ }
-    ensures { λ r. ⌜ Records stand size label setting fields (now (out .entry)) r (now (out .exit)) ⌝ }
+    requires { ⌜ (stand .place + size ≤ sliceLimit) × (label .len ≤ labelLimit) × (length (label .bytes) ≡ labelLimit) ⌝ }
+    ensures { λ r. ⌜ RecordStepped stand size label setting fields (now (out .entry)) r (now (out .exit)) ⌝ }
 {
+    let next = behind(stand, size, label, setting);
     let bytes = record::record_size(fields, label.len);
     if out.len() < bytes {
-        return Taken {
-            answer: Stepped::Refused {
-                number: 11,
-                place: bytes,
-            },
-            stand,
+        let answer = Stepped::Refused {
+            number: 11,
+            place: bytes,
         };
+        return Taken { answer, stand };
     }
     record::lay_record(out, 0, fields, &label.bytes, label.len);
+    let answer = Stepped::Record { bytes };
     Taken {
-        answer: Stepped::Record { bytes },
-        stand: behind(stand, size, label, setting),
+        answer,
+        stand: next,
     }
 }
 
-// One step from a stand before an item.
+// One step from a stand before an item. A place past the file finds no bytes, and a
+// label's length past its buffer counts as all of it.
 fn step_item(file: &[u8], stand: Stand, out: &mut [u8]) -> Taken
-    requires { ⌜ Inside stand (now file) × (stand .phase ≡ Going) ⌝ }
+    requires { ⌜ stand .phase ≡ Going ⌝ }
     ensures { λ r. ⌜ Steps stand (now (file .entry)) (now (out .entry)) r (now (out .exit)) ⌝ }
 {
     let mut label = stand.label;
-    let at = stand.place;
-    let old = label.len;
+    let place = stand.place;
+    let at = lesser(place, file.len());
+    let old = lesser(label.len, LABEL_LIMIT);
     let rest = &file[at..];
     let it = item::take_item(stand.version, rest, &mut label.bytes, old, stand.setting);
     match it {
         Step::Bad { number } => last_step(
             stand,
-            Stepped::Refused { number, place: at },
-            Phase::Refused { number, place: at },
+            Stepped::Refused { number, place },
+            Phase::Refused { number, place },
         ),
         Step::End => end_step(stand, rest.len()),
         Step::On { size, len, setting } => {
             label.len = len;
+            let next = behind(stand, size, label, setting);
+            let answer = Stepped::Nothing;
             Taken {
-                answer: Stepped::Nothing,
-                stand: behind(stand, size, label, setting),
+                answer,
+                stand: next,
             }
         }
         Step::Made {
@@ -220,7 +223,6 @@ fn step_item(file: &[u8], stand: Stand, out: &mut [u8]) -> Taken
 // One step: exactly one item, or the end or the refusal again. 11 leaves the stand as it
 // was.
 fn step_at(file: &[u8], stand: Stand, out: &mut [u8]) -> Taken
-    requires { ⌜ Inside stand (now file) ⌝ }
     ensures { λ r. ⌜ Steps stand (now (file .entry)) (now (out .entry)) r (now (out .exit)) ⌝ }
 {
     let phase = stand.phase;
@@ -245,15 +247,14 @@ pub struct Reader<'a> {
 
 // A reader of the file, before its first item.
 pub fn open<'a>(file: &'a [u8]) -> Reader<'a>
-    ensures { λ r. ⌜ (r .file ≡ file .entry) × ((standSeen (r .stand) ≡ openStand (now (file .entry))) × Inside (r .stand) (now (file .entry))) ⌝ }
+    ensures { λ r. ⌜ (r .file ≡ file .entry) × (standSeen (r .stand) ≡ openStand (now (file .entry))) ⌝ }
 {
     let stand = open_at(file);
     Reader { file, stand }
 }
 
-// One step of a reader.
+// One step of a reader, whatever its fields hold.
 pub fn step<'s, 'a>(reader: &'s mut Reader<'a>, out: &mut [u8]) -> Stepped
-    requires { ⌜ Inside (now reader .stand) (now (now reader .file)) ⌝ }
     ensures { λ r. ⌜ Steps (now (reader .entry) .stand) (now (now (reader .entry) .file)) (now (out .entry)) (record { answer = r; stand = now (reader .exit) .stand }) (now (out .exit)) × (now (reader .exit) .file ≡ now (reader .entry) .file) ⌝ }
 {
     let t = step_at(reader.file, reader.stand, out);

@@ -1,109 +1,74 @@
 -- What a writer counts from record to record, and its answer where there is room enough. Assumes nothing.
-use Prim.Native.Nat.{ℕ, zero, suc, _+_, _≤_}
+use Prim.Native.Nat.{ℕ, _+_, _≤_}
 use mathlib.Core.Path.{_≡_}
-use mathlib.Core.Bool.{_&&_, not}
 use mathlib.Core.List.{List}
 use lib.ListN.{length}
-use lib.Dec.{eqb, ltb}
+use lib.Dec.{ltb}
 use Rattle.format.specs.Bytes.{pick, over}
 use Rattle.format.specs.Header.{Header, fileLimit}
 use Rattle.format.specs.State.{State, start, Record}
-use Rattle.format.specs.Sheet.{Verdict, good, refusal, Result, orElse}
-use Rattle.format.specs.Reading.{Outcome, accepted, refused}
-use Rattle.format.specs.Writing.{encodeAll, codes, after, closing, fileOf, unsayable, styleVerdict, sizeVerdict}
+use Rattle.format.specs.Refusals.{orElse, refusalAt, Result, Outcome, accepted, outcomeOf}
+use Rattle.format.specs.Writing.{Writer, encodeAll, fileOf, sizeVerdict, filedOutcome, writtenOutcome}
 use Rattle.format.specs.Answers.{answerOf}
+use Rattle.format.specs.declared.Verdict.the-variants.{Good, Refusal}
 use Rattle.format.specs.declared.Answer.{Answer}
-use Rattle.format.specs.declared.Setting.{Setting}
-use Rattle.format.specs.declared.Fields.{Fields}
-use Rattle.format.specs.declared.Fields.the-variants.{Leg, Station, Section, Error}
-use Rattle.format.specs.declared.Position.the-variants.{Stands}
-use Rattle.ends.specs.Closing.{closingOver}
-use Rattle.tally.specs.declared.Tally.{Tally}
 use Rattle.wire.specs.Laid.{laid}
+use Rattle.tally.specs.declared.Tally.{Tally}
 
 -- ---- from record to record
-
--- the first record with "style 5 after another style": its number and one, or 0
-abbrev pub faultOf : ℕ → Verdict
-faultOf zero = good
-faultOf (suc p) = refusal 13 p
-
--- the record with this number, after a style
-abbrev pub faultAt : ℕ → Fields → ℕ → Verdict
-faultAt old (Leg flags style date from to) number = pick (eqb style 5 && not (eqb old 5)) (refusal 13 number) good
-faultAt old (Station flags place) number = good
-faultAt old (Section last size) number = good
-faultAt old (Error traverse) number = good
 
 -- a sum that stays once it is over what refusal 16 allows
 unfoldable pub bounded : ℕ → ℕ → ℕ
 bounded total n = pick (ltb fileLimit total) total (total + n)
 
 -- counts that leave room for one record more: bytes are at most a record over what refusal 16 allows
-pub record Fits (t : Tally) : Type 0 where
-  pub few-bytes : t .bytes ≤ 16781355
+pub record Fits (w : Writer) (t : Tally) : Type 0 where
+  pub few-bytes : t .bytes ≤ fileLimit + w .longest
   pub few-records : t .records ≤ 18446744073709551614
 
 -- in a state the codes of r are written into d behind the bytes so far, where they fit, which leaves d′
-pub record Adds (st : State) (r : Record) (d d′ : List ℕ) (t t′ : Tally) : Type 0 where
-  pub most : length (codes st r) ≤ 4139
-  pub bytes : t′ .bytes ≡ bounded (t .bytes) (length (codes st r))
+pub record Adds (w : Writer) (st : State) (r : Record) (d d′ : List ℕ) (t t′ : Tally) : Type 0 where
+  pub most : length (w .codes st r) ≤ w .longest
+  pub bytes : t′ .bytes ≡ bounded (t .bytes) (length (w .codes st r))
   pub records : t′ .records ≡ t .records + 1
-  pub fault : faultOf (t′ .fault) ≡ orElse (faultOf (t .fault)) (pick (unsayable st r) (refusal 13 (t .records)) good)
+  pub fault : refusalAt (w .number) (t′ .fault) ≡ orElse (refusalAt (w .number) (t .fault)) (pick (w .unable st r) (Refusal (w .number) (t .records)) Good)
   pub kept : length d′ ≡ length d
-  pub written : t .bytes + length (codes st r) ≤ length d → d′ ≡ laid d (t .bytes) (codes st r)
+  pub written : t .bytes + length (w .codes st r) ≤ length d → d′ ≡ laid d (t .bytes) (w .codes st r)
 
--- what a record leaves of style, date and position: "MOVE and LINE set the position"
-abbrev pub settingAfter : Setting → Fields → Setting
-settingAfter setting (Leg flags style date from to) = record { style = style; date = date; position = Stands to }
-settingAfter setting (Station flags place) = setting
-settingAfter setting (Section last size) = setting
-settingAfter setting (Error traverse) = setting
+-- ---- answers, each for just the room that is needed
 
--- ---- answers
-
--- a verdict on so many bytes and records, for room enough
-abbrev pub roomy : Verdict → ℕ → ℕ → Outcome
-roomy good bytes records = accepted bytes records 8
-roomy (refusal n p) bytes records = refused n p
-
--- the answer at the end of so many bytes and records: 13, 16
-unfoldable pub finalOutcome : ℕ → ℕ → ℕ → Outcome
-finalOutcome fault bytes records = roomy (orElse (faultOf fault) (sizeVerdict bytes)) bytes records
+-- at the end of so many bytes and records
+unfoldable pub finalOutcome : Writer → ℕ → ℕ → ℕ → Outcome
+finalOutcome w fault bytes records = outcomeOf (orElse (refusalAt (w .number) fault) (sizeVerdict bytes)) bytes records (w .version) bytes
 
 -- the closing codes are written into d behind the bytes so far where there is no fault and they fit, which leaves d′
-pub record Finished (d d′ : List ℕ) (style : ℕ) (t : Tally) (r : Answer) : Type 0 where
-  pub answer : answerOf r ≡ finalOutcome (t .fault) (t .bytes + length (closingOver style)) (t .records)
+pub record Finished (w : Writer) (d d′ closing : List ℕ) (t : Tally) (r : Answer) : Type 0 where
+  pub answer : answerOf r ≡ finalOutcome w (t .fault) (t .bytes + length closing) (t .records)
   pub kept : length d′ ≡ length d
-  pub written : t .fault ≡ 0 → t .bytes + length (closingOver style) ≤ length d → d′ ≡ laid d (t .bytes) (closingOver style)
+  pub written : t .fault ≡ 0 → t .bytes + length closing ≤ length d → d′ ≡ laid d (t .bytes) closing
 
--- ---- records whole
+-- ---- records whole, behind a header of so many bytes
 
--- the codes of records from the start on, with the closing codes
-abbrev pub encoded : Result → List ℕ
-encoded x = encodeAll codes after closing start (x .records)
+-- their codes from the start on, with the closing codes
+abbrev pub encoded : Writer → Result → List ℕ
+encoded w x = encodeAll w start (x .records)
 
--- "Writing: 12 (first bad record), 13, 16", behind a header of so many bytes
-unfoldable pub restOutcome : ℕ → Result → Outcome
-restOutcome head x =
-    roomy (orElse (x .verdict) (orElse (styleVerdict 0 start (x .records)) (sizeVerdict (head + length (encoded x))))) (head + length (encoded x)) (length (x .records))
+abbrev pub restOutcome : Writer → ℕ → Result → Outcome
+restOutcome w head x = let bytes = head + length (encoded w x) in filedOutcome w x bytes bytes
 
 -- the answer, and d′, which holds the codes from head on where the file is good and d has room for it
-pub record Rest (x : Result) (head : ℕ) (d d′ : List ℕ) (r : Answer) : Type 0 where
-  pub answer : answerOf r ≡ restOutcome head x
+pub record Rest (w : Writer) (x : Result) (head : ℕ) (d d′ : List ℕ) (r : Answer) : Type 0 where
+  pub answer : answerOf r ≡ restOutcome w head x
   pub kept : length d′ ≡ length d
-  pub written : (b n v : ℕ) → restOutcome head x ≡ accepted b n v → b ≤ length d → d′ ≡ laid d head (encoded x)
+  pub written : (b n v : ℕ) → restOutcome w head x ≡ accepted b n v → b ≤ length d → d′ ≡ laid d head (encoded w x)
 
 -- ---- a header and records whole
 
--- "Writing: 12 (first bad record), 13, 16": the answer for room enough
-unfoldable pub fileOutcome : Header → Result → Outcome
-fileOutcome h x =
-    let file = fileOf h (x .records) in
-    roomy (orElse (x .verdict) (orElse (styleVerdict 0 start (x .records)) (sizeVerdict (length file)))) (length file) (length (x .records))
+abbrev pub fileOutcome : Writer → Header → Result → Outcome
+fileOutcome w h x = writtenOutcome w h x (length (fileOf w h (x .records)))
 
 -- the answer, and d′, which holds the file from its front on where it is good and d has room for it
-pub record Passed (h : Header) (x : Result) (d d′ : List ℕ) (r : Answer) : Type 0 where
-  pub answer : answerOf r ≡ fileOutcome h x
+pub record Passed (w : Writer) (h : Header) (x : Result) (d d′ : List ℕ) (r : Answer) : Type 0 where
+  pub answer : answerOf r ≡ fileOutcome w h x
   pub kept : length d′ ≡ length d
-  pub written : (b n v : ℕ) → fileOutcome h x ≡ accepted b n v → b ≤ length d → d′ ≡ over (fileOf h (x .records)) d
+  pub written : (b n v : ℕ) → fileOutcome w h x ≡ accepted b n v → b ≤ length d → d′ ≡ over (fileOf w h (x .records)) d

@@ -1,15 +1,24 @@
 // Writing one record after another: the codes of each go behind those before it, and
 // bytes, records and the first fault are counted.
 use format::Answer;
+use format::FILE_LIMIT;
 use format::Fields;
 use format::Position;
 use format::Setting;
 ghost use mathlib.Core.Path.{_≡_};
-ghost use Prim.Native.Nat.{_≤_};
+ghost use mathlib.Core.List.{[]};
+ghost use Prim.Native.Nat.{_+_, _≤_};
 ghost use lib.ListN.{length};
 ghost use Rattle.format.specs.Fields.{recordOf, stateOf};
-ghost use Rattle.format.specs.Sheet.{orElse, WellFormed};
-ghost use Rattle.tally.specs.Tallies.{faultOf, faultAt, bounded, Fits, Adds, Finished, settingAfter};
+ghost use Rattle.format.specs.Refusals.{orElse, refusalAt};
+ghost use Rattle.format.specs.WellFormed.{WellFormed};
+ghost use Rattle.format.specs.Header.{fileLimit};
+ghost use Rattle.format.specs.Bytes.{pick};
+ghost use Rattle.format.specs.Codes.{codesLimit, unsayable, settingAfter, closing};
+ghost use Rattle.format.specs.Writing.{v8};
+ghost use Rattle.format.specs.declared.Verdict.the-variants.{Good, Refusal};
+ghost use Rattle.tally.specs.Tallies.{bounded, Fits, Adds, Finished};
+ghost use Rattle.format.specs.Label.{labelLimit};
 
 // The bytes so far, until they are over what refusal 16 allows; the records so far; and
 // the first record with style 5 after another style, as its number and one, or 0.
@@ -22,7 +31,7 @@ pub struct Tally {
 // `old` is the style before the record with this number.
 pub fn first_fault(fault: usize, old: u8, fields: Fields, number: usize) -> usize
     requires { ⌜ number ≤ 18446744073709551614 ⌝ }
-    ensures { λ r. ⌜ faultOf r ≡ orElse (faultOf fault) (faultAt old fields number) ⌝ }
+    ensures { λ r. ⌜ refusalAt 13 r ≡ orElse (refusalAt 13 fault) (pick (unsayable old (recordOf fields [])) (Refusal 13 number) Good) ⌝ }
 {
     if fault != 0 {
         return fault;
@@ -43,18 +52,18 @@ pub fn first_fault(fault: usize, old: u8, fields: Fields, number: usize) -> usiz
             }
             number + 1
         }
-        Fields::Station { flags: _, place: _ } => 0,
-        Fields::Section { last: _, size: _ } => 0,
+        Fields::Station { station: _ } => 0,
+        Fields::Section { section: _ } => 0,
         Fields::Error { traverse: _ } => 0,
     }
 }
 
 // The sum, until it is over what refusal 16 allows: then it stays.
 pub fn more(total: usize, n: usize) -> usize
-    requires { ⌜ (total ≤ 33554432) × (n ≤ 4139) ⌝ }
+    requires { ⌜ (total ≤ fileLimit + codesLimit) × (n ≤ codesLimit) ⌝ }
     ensures { λ r. ⌜ r ≡ bounded total n ⌝ }
 {
-    if 16777216 < total {
+    if FILE_LIMIT < total {
         return total;
     }
     total + n
@@ -80,8 +89,8 @@ pub fn put_next(
     name: &[u8],
     fields: Fields,
 ) -> Tally
-    requires { ⌜ Fits tally × (length (now last) ≤ 4096) × WellFormed (recordOf fields (now name)) ⌝ }
-    ensures { λ r. ⌜ Adds (stateOf setting (now (last .entry))) (recordOf fields (now (name .entry))) (now (out .entry)) (now (out .exit)) tally r ⌝ }
+    requires { ⌜ Fits v8 tally × (length (now last) ≤ labelLimit) × WellFormed (recordOf fields (now name)) ⌝ }
+    ensures { λ r. ⌜ Adds v8 (stateOf setting (now (last .entry))) (recordOf fields (now (name .entry))) (now (out .entry)) (now (out .exit)) tally r ⌝ }
 {
     let start = within(tally.bytes, out.len());
     let n = codes::put_record(&mut out[start..], setting, last, name, fields);
@@ -95,8 +104,8 @@ pub fn put_next(
 // The end of a file: the closing codes, written where they fit into out behind the
 // bytes so far, and the answer, for room enough.
 pub fn finish(out: &mut [u8], style: u8, total: usize, number: usize, fault: usize) -> Answer
-    requires { ⌜ total ≤ 16781355 ⌝ }
-    ensures { λ r. ⌜ Finished (now (out .entry)) (now (out .exit)) style (record { bytes = total; records = number; fault = fault }) r ⌝ }
+    requires { ⌜ total ≤ fileLimit + codesLimit ⌝ }
+    ensures { λ r. ⌜ Finished v8 (now (out .entry)) (now (out .exit)) (closing style) (record { bytes = total; records = number; fault = fault }) r ⌝ }
 {
     if fault != 0 {
         return Answer::Refused {
@@ -107,7 +116,7 @@ pub fn finish(out: &mut [u8], style: u8, total: usize, number: usize, fault: usi
     let start = within(total, out.len());
     let n = ends::put_closing(&mut out[start..], style);
     let bytes = total + n;
-    if 16777216 < bytes {
+    if FILE_LIMIT < bytes {
         return Answer::Refused {
             number: 16,
             place: 0,
@@ -124,7 +133,7 @@ pub fn finish(out: &mut [u8], style: u8, total: usize, number: usize, fault: usi
 
 // Only a leg changes style, date and position.
 pub fn setting_after(setting: Setting, fields: Fields) -> Setting
-    ensures { λ r. ⌜ r ≡ settingAfter setting fields ⌝ }
+    ensures { λ r. ⌜ r ≡ settingAfter setting (recordOf fields []) ⌝ }
 {
     match fields {
         Fields::Leg {
@@ -138,8 +147,8 @@ pub fn setting_after(setting: Setting, fields: Fields) -> Setting
             date,
             position: Position::Stands { point },
         },
-        Fields::Station { flags: _, place: _ } => setting,
-        Fields::Section { last: _, size: _ } => setting,
+        Fields::Station { station: _ } => setting,
+        Fields::Section { section: _ } => setting,
         Fields::Error { traverse: _ } => setting,
     }
 }

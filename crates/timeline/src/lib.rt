@@ -1,57 +1,38 @@
 // Which of two files was written later, by the time lines of their headers.
+use format::Handed;
+use format::Spelled;
+use format::Stamp;
 ghost use mathlib.Core.Path.{_≡_};
 ghost use Prim.Native.Nat.{_+_, _≤_};
 ghost use lib.ListN.{length, take, drop};
 ghost use Rattle.format.specs.Times.{secondsOf, stampOf, judged, compareOf, partOf, handed, laterPart};
 ghost use Rattle.format.specs.Answers.{laterOf};
-ghost use Rattle.timeline.specs.Handing.{stampSeen, Stands, Stamping, lineIn, placeIn, partSeen, handedLine, handedPlace};
-
-// What a file says of its time: a refusal; or the seconds since 1970, and the
-// place and the length of the time line.
-enum Stamped {
-    Refused {
-        number: u8,
-        place: usize,
-    },
-    At {
-        seconds: u64,
-        place: usize,
-        size: usize,
-    },
-}
-
-// A part of one of two files: the file, 1 or 2, and the part's place and length in it;
-// all 0 for the empty part.
-pub struct Part {
-    pub file: u8,
-    pub place: usize,
-    pub size: usize,
-}
+ghost use Rattle.timeline.specs.Handing.{Stands, Stamping, lineIn, placeIn, handedLine, handedPlace};
 
 // A file's time line, of size bytes at place, as its time.
-fn line_stamp(file: &[u8], place: usize, size: usize) -> Stamped
+fn line_stamp(file: &[u8], place: usize, size: usize) -> Stamp
     requires { ⌜ place + size ≤ length (now file) ⌝ }
     ensures { λ r. ⌜ Stamping r (now (file .entry)) (secondsOf (take size (drop place (now (file .entry))))) place size ⌝ }
 {
     let end = place + size;
     let found = seconds::seconds_of(&file[place..end]);
     match found {
-        seconds::Spelled::Number { value } => Stamped::At {
+        Spelled::Number { value } => Stamp::Stamped {
             seconds: value,
             place,
             size,
         },
-        seconds::Spelled::Nothing => Stamped::Refused { number: 17, place },
+        Spelled::Unreadable => Stamp::Unstamped { number: 17, place },
     }
 }
 
 // A file's time, by its header alone.
-fn stamp(file: &[u8]) -> Stamped
-    ensures { λ r. ⌜ (stampSeen r ≡ stampOf (now (file .entry))) × Stands r (now (file .entry)) ⌝ }
+fn stamp(file: &[u8]) -> Stamp
+    ensures { λ r. ⌜ (r ≡ stampOf (now (file .entry))) × Stands r (now (file .entry)) ⌝ }
 {
     let head = header::opening(file);
     match head {
-        header::Head::Shut { number, place } => Stamped::Refused { number, place },
+        header::Head::Shut { number, place } => Stamp::Unstamped { number, place },
         header::Head::Whole {
             version: _,
             place: _,
@@ -63,18 +44,18 @@ fn stamp(file: &[u8]) -> Stamped
 }
 
 // Which of two times is later. The first file's refusal comes first.
-fn judge(first: Stamped, second: Stamped) -> format::Later
-    ensures { λ r. ⌜ laterOf r ≡ judged (stampSeen first) (stampSeen second) ⌝ }
+fn judge(first: Stamp, second: Stamp) -> format::Later
+    ensures { λ r. ⌜ laterOf r ≡ judged first second ⌝ }
 {
     match first {
-        Stamped::Refused { number, place } => format::Later::FirstRefused { number, place },
-        Stamped::At {
+        Stamp::Unstamped { number, place } => format::Later::FirstRefused { number, place },
+        Stamp::Stamped {
             seconds: t,
             place: _,
             size: _,
         } => match second {
-            Stamped::Refused { number, place } => format::Later::SecondRefused { number, place },
-            Stamped::At {
+            Stamp::Unstamped { number, place } => format::Later::SecondRefused { number, place },
+            Stamp::Stamped {
                 seconds: u,
                 place: _,
                 size: _,
@@ -101,31 +82,31 @@ pub fn compare(first: &[u8], second: &[u8]) -> format::Later
 }
 
 // The time line of the file with this number; the empty part after a refusal.
-fn part_of(file: u8, s: Stamped) -> Part
-    ensures { λ r. ⌜ partSeen r ≡ partOf file (stampSeen s) ⌝ }
+fn part_of(file: u8, s: Stamp) -> Handed
+    ensures { λ r. ⌜ r ≡ partOf file s ⌝ }
 {
     match s {
-        Stamped::Refused {
+        Stamp::Unstamped {
             number: _,
             place: _,
-        } => Part {
+        } => Handed {
             file: 0,
             place: 0,
             size: 0,
         },
-        Stamped::At {
+        Stamp::Stamped {
             seconds: _,
             place,
             size,
-        } => Part { file, place, size },
+        } => Handed { file, place, size },
     }
 }
 
 // The part that goes with the answer of two times.
-fn part_for(later: format::Later, one: Stamped, other: Stamped) -> Part
-    ensures { λ r. ⌜ partSeen r ≡ handed (laterOf later) (stampSeen one) (stampSeen other) ⌝ }
+fn part_for(later: format::Later, one: Stamp, other: Stamp) -> Handed
+    ensures { λ r. ⌜ r ≡ handed (laterOf later) one other ⌝ }
 {
-    let empty = Part {
+    let empty = Handed {
         file: 0,
         place: 0,
         size: 0,
@@ -147,8 +128,8 @@ fn part_for(later: format::Later, one: Stamped, other: Stamped) -> Part
 
 // The later file's time line by its place and length, for callers that cannot be
 // handed a part of a file.
-pub fn later_part(first: &[u8], second: &[u8]) -> Part
-    ensures { λ r. ⌜ partSeen r ≡ laterPart (now (first .entry)) (now (second .entry)) ⌝ }
+pub fn later_part(first: &[u8], second: &[u8]) -> Handed
+    ensures { λ r. ⌜ r ≡ laterPart (now (first .entry)) (now (second .entry)) ⌝ }
 {
     let one = stamp(first);
     let other = stamp(second);
@@ -157,17 +138,17 @@ pub fn later_part(first: &[u8], second: &[u8]) -> Part
 }
 
 // The time line of a file whose time is known; an empty part after a refusal.
-fn line_of<'a>(file: &'a [u8], s: Stamped) -> &'a [u8]
+fn line_of<'a>(file: &'a [u8], s: Stamp) -> &'a [u8]
     requires { ⌜ Stands s (now file) ⌝ }
     ensures { λ r. ⌜ now r ≡ lineIn s (now (file .entry)) ⌝ }
     ensures { λ r. ⌜ r .ptr ≡ placeIn s (file .entry .ptr) ⌝ }
 {
     match s {
-        Stamped::Refused {
+        Stamp::Unstamped {
             number: _,
             place: _,
         } => &file[0..0],
-        Stamped::At {
+        Stamp::Stamped {
             seconds: _,
             place,
             size,

@@ -10,11 +10,11 @@ use native.Mathlib.Omega.{arith}
 use borrow.Rule.Slice.PartAt.{part-to-end}
 use borrow.Author.Tests.{eq-eqb, ne-eqb, lt-ltb, le-ltb}
 use lib.ListN.{length, take, drop, getD, set, length-append, length-take, length-drop, take-append-drop}
-use lib.Seq.{drop-drop, take-at, drop-at, drop-length, drop-cons, take-suc, append-snoc, set-at, length-take-le}
+use lib.Seq.{drop-drop, drop-append-le, take-take, take-at, drop-at, drop-length, drop-cons, take-suc, append-snoc, set-at, length-take-le}
 use Rattle.format.specs.Bytes.{pick, le32, over, same}
 use Rattle.format.proofs.Basics.{pick-case, same-true}
 use Rattle.format.specs.Header.{lineEnd}
-use Rattle.format.specs.Writing.{common}
+use Rattle.format.specs.Codes.{common}
 use Rattle.wire.specs.Laid.{laid, laidIf}
 
 -- ---- a part of no bytes
@@ -66,6 +66,17 @@ module _ (d s : List ℕ) (k : ℕ) (h : k ≤ length d) where
 pub length-laid : (d s : List ℕ) (k : ℕ) → k + length s ≤ length d → length (laid d k s) ≡ length d
 unfolding laid
 length-laid d s k h = simp (length-append, length-take, length-drop) (omega arith)
+
+-- what is laid into the first b bytes is laid into the whole
+pub laid-within : (d s : List ℕ) (k b : ℕ) → k + length s ≤ b → b ≤ length d → laid (take b d) k s ++ drop b d ≡ laid d k s
+unfolding laid
+laid-within d s k b h j =
+    let n = length-take-le b d j in
+    let e : drop (k + length s) d ≡ drop (k + length s) (take b d) ++ drop b d = ap (drop (k + length s)) (sym (take-append-drop b d)) ∙ drop-append-le (k + length s) (take b d) (drop b d) (omega arith) in
+    simp append-assoc (rw (take-take k b d (omega arith), e))
+
+pub over-within : (d s : List ℕ) (b : ℕ) → length s ≤ b → b ≤ length d → over s (take b d) ++ drop b d ≡ over s d
+over-within d s b h j = rw (← (laid-zero (take b d) s), ← (laid-zero d s)) (laid-within d s 0 b (omega arith) j)
 
 -- one thing laid after another is both laid together
 pub laid-next : (d s t : List ℕ) (k : ℕ) → k ≤ length d → laid (laid d k s) (k + length s) t ≡ laid d k (s ++ t)

@@ -4,7 +4,7 @@ ghost use Prim.Native.Nat.{_≤_, min};
 ghost use lib.ListN.{length, take};
 ghost use Rattle.format.specs.Bytes.{same, over};
 ghost use Rattle.format.specs.Header.{lineEnd};
-ghost use Rattle.format.specs.Writing.{common};
+ghost use Rattle.format.specs.Codes.{common};
 ghost use Rattle.wire.specs.Begun.{Begun};
 use number::get_le32;
 

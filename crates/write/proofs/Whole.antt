@@ -5,23 +5,25 @@ use mathlib.Core.Bool.{false}
 use mathlib.Core.List.{List}
 use native.Mathlib.Omega.{arith}
 use lib.ListN.{take, drop}
-use Rattle.format.specs.Sheet.{refusal, stop, recordsOf, goodFront, frontHeader, behindFront, sheetResult}
-use Rattle.format.specs.Reading.{refused}
-use Rattle.format.specs.Writing.{headerCodes}
+use Rattle.format.specs.Sheet.{sheetVersion, recordsOf, goodFront, frontHeader, behindFront, sheetResult}
+use Rattle.format.specs.Refusals.{stop, refused}
+use Rattle.format.specs.declared.Verdict.the-variants.{Refusal}
+use Rattle.format.specs.Codes.{headerCodes, headerLimit}
+use Rattle.format.specs.Writing.{v8, filedOutcome, writtenOutcome}
 use Rattle.format.specs.declared.Answer.{Answer}
 use Rattle.format.specs.declared.Answer.the-variants.{Refused}
 use Rattle.format.proofs.Basics.{pick-true, pick-false}
 use Rattle.sheet.specs.Seen.{Fronted}
 use Rattle.part.specs.Lays.{Puts}
 use Rattle.tally.specs.Tallies.{Rest, fileOutcome, Passed}
-use Rattle.tally.proofs.Left.{never}
+use Rattle.format.proofs.RefusalLaws.{never}
 use Rattle.tally.proofs.Files.{pass-whole}
 
 -- the front is not good
-pub pass-flawed : (sheet d : List ℕ) → goodFront sheet ≡ false → Passed (frontHeader sheet) (sheetResult sheet) d d (Refused 12 0)
-unfolding fileOutcome sheetResult
+pub pass-flawed : (sheet d : List ℕ) → goodFront sheet ≡ false → Passed v8 (frontHeader sheet) (sheetResult sheet) d d (Refused 12 0)
+unfolding writtenOutcome filedOutcome sheetResult
 pass-flawed sheet d e =
-    let z : refused 12 0 ≡ fileOutcome (frontHeader sheet) (sheetResult sheet) = rw (pick-false (recordsOf (behindFront sheet)) (stop (refusal 12 0)) e) in
+    let z : refused 12 0 ≡ fileOutcome v8 (frontHeader sheet) (sheetResult sheet) = rw (pick-false (recordsOf sheetVersion (behindFront sheet)) (stop (Refusal 12 0)) e) in
     record { answer = z; kept = refl; written = λ b n v q h. absurd (never 12 0 b n v (z ∙ q)) }
 
 -- the bytes of the header's texts, as the code cuts them out
@@ -34,9 +36,9 @@ header-cut sheet x k m F =
 
 -- it is, and the records stand behind it
 pub pass-sheet : (sheet d e f : List ℕ) (x k m head : ℕ) (r : Answer) → Fronted sheet x k m
-    → Puts d e (headerCodes (record { extended = x; title = take (7 + k - 7) (drop 7 sheet); time = take (7 + k + m - (7 + k)) (drop (7 + k) sheet) })) 4187 head
-    → Rest (recordsOf (drop (7 + k + m) sheet)) head e f r → Passed (frontHeader sheet) (sheetResult sheet) d f r
+    → Puts d e (headerCodes (record { extended = x; title = take (7 + k - 7) (drop 7 sheet); time = take (7 + k + m - (7 + k)) (drop (7 + k) sheet) })) headerLimit head
+    → Rest v8 (recordsOf sheetVersion (drop (7 + k + m) sheet)) head e f r → Passed v8 (frontHeader sheet) (sheetResult sheet) d f r
 unfolding sheetResult
 pass-sheet sheet d e f x k m head r F P R =
-    let q : sheetResult sheet ≡ recordsOf (drop (7 + k + m) sheet) = pick-true _ _ (F .good) ∙ ap recordsOf (F .behind) in
-    rw q (pass-whole (frontHeader sheet) (recordsOf (drop (7 + k + m) sheet)) d e f head r (rw (header-cut sheet x k m F) P) R)
+    let q : sheetResult sheet ≡ recordsOf sheetVersion (drop (7 + k + m) sheet) = pick-true _ _ (F .good) ∙ ap (recordsOf sheetVersion) (F .behind) in
+    rw q (pass-whole v8 (frontHeader sheet) (recordsOf sheetVersion (drop (7 + k + m) sheet)) d e f headerLimit head r (rw (header-cut sheet x k m F) P) R)

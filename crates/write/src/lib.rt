@@ -4,12 +4,11 @@ use format::Setting;
 ghost use mathlib.Core.Path.{_≡_};
 ghost use Prim.Native.Nat.{_≤_};
 ghost use lib.ListN.{length, drop};
-ghost use Rattle.format.specs.Sheet.{recordsOf, frontHeader, sheetResult};
+ghost use Rattle.format.specs.Sheet.{sheetVersion, recordsOf, frontHeader, sheetResult};
 ghost use Rattle.format.specs.Answers.{answerOf};
-ghost use Rattle.format.specs.Writing.{writeOutcome, writeBuffer};
+ghost use Rattle.format.specs.Writing.{v8, writeOutcome, writeBuffer};
 ghost use Rattle.tally.specs.Tallies.{Rest, Passed};
-ghost use Rattle.format.specs.declared.Dated.the-variants.{Undated};
-ghost use Rattle.format.specs.declared.Position.the-variants.{Unset};
+ghost use Rattle.format.specs.State.{startSetting};
 ghost use Rattle.write.specs.Passing.{handAfter};
 
 // ---- the records of a sheet
@@ -23,15 +22,10 @@ struct Hand {
 }
 
 fn fresh() -> Hand
-    ensures { λ r. ⌜ (r .setting ≡ record { style = 5; date = Undated; position = Unset }) × (r .from ≡ 0) × (r .to ≡ 0) ⌝ }
+    ensures { λ r. ⌜ (r .setting ≡ startSetting) × (r .from ≡ 0) × (r .to ≡ 0) ⌝ }
 {
-    let setting = Setting {
-        style: 5,
-        date: format::Dated::Undated,
-        position: format::Position::Unset,
-    };
     Hand {
-        setting,
+        setting: format::start_setting(),
         from: 0,
         to: 0,
     }
@@ -57,11 +51,11 @@ fn hand_after(hand: Hand, fields: format::Fields, from: usize, to: usize) -> Han
             };
             Hand { setting, from, to }
         }
-        format::Fields::Station { flags: _, place: _ } => {
+        format::Fields::Station { station: _ } => {
             let setting = hand.setting;
             Hand { setting, from, to }
         }
-        format::Fields::Section { last: _, size: _ } => {
+        format::Fields::Section { section: _ } => {
             let setting = hand.setting;
             Hand { setting, from, to }
         }
@@ -73,7 +67,7 @@ fn hand_after(hand: Hand, fields: format::Fields, from: usize, to: usize) -> Han
 // fit into out from `head` on: the answer, for room enough.
 fn put_records(sheet: &[u8], begin: usize, out: &mut [u8], head: usize) -> format::Answer
     requires { ⌜ (begin ≤ length (now sheet)) × (head ≤ 8192) ⌝ }
-    ensures { λ r. ⌜ Rest (recordsOf (drop begin (now (sheet .entry)))) head (now (out .entry)) (now (out .exit)) r ⌝ }
+    ensures { λ r. ⌜ Rest v8 (recordsOf sheetVersion (drop begin (now (sheet .entry)))) head (now (out .entry)) (now (out .exit)) r ⌝ }
 {
     let mut at = begin;
     let mut total = head;
@@ -114,7 +108,7 @@ fn put_records(sheet: &[u8], begin: usize, out: &mut [u8], head: usize) -> forma
 // A pass over the sheet: the answer, for room enough, and each piece written where
 // it fits.
 fn pass(sheet: &[u8], out: &mut [u8]) -> format::Answer
-    ensures { λ r. ⌜ Passed (frontHeader (now (sheet .entry))) (sheetResult (now (sheet .entry))) (now (out .entry)) (now (out .exit)) r ⌝ }
+    ensures { λ r. ⌜ Passed v8 (frontHeader (now (sheet .entry))) (sheetResult (now (sheet .entry))) (now (out .entry)) (now (out .exit)) r ⌝ }
 {
     let front = sheet::read_front(sheet);
     match front {
@@ -136,10 +130,10 @@ fn pass(sheet: &[u8], out: &mut [u8]) -> format::Answer
 }
 
 // Writes the v8 file of a sheet to the front of out. The first pass, lent no bytes,
-// gives the answer.
+// gives the answer; the second is lent the bytes that are needed.
 pub fn write(sheet: &[u8], out: &mut [u8]) -> format::Answer
-    ensures answer { λ r. ⌜ answerOf r ≡ writeOutcome (now (sheet .entry)) (length (now (out .entry))) ⌝ }
-    ensures file { λ _. ⌜ now (out .exit) ≡ writeBuffer (now (sheet .entry)) (now (out .entry)) ⌝ }
+    ensures answer { λ r. ⌜ answerOf r ≡ writeOutcome v8 (now (sheet .entry)) (length (now (out .entry))) ⌝ }
+    ensures file { λ _. ⌜ now (out .exit) ≡ writeBuffer v8 (now (sheet .entry)) (now (out .entry)) ⌝ }
 {
     let answer = pass(sheet, &mut out[..0]);
     match answer {
@@ -155,7 +149,7 @@ pub fn write(sheet: &[u8], out: &mut [u8]) -> format::Answer
                     place: bytes,
                 };
             }
-            pass(sheet, out);
+            pass(sheet, &mut out[..bytes]);
             format::Answer::Done {
                 bytes,
                 records,

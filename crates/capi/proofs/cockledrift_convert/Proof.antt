@@ -1,7 +1,7 @@
 -- `capi::cockledrift_convert` meets its contract. Assumes nothing.
 use borrow.Author.Needs.{needs}
 use mathlib.Core.Path.{ap, _∙_}
-use Rattle.told.specs.Numbers.{toldOf}
+use Rattle.told.specs.Numbers.{outcomeNumbers}
 use Rattle.capi.proofs.cockledrift_convert.Statement.{statement}
 use Rattle.capi.proofs.cockledrift_convert.Tie as tie
 
@@ -20,7 +20,7 @@ same-length-2 c = search needs
 returns : tie.Need-returns
 returns c =
     let e = c .before .before .before .before .before .convert .ensures in
-    (c .tell .ensures ∙ ap toldOf (e .0), e .1)
+    (c .tell .ensures ∙ ap outcomeNumbers (e .0), e .1)
 
 pub cockledrift-convert-spec : {M : Type 1} → statement M
 cockledrift-convert-spec =

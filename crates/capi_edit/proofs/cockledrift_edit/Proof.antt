@@ -1,6 +1,6 @@
 -- `capi_edit::cockledrift_edit` meets its contract. Assumes nothing.
 use mathlib.Core.Path.{ap, _∙_}
-use Rattle.told.specs.Numbers.{toldOf}
+use Rattle.told.specs.Numbers.{outcomeNumbers}
 use borrow.Author.Needs.{needs}
 use Rattle.capi_edit.proofs.cockledrift_edit.Statement.{statement}
 use Rattle.capi_edit.proofs.cockledrift_edit.Tie as tie
@@ -17,7 +17,7 @@ same-length c = search needs
 returns : tie.Need-returns
 returns c =
     let e = c .before .before .before .edit .ensures in
-    (c .tell .ensures ∙ ap toldOf (e .0), e .1)
+    (c .tell .ensures ∙ ap outcomeNumbers (e .0), e .1)
 
 pub cockledrift-edit-spec : {M : Type 1} → statement M
 cockledrift-edit-spec = tie.close (tie.spec edit-requires tell-requires same-length returns)

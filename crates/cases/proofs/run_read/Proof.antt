@@ -1,7 +1,6 @@
 -- `cases::run_read` meets its contract: the sheet that was read fits. Assumes nothing.
 use native.Mathlib.Omega.{arith}
 use mathlib.Core.Path.{sym}
-use lib.ListN.{length-take}
 use lib.Seq.{length-take-le}
 use Rattle.read.proofs.Room.{read-room}
 use borrow.Author.Needs.{needs}
@@ -41,11 +40,7 @@ slice-aggregate-list-2 : tie.Need-slice-aggregate-list-2
 slice-aggregate-list-2 c = search needs
 
 list-requires : tie.Need-list-requires
-list-requires c κs =
-    let R = c .before .before .before .before .before .before .read in
-    let h = read-room _ _ _ _ _ (rw (c .before .before .before .a2 .given .1) at (R .ensures .0)) in
-    let k = R .kept .1 .0 in
-    simp length-take (omega arith)
+list-requires c κs = search needs
 
 slice-aggregate-print-line : tie.Need-slice-aggregate-print-line
 slice-aggregate-print-line c = search needs

@@ -1,5 +1,5 @@
 -- `codes::fits_short` meets its contract. Assumes nothing.
-use Rattle.format.specs.Writing.{fitsShort}
+use Rattle.format.specs.Codes.{fitsShort}
 use borrow.Author.Tests.{le-leb, lt-leb}
 use Rattle.codes.proofs.fits_short.Statement.{statement}
 use Rattle.codes.proofs.fits_short.Tie as tie

@@ -1,8 +1,8 @@
--- `converter::main` meets its contract. Assumes nothing.
-use borrow.Author.Needs.{needs}
+-- `converter::main` meets its contract: its arrays have the lengths that `output_of` requires. Assumes nothing.
 use native.Mathlib.Omega.{arith}
 use mathlib.Core.Path.{sym}
 use lib.Seq.{length-take-le}
+use borrow.Author.Needs.{needs}
 use Rattle.converter.proofs.main.Statement.{statement}
 use Rattle.converter.proofs.main.Tie as tie
 
@@ -11,9 +11,6 @@ slice-aggregate-read-full c = search needs
 
 read-full-requires : tie.Need-read-full-requires
 read-full-requires c κs = search needs
-
-array-share-prefix-input : tie.Need-array-share-prefix-input
-array-share-prefix-input c = search needs
 
 slice-aggregate-output-of : tie.Need-slice-aggregate-output-of
 slice-aggregate-output-of c = search needs
@@ -25,17 +22,18 @@ slice-aggregate-output-of-3 : tie.Need-slice-aggregate-output-of-3
 slice-aggregate-output-of-3 c = search needs
 
 output-of-requires : tie.Need-output-of-requires
-output-of-requires c κs = search needs
+output-of-requires c κs =
+    let k = c .before .before .before .before .read-full .kept .1 .0 in
+    let n = c .before .before .before .before .read-full .ensures in
+    (omega arith, omega (arith, n), omega arith, omega arith)
 
 array-share-prefix-out : tie.Need-array-share-prefix-out
 array-share-prefix-out c = search needs
 
 slice-aggregate-write-all : tie.Need-slice-aggregate-write-all
 slice-aggregate-write-all c =
-    let o = c .before .before .before .output-of in
-    let k = o .kept .1 .1 .0 in
-    let h = o .ensures .0 in
-    sym (length-take-le _ _ (omega arith))
+    let k = c .before .before .before .output-of .kept .1 .1 .0 in
+    sym (length-take-le _ _ (omega (arith, k, c .before .before .before .output-of .ensures .0)))
 
 write-all-requires : tie.Need-write-all-requires
 write-all-requires c κs = search needs
@@ -49,7 +47,6 @@ main-spec =
     (tie.spec
     slice-aggregate-read-full
     read-full-requires
-    array-share-prefix-input
     slice-aggregate-output-of
     slice-aggregate-output-of-2
     slice-aggregate-output-of-3

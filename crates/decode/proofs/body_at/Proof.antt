@@ -3,29 +3,17 @@ use borrow.Author.Needs.{needs}
 use Rattle.decode.proofs.body_at.Statement.{statement}
 use Rattle.decode.proofs.body_at.Tie as tie
 
-enum-known-tail : tie.Need-enum-known-tail
-enum-known-tail c = search needs
-
 short-dimensions-requires : tie.Need-short-dimensions-requires
 short-dimensions-requires c κs =
     rw (c .before .tail .given .1) at (c .before .before .before .before .pre)
-
-enum-known-tail-2 : tie.Need-enum-known-tail-2
-enum-known-tail-2 c = search needs
 
 long-dimensions-requires : tie.Need-long-dimensions-requires
 long-dimensions-requires c κs =
     rw (c .before .tail2 .given .1) at (c .before .before .before .before .pre)
 
-enum-known-tail-3 : tie.Need-enum-known-tail-3
-enum-known-tail-3 c = search needs
-
 get-point-requires : tie.Need-get-point-requires
 get-point-requires c κs =
     rw (c .before .tail3 .given .1) at (c .before .before .before .before .pre)
-
-enum-known-tail-4 : tie.Need-enum-known-tail-4
-enum-known-tail-4 c = search needs
 
 get-point-requires-2 : tie.Need-get-point-requires-2
 get-point-requires-2 c κs =
@@ -47,19 +35,6 @@ returns-4 : tie.Need-returns-4
 returns-4 c =
     record { same = λ d added. rw (c .before .before .tail4 .given .1) (simp (c .get-point2 .ensures)); bodied = tt }
 
+-- the search closes the other needs
 pub body-at-spec : {M : Type 1} → statement M
-body-at-spec =
-    tie.close
-    (tie.spec
-    enum-known-tail
-    short-dimensions-requires
-    enum-known-tail-2
-    long-dimensions-requires
-    enum-known-tail-3
-    get-point-requires
-    enum-known-tail-4
-    get-point-requires-2
-    returns
-    returns-2
-    returns-3
-    returns-4)
+body-at-spec = tie.close (tie.spec (λ c. search needs) short-dimensions-requires (λ c. search needs) long-dimensions-requires (λ c. search needs) get-point-requires (λ c. search needs) get-point-requires-2 returns returns-2 returns-3 returns-4)

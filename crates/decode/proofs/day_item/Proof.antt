@@ -1,42 +1,19 @@
 -- `decode::day_item` meets its contract. Assumes nothing.
-use borrow.Author.Tests.{lt-ltb, le-ltb}
-use Rattle.format.specs.Bytes.{pick}
 use borrow.Rule.Slice.PartAt.{part-to-end}
-use Rattle.format.specs.Items.{sized, dayItem}
+use Rattle.format.specs.Items.{dayItem}
+use Rattle.decode.proofs.Sized.{reads-short, reads-whole}
 use borrow.Author.Needs.{needs}
 use Rattle.decode.proofs.day_item.Statement.{statement}
 use Rattle.decode.proofs.day_item.Tie as tie
 
 returns : tie.Need-returns
-unfolding dayItem sized pick
-returns c =
-    record { same = simp (lt-ltb _ _ (c .if1 .taken)); sound = tt }
-
-sub-get-le16 : tie.Need-sub-get-le16
-sub-get-le16 c = search needs
-
-part-get-le16-start : tie.Need-part-get-le16-start
-part-get-le16-start c = search needs
-
-part-get-le16-end : tie.Need-part-get-le16-end
-part-get-le16-end c = search needs
-
-get-le16-requires : tie.Need-get-le16-requires
-get-le16-requires c κs = search needs
+unfolding dayItem
+returns c = reads-short 3 _ _ (c .if1 .taken)
 
 returns-2 : tie.Need-returns-2
-unfolding dayItem sized pick
-returns-2 c =
-    let e = simp part-to-end at (c .get-le16 .ensures .0) in
-    record { same = simp (e, le-ltb _ _ (c .before .before .if1 .left)); sound = tt }
+unfolding dayItem
+returns-2 c = reads-whole 3 _ _ (c .before .before .if1 .left) (simp (c .get-le16 .ensures .0, part-to-end)) tt
 
+-- the search closes the other needs
 pub day-item-spec : {M : Type 1} → statement M
-day-item-spec =
-    tie.close
-    (tie.spec
-    returns
-    sub-get-le16
-    part-get-le16-start
-    part-get-le16-end
-    get-le16-requires
-    returns-2)
+day-item-spec = tie.close (tie.spec returns (λ c. search needs) (λ c. search needs) (λ c. search needs) (λ c κs. search needs) returns-2)

@@ -4,50 +4,12 @@ use borrow.Author.Needs.{needs}
 use Rattle.decode.proofs.get_point.Statement.{statement}
 use Rattle.decode.proofs.get_point.Tie as tie
 
-get-le32-requires : tie.Need-get-le32-requires
-get-le32-requires c κs = search needs
-
-sub-get-le32 : tie.Need-sub-get-le32
-sub-get-le32 c = search needs
-
-part-get-le32-start : tie.Need-part-get-le32-start
-part-get-le32-start c = search needs
-
-part-get-le32-end : tie.Need-part-get-le32-end
-part-get-le32-end c = search needs
-
-get-le32-requires-2 : tie.Need-get-le32-requires-2
-get-le32-requires-2 c κs = search needs
-
-sub-get-le32-2 : tie.Need-sub-get-le32-2
-sub-get-le32-2 c = search needs
-
-part-get-le32-start-2 : tie.Need-part-get-le32-start-2
-part-get-le32-start-2 c = search needs
-
-part-get-le32-end-2 : tie.Need-part-get-le32-end-2
-part-get-le32-end-2 c = search needs
-
-get-le32-requires-3 : tie.Need-get-le32-requires-3
-get-le32-requires-3 c κs = search needs
-
 returns : tie.Need-returns
 returns c =
     let e2 = simp part-to-end at (c .before .before .get-le322 .ensures .0) in
     let e3 = simp part-to-end at (c .get-le323 .ensures .0) in
     simp (c .before .before .before .before .get-le32 .ensures .0, e2, e3)
 
+-- the search closes the other needs
 pub get-point-spec : {M : Type 1} → statement M
-get-point-spec =
-    tie.close
-    (tie.spec
-    get-le32-requires
-    sub-get-le32
-    part-get-le32-start
-    part-get-le32-end
-    get-le32-requires-2
-    sub-get-le32-2
-    part-get-le32-start-2
-    part-get-le32-end-2
-    get-le32-requires-3
-    returns)
+get-point-spec = tie.close (tie.spec (λ c κs. search needs) (λ c. search needs) (λ c. search needs) (λ c. search needs) (λ c κs. search needs) (λ c. search needs) (λ c. search needs) (λ c. search needs) (λ c κs. search needs) returns)

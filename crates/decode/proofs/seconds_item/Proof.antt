@@ -1,46 +1,19 @@
 -- `decode::seconds_item` meets its contract. Assumes nothing.
-use borrow.Author.Tests.{lt-ltb, le-ltb}
-use Rattle.format.specs.Bytes.{pick}
 use borrow.Rule.Slice.PartAt.{part-to-end}
-use Rattle.format.specs.Items.{sized, secondsItem}
+use Rattle.format.specs.Items.{secondsItem}
+use Rattle.decode.proofs.Sized.{reads-short, reads-whole}
 use borrow.Author.Needs.{needs}
 use Rattle.decode.proofs.seconds_item.Statement.{statement}
 use Rattle.decode.proofs.seconds_item.Tie as tie
 
 returns : tie.Need-returns
-unfolding secondsItem sized pick
-returns c =
-    record { same = simp (lt-ltb _ _ (c .if1 .taken)); sound = tt }
-
-sub-get-le32 : tie.Need-sub-get-le32
-sub-get-le32 c = search needs
-
-part-get-le32-start : tie.Need-part-get-le32-start
-part-get-le32-start c = search needs
-
-part-get-le32-end : tie.Need-part-get-le32-end
-part-get-le32-end c = search needs
-
-get-le32-requires : tie.Need-get-le32-requires
-get-le32-requires c κs = search needs
-
-day-of-seconds-requires : tie.Need-day-of-seconds-requires
-day-of-seconds-requires c κs = search needs
+unfolding secondsItem
+returns c = reads-short 5 _ _ (c .if1 .taken)
 
 returns-2 : tie.Need-returns-2
-unfolding secondsItem sized pick
-returns-2 c =
-    let e = simp part-to-end at (c .before .get-le32 .ensures .0) in
-    record { same = simp (c .day-of-seconds .ensures, e, le-ltb _ _ (c .before .before .before .if1 .left)); sound = tt }
+unfolding secondsItem
+returns-2 c = reads-whole 5 _ _ (c .before .before .before .if1 .left) (simp (c .day-of-seconds .ensures, c .before .get-le32 .ensures .0, part-to-end)) tt
 
+-- the search closes the other needs
 pub seconds-item-spec : {M : Type 1} → statement M
-seconds-item-spec =
-    tie.close
-    (tie.spec
-    returns
-    sub-get-le32
-    part-get-le32-start
-    part-get-le32-end
-    get-le32-requires
-    day-of-seconds-requires
-    returns-2)
+seconds-item-spec = tie.close (tie.spec returns (λ c. search needs) (λ c. search needs) (λ c. search needs) (λ c κs. search needs) (λ c κs. search needs) returns-2)

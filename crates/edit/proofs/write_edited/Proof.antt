@@ -1,8 +1,10 @@
 -- `edit::write_edited` meets its contract. Assumes nothing.
-use mathlib.Core.Path.{sym, _∙_}
-use Rattle.wire.proofs.Laws.{none-before}
-use Rattle.tally.proofs.Files.{file-refused, file-small, file-done}
-use Rattle.edit.specs.Runs.{headerOf, editedAt}
+use Rattle.format.specs.Writing.{v8}
+use Rattle.tally.proofs.Files.{passes-refused, passes-small, passes-done}
+use Rattle.edit.specs.Runs.{oldHeader, editedAt}
+use mathlib.Core.Path.{sym}
+use lib.Seq.{length-take-le}
+use native.Mathlib.Omega.{arith}
 use borrow.Author.Needs.{needs}
 use Rattle.edit.proofs.write_edited.Statement.{statement}
 use Rattle.edit.proofs.write_edited.Tie as tie
@@ -29,10 +31,14 @@ returns : tie.Need-returns
 returns c =
     let a = c .before .before .before .before .before .before .before .before .before .before .before .args in
     let p = c .before .before .before .before .before .before .pass .ensures in
-    let n = none-before (c .before .before .before .before .before .before .pass .last .1 .1 .1 .1 .0) (a .out .now) (p .kept) in
-    let e = rw (c .before .before .answer2 .given .1) at (p .answer) in
-    let x = file-small (headerOf (a .file .now) (a .old)) (editedAt (a .old .version) (a .file .now) (a .old .place) (a .run) (a .new .now)) (a .out .now) _ _ _ e (rw n at (c .if1 .taken)) in
-    record { answer = x .0; buffer = n ∙ x .1 }
+    let x = passes-small v8 (oldHeader (a .file .now) (a .old)) (editedAt (a .old .version) (a .file .now) (a .old .place) (a .run) (a .new .now)) (a .out .now) (c .before .before .before .before .before .before .pass .last .1 .1 .1 .1 .0) (c .before .before .before .before .before .before .pass .result) (p .kept) (p .answer) (c .before .before .answer2 .given .1) (c .if1 .taken) in
+    record { answer = x .0; buffer = x .1 }
+
+slice-relend-prefix-pass-2 : tie.Need-slice-relend-prefix-pass-2
+slice-relend-prefix-pass-2 c = search needs
+
+slice-aggregate-pass-2 : tie.Need-slice-aggregate-pass-2
+slice-aggregate-pass-2 c = sym (length-take-le _ _ (omega (arith, c .before .if1 .left)))
 
 pass-requires-2 : tie.Need-pass-requires-2
 pass-requires-2 c κs =
@@ -45,10 +51,8 @@ returns-2 : tie.Need-returns-2
 returns-2 c =
     let a = c .before .before .before .before .before .before .before .before .before .before .args in
     let p = c .before .before .before .before .before .pass .ensures in
-    let n = none-before (c .before .before .before .before .before .pass .last .1 .1 .1 .1 .0) (a .out .now) (p .kept) in
-    let e = rw (c .before .answer .given .1) at (p .answer) in
-    let x = file-refused (headerOf (a .file .now) (a .old)) (editedAt (a .old .version) (a .file .now) (a .old .place) (a .run) (a .new .now)) (a .out .now) _ _ e in
-    record { answer = x .0; buffer = n ∙ x .1 }
+    let x = passes-refused v8 (oldHeader (a .file .now) (a .old)) (editedAt (a .old .version) (a .file .now) (a .old .place) (a .run) (a .new .now)) (a .out .now) (c .before .before .before .before .before .pass .last .1 .1 .1 .1 .0) (c .before .before .before .before .before .pass .result) (p .kept) (p .answer) (c .before .answer .given .1) in
+    record { answer = x .0; buffer = x .1 }
 
 same-length-3 : tie.Need-same-length-3
 same-length-3 c = search needs
@@ -57,12 +61,8 @@ returns-3 : tie.Need-returns-3
 returns-3 c =
     let a = c .before .before .before .before .before .before .before .before .before .before .before .before .before .before .before .args in
     let p = c .before .before .before .before .before .before .before .before .before .before .pass .ensures in
-    let n = none-before (c .before .before .before .before .before .before .before .before .before .before .pass .last .1 .1 .1 .1 .0) (a .out .now) (p .kept) in
-    let e = rw (c .before .before .before .before .before .before .answer2 .given .1) at (p .answer) in
-    let h = rw n at (c .before .before .before .before .if1 .left) in
-    let x = file-done (headerOf (a .file .now) (a .old)) (editedAt (a .old .version) (a .file .now) (a .old .place) (a .run) (a .new .now)) (a .out .now) _ _ _ e h in
-    let q = rw n at (c .before .before .pass2 .ensures) in
-    record { answer = x .0; buffer = q .written _ _ _ (sym e) h ∙ x .1 }
+    let x = passes-done v8 (oldHeader (a .file .now) (a .old)) (editedAt (a .old .version) (a .file .now) (a .old .place) (a .run) (a .new .now)) (a .out .now) (c .before .before .before .before .before .before .before .before .before .before .pass .last .1 .1 .1 .1 .0) (c .before .before .before .before .before .before .before .before .before .before .pass .result) (p .kept) (p .answer) (c .before .before .before .before .before .before .answer2 .given .1) (c .before .before .before .before .if1 .left) (c .before .before .pass2 .ensures) in
+    record { answer = x .0; buffer = x .1 }
 
 pub write-edited-spec : {M : Type 1} → statement M
 write-edited-spec =
@@ -75,6 +75,8 @@ write-edited-spec =
     enum-known-answer-2
     same-length
     returns
+    slice-relend-prefix-pass-2
+    slice-aggregate-pass-2
     pass-requires-2
     same-length-2
     returns-2

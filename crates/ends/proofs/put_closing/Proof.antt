@@ -2,6 +2,7 @@
 use native.Mathlib.Omega.{arith}
 use mathlib.Core.Path.{sym}
 use borrow.Author.Tests.{eq-eqb, ne-eqb}
+use Rattle.format.specs.Codes.{closing}
 use Rattle.format.proofs.Basics.{pick-true, pick-false}
 use Rattle.part.proofs.Laying.{lays-as, lays-within, puts-front}
 use borrow.Author.Needs.{needs}
@@ -18,6 +19,7 @@ same-length : tie.Need-same-length
 same-length c = search needs
 
 returns : tie.Need-returns
+unfolding closing
 returns c =
     puts-front (lays-within (lays-as (c .before .before .put .ensures) (sym (pick-true _ _ (eq-eqb _ _ (c .before .before .before .before .before .if1 .taken))))) 2 (omega arith))
 
@@ -31,6 +33,7 @@ same-length-2 : tie.Need-same-length-2
 same-length-2 c = search needs
 
 returns-2 : tie.Need-returns-2
+unfolding closing
 returns-2 c =
     puts-front (lays-as (c .before .before .put2 .ensures) (sym (pick-false _ _ (ne-eqb _ _ (c .before .before .before .before .before .if1 .left)))))
 

@@ -1,7 +1,7 @@
 -- `ends::put_header` meets its contract. Assumes nothing.
 use native.Mathlib.Omega.{arith}
 use Rattle.format.specs.Header.{magic}
-use Rattle.format.specs.Writing.{headerCodes}
+use Rattle.format.specs.Codes.{headerCodes}
 use Rattle.part.proofs.Laying.{lays-within, lays-then, puts-front}
 use borrow.Author.Needs.{needs}
 use Rattle.ends.proofs.put_header.Statement.{statement}

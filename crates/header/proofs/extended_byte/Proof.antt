@@ -9,21 +9,9 @@ use Rattle.header.proofs.extended_byte.Tie as tie
 
 ruleset cases = (lt-ltb, le-ltb, le-leb, lt-leb, eq-eqb, ne-eqb)
 
-add-place : tie.Need-add-place
-add-place c = search needs
-
-add-place-2 : tie.Need-add-place-2
-add-place-2 c = search needs
-
 returns : tie.Need-returns
 unfolding extendedByte pick
 returns c = record { same = search cases; room = tt }
-
-shared-slice-read-flags : tie.Need-shared-slice-read-flags
-shared-slice-read-flags c = search needs
-
-add-t11 : tie.Need-add-t11
-add-t11 c = search needs
 
 returns-2 : tie.Need-returns-2
 unfolding extendedByte pick
@@ -32,9 +20,6 @@ returns-2 c =
       same = search cases;
       room = record { oldest = omega arith; newest = omega arith; flag = omega arith; title-fits = omega arith; time-fits = omega arith; place-is = omega arith; place-least = omega arith; place-most = omega arith; inside = omega arith; file-fits = omega arith };
     }
-
-add-t12 : tie.Need-add-t12
-add-t12 c = search needs
 
 returns-3 : tie.Need-returns-3
 unfolding extendedByte pick
@@ -48,16 +33,6 @@ returns-4 : tie.Need-returns-4
 unfolding extendedByte pick
 returns-4 c = record { same = search cases; room = tt }
 
+-- the search closes the other needs
 pub extended-byte-spec : {M : Type 1} → statement M
-extended-byte-spec =
-    tie.close
-    (tie.spec
-    add-place
-    add-place-2
-    returns
-    shared-slice-read-flags
-    add-t11
-    returns-2
-    add-t12
-    returns-3
-    returns-4)
+extended-byte-spec = tie.close (tie.spec (λ c. search needs) (λ c. search needs) returns (λ c. search needs) (λ c. search needs) returns-2 (λ c. search needs) returns-3 returns-4)

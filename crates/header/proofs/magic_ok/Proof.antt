@@ -16,33 +16,10 @@ returns c =
     let s = c .before .before .args .file .now in
     sym (same-false (take 21 s) magic (λ e. omega (arith, ap (λ (l : List ℕ). length l) e ∙ refl, length-take 21 s)))
 
-sub-same-bytes : tie.Need-sub-same-bytes
-sub-same-bytes c = search needs
-
-part-same-bytes-start : tie.Need-part-same-bytes-start
-part-same-bytes-start c = search needs
-
-part-same-bytes-end : tie.Need-part-same-bytes-end
-part-same-bytes-end c = search needs
-
-slice-aggregate-same-bytes : tie.Need-slice-aggregate-same-bytes
-slice-aggregate-same-bytes c = search needs
-
-same-bytes-requires : tie.Need-same-bytes-requires
-same-bytes-requires c κs = search needs
-
 returns-2 : tie.Need-returns-2
 unfolding magic
 returns-2 c = c .same-bytes .ensures
 
+-- the search closes the other needs
 pub magic-ok-spec : {M : Type 1} → statement M
-magic-ok-spec =
-    tie.close
-    (tie.spec
-    returns
-    sub-same-bytes
-    part-same-bytes-start
-    part-same-bytes-end
-    slice-aggregate-same-bytes
-    same-bytes-requires
-    returns-2)
+magic-ok-spec = tie.close (tie.spec returns (λ c. search needs) (λ c. search needs) (λ c. search needs) (λ c. search needs) (λ c κs. search needs) returns-2)

@@ -15,8 +15,8 @@ use Rattle.header.proofs.opening.Tie as tie
 right : (c : tie.Else2) → same (take 21 (c .before .before .before .before .args .file .now)) magic ≡ true
 right c = sym (c .before .magic-ok .ensures) ∙ not-false (c .before .magic-ok .result) (c .if2 .left)
 
-good : (c : tie.Else3) → goodVersion (c .before .before .before .before .before .before .args .file .now) ≡ true
-good c = sym (c .before .version-ok .ensures) ∙ not-false (c .before .version-ok .result) (c .if3 .left)
+Good : (c : tie.Else3) → goodVersion (c .before .before .before .before .before .before .args .file .now) ≡ true
+Good c = sym (c .before .version-ok .ensures) ∙ not-false (c .before .version-ok .result) (c .if3 .left)
 
 returns : tie.Need-returns
 unfolding openingOf pick
@@ -43,24 +43,24 @@ returns-3 c =
 
 shared-slice-read-title-line : tie.Need-shared-slice-read-title-line
 shared-slice-read-title-line c =
-    let v = versioned _ (good (c .before)) in
+    let v = versioned _ (Good (c .before)) in
     omega arith
 
 sub-title-line : tie.Need-sub-title-line
 sub-title-line c =
-    let v = versioned _ (good (c .before)) in
+    let v = versioned _ (Good (c .before)) in
     omega arith
 
 title-line-requires : tie.Need-title-line-requires
 title-line-requires c κs =
-    let v = versioned _ (good (c .before)) in
+    let v = versioned _ (Good (c .before)) in
     (omega arith, omega arith, omega arith, omega arith)
 
 returns-4 : tie.Need-returns-4
 unfolding openingOf headerOf pick
 returns-4 c =
     let t = c .title-line .ensures in
-    record { same = simp (le-ltb _ _ (c .before .before .before .before .before .before .if1 .left), right (c .before .before .before .before), good (c .before .before)) (t .same); room = t .room }
+    record { same = simp (le-ltb _ _ (c .before .before .before .before .before .before .if1 .left), right (c .before .before .before .before), Good (c .before .before)) (t .same); room = t .room }
 
 pub opening-spec : {M : Type 1} → statement M
 opening-spec =

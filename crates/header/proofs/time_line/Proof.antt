@@ -13,27 +13,6 @@ use Rattle.header.proofs.time_line.Tie as tie
 found : (c : tie.After-line) → Line 64 (drop (25 + c .before .before .before .before .before .args .title) (c .before .before .before .before .before .args .file .now)) (c .line .given .0 .0)
 found c = line-found 64 _ _ (simp part-to-end at (sym (c .line .given .1) ∙ c .before .before .good-line .ensures))
 
-add-from : tie.Need-add-from
-add-from c = search needs
-
-sub-good-line : tie.Need-sub-good-line
-sub-good-line c = search needs
-
-part-good-line-start : tie.Need-part-good-line-start
-part-good-line-start c = search needs
-
-part-good-line-end : tie.Need-part-good-line-end
-part-good-line-end c = search needs
-
-good-line-requires : tie.Need-good-line-requires
-good-line-requires c κs = search needs
-
-enum-told : tie.Need-enum-told
-enum-told c = search needs
-
-enum-known-line : tie.Need-enum-known-line
-enum-known-line c = search needs
-
 closed-header-requires : tie.Need-closed-header-requires
 closed-header-requires c κs =
     let l = found (c .before) in
@@ -52,17 +31,6 @@ returns-2 c =
     let d = c .closed-header .ensures in
     record { same = d .same ∙ time-found (x .version) (x .file .now) (x .title) _ (found (c .before .before)); room = d .room }
 
+-- the search closes the other needs
 pub time-line-spec : {M : Type 1} → statement M
-time-line-spec =
-    tie.close
-    (tie.spec
-    add-from
-    sub-good-line
-    part-good-line-start
-    part-good-line-end
-    good-line-requires
-    enum-told
-    enum-known-line
-    closed-header-requires
-    returns
-    returns-2)
+time-line-spec = tie.close (tie.spec (λ c. search needs) (λ c. search needs) (λ c. search needs) (λ c. search needs) (λ c κs. search needs) (λ c. search needs) (λ c. search needs) closed-header-requires returns returns-2)

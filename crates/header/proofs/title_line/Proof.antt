@@ -13,24 +13,6 @@ use Rattle.header.proofs.title_line.Tie as tie
 found : (c : tie.After-line) → Line 4096 (drop 24 (c .before .before .before .before .before .args .file .now)) (c .line .given .0 .0)
 found c = line-found 4096 _ _ (simp part-to-end at (sym (c .line .given .1) ∙ c .before .before .good-line .ensures))
 
-sub-good-line : tie.Need-sub-good-line
-sub-good-line c = search needs
-
-part-good-line-start : tie.Need-part-good-line-start
-part-good-line-start c = search needs
-
-part-good-line-end : tie.Need-part-good-line-end
-part-good-line-end c = search needs
-
-good-line-requires : tie.Need-good-line-requires
-good-line-requires c κs = search needs
-
-enum-told : tie.Need-enum-told
-enum-told c = search needs
-
-enum-known-line : tie.Need-enum-known-line
-enum-known-line c = search needs
-
 time-line-requires : tie.Need-time-line-requires
 time-line-requires c κs =
     let l = found (c .before) in
@@ -49,16 +31,6 @@ returns-2 c =
     let d = c .time-line .ensures in
     record { same = d .same ∙ title-found (x .version) (x .file .now) _ (found (c .before .before)); room = d .room }
 
+-- the search closes the other needs
 pub title-line-spec : {M : Type 1} → statement M
-title-line-spec =
-    tie.close
-    (tie.spec
-    sub-good-line
-    part-good-line-start
-    part-good-line-end
-    good-line-requires
-    enum-told
-    enum-known-line
-    time-line-requires
-    returns
-    returns-2)
+title-line-spec = tie.close (tie.spec (λ c. search needs) (λ c. search needs) (λ c. search needs) (λ c κs. search needs) (λ c. search needs) (λ c. search needs) time-line-requires returns returns-2)

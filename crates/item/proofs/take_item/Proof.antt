@@ -1,9 +1,16 @@
 -- `item::take_item` meets its contract. Assumes nothing.
 use borrow.Author.Needs.{needs}
-use mathlib.Core.Path.{refl}
+use mathlib.Core.Path.{_≡_, refl}
+use Rattle.format.specs.Items.{itemOf}
+use Rattle.decode.specs.Seen.{Reads}
+use Rattle.decode.specs.declared.Item.{Item as Told}
 use Rattle.item.proofs.Steps.{comes-faulty, comes-end, comes-emptied, comes-does, comes-moved, comes-undated, comes-error, comes-relabelled}
 use Rattle.item.proofs.take_item.Statement.{statement}
 use Rattle.item.proofs.take_item.Tie as tie
+
+-- what the item that was read says of the bytes there
+reads-at : (y : tie.After-decode) (it : Told) → y .decode .result ≡ it → Reads it (y .before .before .args .s .now) (itemOf (y .before .before .args .version) (y .before .before .args .s .now))
+reads-at y it e = rw e at (y .decode .ensures)
 
 decode-requires : tie.Need-decode-requires
 decode-requires c κs = search needs
@@ -17,7 +24,7 @@ enum-told c = search needs
 returns : tie.Need-returns
 returns c =
     let a = c .before .before .before .before .before in
-    comes-end (a .args .version) (a .args .s .now) (a .args .setting) (a .args .len) (a .args .bytes .now) (a .pre .1) (a .pre .0) (rw (c .before .enum-told .given .1) at (c .before .before .before .decode .ensures)) (c .if1 .taken)
+    comes-end _ _ _ (a .args .len) _ (a .pre .1) (a .pre .0) (reads-at (c .before .before .before) _ (c .before .enum-told .given .1)) (c .if1 .taken)
 
 enum-known-it-2 : tie.Need-enum-known-it-2
 enum-known-it-2 c = search needs
@@ -52,48 +59,48 @@ enum-known-it-6 c = search needs
 relabel-step-requires : tie.Need-relabel-step-requires
 relabel-step-requires c κs =
     let a = c .before .before .before .before .before .before in
-    let R = (rw (c .before .before .it6 .given .1) at (c .before .before .before .before .decode .ensures)) in
+    let R = reads-at (c .before .before .before .before) _ (c .before .before .it6 .given .1) in
     (a .pre .0, a .pre .1, R .sound .0)
 
 returns-2 : tie.Need-returns-2
 returns-2 c =
     let a = c .before .before .before .before .before in
-    comes-faulty (a .args .version) (a .args .s .now) (a .args .setting) (a .args .len) (a .args .bytes .now) (a .pre .1) (a .pre .0) _ (rw (c .before .it .given .1) at (c .before .before .before .decode .ensures))
+    comes-faulty _ _ _ (a .args .len) _ (a .pre .1) (a .pre .0) _ (reads-at (c .before .before .before) _ (c .before .it .given .1))
 
 returns-3 : tie.Need-returns-3
 returns-3 c =
     let a = c .before .before .before .before .before in
-    comes-emptied (a .args .version) (a .args .s .now) (a .args .setting) (a .args .len) (a .args .bytes .now) (a .pre .1) (a .pre .0) (rw (c .before .enum-told .given .1) at (c .before .before .before .decode .ensures)) (c .if1 .left)
+    comes-emptied _ _ _ (a .args .len) _ (a .pre .1) (a .pre .0) (reads-at (c .before .before .before) _ (c .before .enum-told .given .1)) (c .if1 .left)
 
 returns-4 : tie.Need-returns-4
 returns-4 c =
     let a = c .before .before .before .before .before .before in
-    comes-does (a .args .version) (a .args .s .now) (a .args .setting) (a .args .len) (a .args .bytes .now) (a .pre .1) (a .pre .0) _ _ _ _ refl (rw (c .before .before .it2 .given .1) at (c .before .before .before .before .decode .ensures)) (c .style-step .ensures)
+    comes-does _ _ _ (a .args .len) _ (a .pre .1) (a .pre .0) _ _ _ _ refl (reads-at (c .before .before .before .before) _ (c .before .before .it2 .given .1)) (c .style-step .ensures)
 
 returns-5 : tie.Need-returns-5
 returns-5 c =
     let a = c .before .before .before .before .before .before in
-    comes-moved (a .args .version) (a .args .s .now) (a .args .setting) (a .args .len) (a .args .bytes .now) (a .pre .1) (a .pre .0) _ _ (rw (c .before .before .it3 .given .1) at (c .before .before .before .before .decode .ensures)) (c .with-position .ensures)
+    comes-moved _ _ _ (a .args .len) _ (a .pre .1) (a .pre .0) _ _ (reads-at (c .before .before .before .before) _ (c .before .before .it3 .given .1)) (c .with-position .ensures)
 
 returns-6 : tie.Need-returns-6
 returns-6 c =
     let a = c .before .before .before .before .before in
-    comes-undated (a .args .version) (a .args .s .now) (a .args .setting) (a .args .len) (a .args .bytes .now) (a .pre .1) (a .pre .0) _ (rw (c .before .enum-told2 .given .1) at (c .before .before .before .decode .ensures)) (c .with-date .ensures)
+    comes-undated _ _ _ (a .args .len) _ (a .pre .1) (a .pre .0) _ (reads-at (c .before .before .before) _ (c .before .enum-told2 .given .1)) (c .with-date .ensures)
 
 returns-7 : tie.Need-returns-7
 returns-7 c =
     let a = c .before .before .before .before .before .before in
-    comes-does (a .args .version) (a .args .s .now) (a .args .setting) (a .args .len) (a .args .bytes .now) (a .pre .1) (a .pre .0) _ _ _ _ refl (rw (c .before .before .it4 .given .1) at (c .before .before .before .before .decode .ensures)) (c .date-step .ensures)
+    comes-does _ _ _ (a .args .len) _ (a .pre .1) (a .pre .0) _ _ _ _ refl (reads-at (c .before .before .before .before) _ (c .before .before .it4 .given .1)) (c .date-step .ensures)
 
 returns-8 : tie.Need-returns-8
 returns-8 c =
     let a = c .before .before .before .before .before in
-    comes-error (a .args .version) (a .args .s .now) (a .args .setting) (a .args .len) (a .args .bytes .now) (a .pre .1) (a .pre .0) _ (rw (c .before .it5 .given .1) at (c .before .before .before .decode .ensures))
+    comes-error _ _ _ (a .args .len) _ (a .pre .1) (a .pre .0) _ (reads-at (c .before .before .before) _ (c .before .it5 .given .1))
 
 returns-9 : tie.Need-returns-9
 returns-9 c =
     let a = c .before .before .before .before .before .before .before in
-    comes-relabelled (a .args .version) (a .args .s .now) (a .args .setting) _ _ _ _ _ _ _ _ (rw (c .before .before .before .it6 .given .1) at (c .before .before .before .before .before .decode .ensures)) (c .relabel-step .ensures)
+    comes-relabelled (a .args .version) (a .args .s .now) (a .args .setting) _ _ _ _ _ _ _ _ (reads-at (c .before .before .before .before .before) _ (c .before .before .before .it6 .given .1)) (c .relabel-step .ensures)
 
 pub take-item-spec : {M : Type 1} → statement M
 take-item-spec =

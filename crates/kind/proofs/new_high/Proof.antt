@@ -2,9 +2,8 @@
 use borrow.Author.Tests.{lt-ltb, le-ltb}
 use Rattle.format.specs.Bytes.{pick}
 use mathlib.Core.Path.{_∙_}
-use Rattle.format.specs.Items.{newHighItem, stationItem, lineItem}
+use Rattle.format.specs.Items.{newHighItem, stationItem, lineItem, newPart}
 use Rattle.kind.specs.Kinds.{labelledBy}
-use Rattle.format.specs.Items.{newPart}
 use borrow.Author.Needs.{needs}
 use Rattle.kind.proofs.new_high.Statement.{statement}
 use Rattle.kind.proofs.new_high.Tie as tie

@@ -2,9 +2,8 @@
 use borrow.Author.Tests.{lt-ltb, le-ltb}
 use Rattle.format.specs.Bytes.{pick}
 use mathlib.Core.Path.{_∙_}
-use Rattle.format.specs.Items.{oldHighItem, stationItem, lineItem}
+use Rattle.format.specs.Items.{oldHighItem, stationItem, lineItem, oldPart}
 use Rattle.kind.specs.Kinds.{labelledBy}
-use Rattle.format.specs.Items.{oldPart}
 use borrow.Author.Needs.{needs}
 use Rattle.kind.proofs.old_high.Statement.{statement}
 use Rattle.kind.proofs.old_high.Tie as tie

@@ -6,27 +6,6 @@ use Rattle.label.proofs.Steps.{trim-after, back-after}
 use Rattle.label.proofs.kept_of.Statement.{statement}
 use Rattle.label.proofs.kept_of.Tie as tie
 
-enum-told : tie.Need-enum-told
-enum-told c = search needs
-
-enum-known-cut : tie.Need-enum-known-cut
-enum-known-cut c = search needs
-
-kept-to-dot-requires : tie.Need-kept-to-dot-requires
-kept-to-dot-requires c κs = search needs
-
-enum-known-cut-2 : tie.Need-enum-known-cut-2
-enum-known-cut-2 c = search needs
-
-kept-after-requires : tie.Need-kept-after-requires
-kept-after-requires c κs = search needs
-
-enum-known-cut-3 : tie.Need-enum-known-cut-3
-enum-known-cut-3 c = search needs
-
-kept-after-requires-2 : tie.Need-kept-after-requires-2
-kept-after-requires-2 c κs = search needs
-
 returns : tie.Need-returns
 returns c = rw (c .enum-told .given .1) (refl, omega arith)
 
@@ -46,18 +25,6 @@ returns-4 c =
     let e = c .kept-after2 .ensures in
     rw (c .before .before .cut3 .given .1) (e .0 ∙ back-after (a .args .bytes .now) (a .args .len) _ (omega (arith, a .pre)), e .1)
 
+-- the search closes the other needs
 pub kept-of-spec : {M : Type 1} → statement M
-kept-of-spec =
-    tie.close
-    (tie.spec
-    enum-told
-    enum-known-cut
-    kept-to-dot-requires
-    enum-known-cut-2
-    kept-after-requires
-    enum-known-cut-3
-    kept-after-requires-2
-    returns
-    returns-2
-    returns-3
-    returns-4)
+kept-of-spec = tie.close (tie.spec (λ c. search needs) (λ c. search needs) (λ c κs. search needs) (λ c. search needs) (λ c κs. search needs) (λ c. search needs) (λ c κs. search needs) returns returns-2 returns-3 returns-4)

@@ -1,18 +1,11 @@
 -- `label::label_step` meets its contract. Assumes nothing.
 use native.Mathlib.Omega.{arith}
-use Rattle.label.proofs.Steps.{step-short, step-long, step-whole, step-laid}
+use mathlib.Core.Path.{sym}
+use Rattle.format.proofs.LabelLaws.{step-short, step-long}
+use Rattle.label.proofs.Steps.{step-whole, step-laid}
 use borrow.Author.Needs.{needs}
 use Rattle.label.proofs.label_step.Statement.{statement}
 use Rattle.label.proofs.label_step.Tie as tie
-
-kept-of-requires : tie.Need-kept-of-requires
-kept-of-requires c κs = search needs
-
-enum-told : tie.Need-enum-told
-enum-told c = search needs
-
-enum-known-kept : tie.Need-enum-known-kept
-enum-known-kept c = search needs
 
 sub-if1 : tie.Need-sub-if1
 sub-if1 c =
@@ -23,7 +16,7 @@ returns : tie.Need-returns
 returns c =
     let e = rw (c .before .before .kept .given .1) at (c .before .before .before .before .kept-of .ensures) in
     let a = c .before .before .before .before .before .before .before in
-    record { same = step-long _ _ _ _ (e .0) (omega (arith, c .if1 .taken)); whole = a .pre .1; short = tt }
+    record { same = sym (step-long _ _ _ _ (sym (e .0)) (omega (arith, c .if1 .taken))); whole = a .pre .1; short = tt }
 
 append-requires : tie.Need-append-requires
 append-requires c κs =
@@ -31,13 +24,10 @@ append-requires c κs =
     let a = c .before .before .before .before .before .before .before .before in
     (omega (arith, e .1, a .pre, c .before .if1 .left), a .pre .1)
 
-add-t10 : tie.Need-add-t10
-add-t10 c = search needs
-
 returns-2 : tie.Need-returns-2
 returns-2 c =
     let e = rw (c .enum-told .given .1) at (c .before .before .kept-of .ensures) in
-    record { same = step-short _ _ _ (e .0); whole = c .before .before .before .before .before .pre .1; short = tt }
+    record { same = sym (step-short _ _ _ (sym (e .0))); whole = c .before .before .before .before .before .pre .1; short = tt }
 
 returns-3 : tie.Need-returns-3
 returns-3 c =
@@ -51,16 +41,6 @@ returns-3 c =
       short = omega (arith, h, e .1, a .pre);
     })
 
+-- the search closes the other needs
 pub label-step-spec : {M : Type 1} → statement M
-label-step-spec =
-    tie.close
-    (tie.spec
-    kept-of-requires
-    enum-told
-    enum-known-kept
-    sub-if1
-    returns
-    append-requires
-    add-t10
-    returns-2
-    returns-3)
+label-step-spec = tie.close (tie.spec (λ c κs. search needs) (λ c. search needs) (λ c. search needs) sub-if1 returns append-requires (λ c. search needs) returns-2 returns-3)

@@ -8,52 +8,16 @@ use borrow.Author.Needs.{needs}
 use Rattle.length.proofs.long_part.Statement.{statement}
 use Rattle.length.proofs.long_part.Tie as tie
 
-sub-first : tie.Need-sub-first
-sub-first c = search needs
-
-part-first-start : tie.Need-part-first-start
-part-first-start c = search needs
-
-part-first-end : tie.Need-part-first-end
-part-first-end c = search needs
-
-length-size-requires : tie.Need-length-size-requires
-length-size-requires c κs = search needs
-
 returns : tie.Need-returns
 returns c =
     let e = simp part-to-end at (c .before .length-size .ensures .0) in
     (long-none _ _ e (c .if1 .taken), tt)
-
-sub-second : tie.Need-sub-second
-sub-second c = search needs
-
-part-second-start : tie.Need-part-second-start
-part-second-start c = search needs
-
-part-second-end : tie.Need-part-second-end
-part-second-end c = search needs
-
-length-size-requires-2 : tie.Need-length-size-requires-2
-length-size-requires-2 c κs = search needs
 
 returns-2 : tie.Need-returns-2
 returns-2 c =
     let e = simp part-to-end at (c .before .before .before .before .length-size .ensures .0) in
     let e1 = simp part-to-end at (c .before .length-size2 .ensures .0) ∙ ap lengthSize (second-part (c .before .before .before .before .before .before .before .args .t .now) (c .before .before .before .before .length-size .result)) in
     (long-half _ _ e _ e1 (c .before .before .before .if1 .left) (c .if2 .taken), tt)
-
-length-value-requires : tie.Need-length-value-requires
-length-value-requires c κs = search needs
-
-length-value-requires-2 : tie.Need-length-value-requires-2
-length-value-requires-2 c κs = search needs
-
-add-t9 : tie.Need-add-t9
-add-t9 c = search needs
-
-add-t14 : tie.Need-add-t14
-add-t14 c = search needs
 
 returns-3 : tie.Need-returns-3
 returns-3 c =
@@ -63,22 +27,6 @@ returns-3 c =
     let w = simp part-to-end at (c .length-value2 .ensures .0) ∙ ap lengthValue (second-part (c .before .before .before .before .before .before .before .before .before .args .t .now) (c .before .before .before .before .before .before .length-size .result)) in
     (long-both _ _ e _ e1 (c .before .before .before .before .before .if1 .left) (c .before .before .if2 .left) _ _ v w, (omega arith, c .length-value2 .ensures .1))
 
+-- the search closes the other needs
 pub long-part-spec : {M : Type 1} → statement M
-long-part-spec =
-    tie.close
-    (tie.spec
-    sub-first
-    part-first-start
-    part-first-end
-    length-size-requires
-    returns
-    sub-second
-    part-second-start
-    part-second-end
-    length-size-requires-2
-    returns-2
-    length-value-requires
-    length-value-requires-2
-    add-t9
-    add-t14
-    returns-3)
+long-part-spec = tie.close (tie.spec (λ c. search needs) (λ c. search needs) (λ c. search needs) (λ c κs. search needs) returns (λ c. search needs) (λ c. search needs) (λ c. search needs) (λ c κs. search needs) returns-2 (λ c κs. search needs) (λ c κs. search needs) (λ c. search needs) (λ c. search needs) returns-3)

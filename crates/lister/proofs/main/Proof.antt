@@ -1,8 +1,8 @@
--- `lister::main` meets its contract. Assumes nothing.
-use borrow.Author.Needs.{needs}
+-- `lister::main` meets its contract: its arrays have the lengths that `text_of` requires. Assumes nothing.
 use native.Mathlib.Omega.{arith}
 use mathlib.Core.Path.{sym}
 use lib.Seq.{length-take-le}
+use borrow.Author.Needs.{needs}
 use Rattle.lister.proofs.main.Statement.{statement}
 use Rattle.lister.proofs.main.Tie as tie
 
@@ -11,9 +11,6 @@ slice-aggregate-read-full c = search needs
 
 read-full-requires : tie.Need-read-full-requires
 read-full-requires c κs = search needs
-
-array-share-prefix-input : tie.Need-array-share-prefix-input
-array-share-prefix-input c = search needs
 
 slice-aggregate-text-of : tie.Need-slice-aggregate-text-of
 slice-aggregate-text-of c = search needs
@@ -25,7 +22,10 @@ slice-aggregate-text-of-3 : tie.Need-slice-aggregate-text-of-3
 slice-aggregate-text-of-3 c = search needs
 
 text-of-requires : tie.Need-text-of-requires
-text-of-requires c κs = search needs
+text-of-requires c κs =
+    let k = c .before .before .before .before .read-full .kept .1 .0 in
+    let n = c .before .before .before .before .read-full .ensures in
+    (omega arith, omega (arith, n), omega arith, omega arith)
 
 array-share-prefix-out : tie.Need-array-share-prefix-out
 array-share-prefix-out c =
@@ -49,7 +49,6 @@ main-spec =
     (tie.spec
     slice-aggregate-read-full
     read-full-requires
-    array-share-prefix-input
     slice-aggregate-text-of
     slice-aggregate-text-of-2
     slice-aggregate-text-of-3

@@ -1,49 +1,69 @@
--- `listing::list_sheet` meets its contract: measured with no room, and put where it fits. Assumes nothing.
-use mathlib.Core.Path.{refl}
-use Rattle.listing.proofs.Stores.{line-unfit, line-fits}
+-- `listing::list_sheet` meets its contract: by its length and the verdict on it. Assumes nothing.
+use native.Mathlib.Omega.{arith}
+use mathlib.Core.Path.{sym, _∙_}
+use Rattle.listing.proofs.Lister.{listing-too-long, listing-good, listing-refused}
 use borrow.Author.Needs.{needs}
 use Rattle.listing.proofs.list_sheet.Statement.{statement}
 use Rattle.listing.proofs.list_sheet.Tie as tie
 
-sub-sheet-lines : tie.Need-sub-sheet-lines
-sub-sheet-lines c = search needs
-
-part-sheet-lines-start : tie.Need-part-sheet-lines-start
-part-sheet-lines-start c = search needs
-
-part-sheet-lines-end : tie.Need-part-sheet-lines-end
-part-sheet-lines-end c = search needs
-
-sheet-lines-requires : tie.Need-sheet-lines-requires
-sheet-lines-requires c κs = search needs
+list-too-long-requires : tie.Need-list-too-long-requires
+list-too-long-requires c κs = search needs
 
 same-length : tie.Need-same-length
 same-length c = search needs
 
 returns : tie.Need-returns
 returns c =
-    line-unfit _ _ _ _ refl (c .before .before .before .sheet-lines .ensures) (c .if1 .taken)
+    let W = c .before .before .list-too-long .ensures in
+    (rw (← listing-too-long (c .before .before .before .before .before .before .before .args .version) (c .before .before .before .before .before .before .before .args .sheet .now) (c .before .before .before .before .if1 .taken)) (W .0), omega (arith, W .1))
 
-sheet-lines-requires-2 : tie.Need-sheet-lines-requires-2
-sheet-lines-requires-2 c κs = search needs
+sheet-verdict-requires : tie.Need-sheet-verdict-requires
+sheet-verdict-requires c κs = search needs
+
+enum-told : tie.Need-enum-told
+enum-told c = search needs
+
+list-lines-requires : tie.Need-list-lines-requires
+list-lines-requires c κs =
+    (c .before .before .before .before .if1 .left, sym (c .before .before .before .sheet-verdict .ensures) ∙ c .before .enum-told .given .1)
+
+enum-known-verdict : tie.Need-enum-known-verdict
+enum-known-verdict c = search needs
+
+list-refusal-requires : tie.Need-list-refusal-requires
+list-refusal-requires c κs = search needs
 
 same-length-2 : tie.Need-same-length-2
 same-length-2 c = search needs
 
 returns-2 : tie.Need-returns-2
 returns-2 c =
-    line-fits _ _ _ _ refl (c .before .before .before .before .before .before .before .sheet-lines .ensures) (c .before .before .before .before .if1 .left) (c .before .before .sheet-lines2 .ensures)
+    let W = c .before .before .list-lines .ensures in
+    let e = sym (c .before .before .before .before .before .before .sheet-verdict .ensures) ∙ c .before .before .before .before .enum-told .given .1 in
+    (rw (← listing-good (c .before .before .before .before .before .before .before .before .before .before .args .version) (c .before .before .before .before .before .before .before .before .before .before .args .sheet .now) (c .before .before .before .before .before .before .before .if1 .left) e) (W .0), W .1)
+
+same-length-3 : tie.Need-same-length-3
+same-length-3 c = search needs
+
+returns-3 : tie.Need-returns-3
+returns-3 c =
+    let W = c .before .before .list-refusal .ensures in
+    let e = sym (c .before .before .before .before .before .before .before .sheet-verdict .ensures) ∙ c .before .before .before .before .before .verdict .given .1 in
+    (rw (← listing-refused (c .before .before .before .before .before .before .before .before .before .before .before .args .version) (c .before .before .before .before .before .before .before .before .before .before .before .args .sheet .now) (c .before .before .before .before .before .before .before .before .if1 .left) e) (W .0), omega (arith, W .1))
 
 pub list-sheet-spec : {M : Type 1} → statement M
 list-sheet-spec =
     tie.close
     (tie.spec
-    sub-sheet-lines
-    part-sheet-lines-start
-    part-sheet-lines-end
-    sheet-lines-requires
+    list-too-long-requires
     same-length
     returns
-    sheet-lines-requires-2
+    sheet-verdict-requires
+    enum-told
+    list-lines-requires
+    enum-known-verdict
+    list-refusal-requires
     same-length-2
-    returns-2)
+    returns-2
+    same-length-3
+    returns-3)

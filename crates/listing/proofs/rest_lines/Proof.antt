@@ -5,7 +5,7 @@ use Prim.Native.Nat.{_-_}
 use lib.ListN.{length}
 use mathlib.Core.Path.{_∙_}
 use Rattle.listing.proofs.Stores.{put-length}
-use Rattle.listing.proofs.Sheets.{tells-none, tells-entry, tells-place, Listed, listed-none, listed-more, listed-all}
+use Rattle.listing.proofs.Sheets.{entry-none, entry-at, entry-place, Listed, listed-none, listed-more, listed-all}
 use Rattle.listing.proofs.rest_lines.Statement.{statement}
 use Rattle.listing.proofs.rest_lines.Tie as tie
 
@@ -50,7 +50,7 @@ same-length c =
 returns : tie.Need-returns Inv-loop μ-loop
 returns c =
     let T = rw (c .before .before .before .before .enum-told .given .1) at (c .before .before .before .before .before .before .read-entry .ensures) in
-    listed-all (c .before .before .before .before .before .before .before .before .loop .inv) (tells-none (c .before .before .before .before .before .before .before .before .before .before .before .args .sheet .now) (c .before .before .before .before .before .before .before .before .loop .at) T) (c .before .before .end-line .ensures)
+    listed-all (c .before .before .before .before .before .before .before .before .loop .inv) (entry-none (c .before .before .before .before .before .before .before .before .before .before .before .args .sheet .now) (c .before .before .before .before .before .before .before .before .loop .at) T) (c .before .before .end-line .ensures)
 
 enum-known-found : tie.Need-enum-known-found Inv-loop μ-loop
 enum-known-found c = search needs
@@ -76,7 +76,7 @@ part-record-line-end c =
 record-line-requires : tie.Need-record-line-requires Inv-loop μ-loop
 record-line-requires c κs =
     let T = rw (c .before .before .before .found .given .1) at (c .before .before .before .before .before .read-entry .ensures) in
-    (omega (arith, c .before .before .before .before .before .before .before .loop .inv .put .few, c .before .before .before .before .before .before .before .loop .inv .inside, c .before .before .before .before .before .before .before .before .before .before .pre), tells-place (c .before .before .before .before .before .before .before .before .before .before .args .sheet .now) (c .before .before .before .before .before .before .before .loop .at) _ _ _ T (c .before .before .before .before .before .before .before .loop .inv .inside) .label-short)
+    (omega (arith, c .before .before .before .before .before .before .before .loop .inv .put .few, c .before .before .before .before .before .before .before .loop .inv .inside, c .before .before .before .before .before .before .before .before .before .before .pre), entry-place (c .before .before .before .before .before .before .before .before .before .before .args .sheet .now) (c .before .before .before .before .before .before .before .loop .at) _ _ _ T (c .before .before .before .before .before .before .before .loop .inv .inside) .label-short)
 
 add-records : tie.Need-add-records Inv-loop μ-loop
 add-records c =
@@ -85,17 +85,17 @@ add-records c =
 add-at : tie.Need-add-at Inv-loop μ-loop
 add-at c =
     let T = rw (c .before .before .before .before .before .before .found .given .1) at (c .before .before .before .before .before .before .before .before .read-entry .ensures) in
-    omega (arith, tells-place (c .before .before .before .before .before .before .before .before .before .before .before .before .before .args .sheet .now) (c .before .before .before .before .before .before .before .before .before .before .loop .at) _ _ _ T (c .before .before .before .before .before .before .before .before .before .before .loop .inv .inside) .behind, c .before .before .before .before .before .before .before .before .before .before .before .before .before .pre)
+    omega (arith, entry-place (c .before .before .before .before .before .before .before .before .before .before .before .before .before .args .sheet .now) (c .before .before .before .before .before .before .before .before .before .before .loop .at) _ _ _ T (c .before .before .before .before .before .before .before .before .before .before .loop .inv .inside) .behind, c .before .before .before .before .before .before .before .before .before .before .before .before .before .pre)
 
 loop-less : tie.Need-loop-less Inv-loop μ-loop
 loop-less c =
     let T = rw (c .before .before .before .before .before .before .found .given .1) at (c .before .before .before .before .before .before .before .before .read-entry .ensures) in
-    omega (arith, tells-place (c .before .before .before .before .before .before .before .before .before .before .before .before .before .args .sheet .now) (c .before .before .before .before .before .before .before .before .before .before .loop .at) _ _ _ T (c .before .before .before .before .before .before .before .before .before .before .loop .inv .inside) .behind, tells-place (c .before .before .before .before .before .before .before .before .before .before .before .before .before .args .sheet .now) (c .before .before .before .before .before .before .before .before .before .before .loop .at) _ _ _ T (c .before .before .before .before .before .before .before .before .before .before .loop .inv .inside) .least)
+    omega (arith, entry-place (c .before .before .before .before .before .before .before .before .before .before .before .before .before .args .sheet .now) (c .before .before .before .before .before .before .before .before .before .before .loop .at) _ _ _ T (c .before .before .before .before .before .before .before .before .before .before .loop .inv .inside) .behind, entry-place (c .before .before .before .before .before .before .before .before .before .before .before .before .before .args .sheet .now) (c .before .before .before .before .before .before .before .before .before .before .loop .at) _ _ _ T (c .before .before .before .before .before .before .before .before .before .before .loop .inv .inside) .least)
 
 loop-again : tie.Need-loop-again Inv-loop μ-loop
 loop-again c =
     let T = rw (c .before .before .before .before .before .before .found .given .1) at (c .before .before .before .before .before .before .before .before .read-entry .ensures) in
-    listed-more (c .before .before .before .before .before .before .before .before .before .before .loop .inv) (λ i. c .before .before .before .before .before .before .before .before .before .before .before .before .shared-slice-known .given i .fits) (tells-entry (c .before .before .before .before .before .before .before .before .before .before .before .before .before .args .sheet .now) (c .before .before .before .before .before .before .before .before .before .before .loop .at) _ _ _ T) (c .before .before .record-line .ensures)
+    listed-more (c .before .before .before .before .before .before .before .before .before .before .loop .inv) (λ i. c .before .before .before .before .before .before .before .before .before .before .before .before .shared-slice-known .given i .fits) (entry-at (c .before .before .before .before .before .before .before .before .before .before .before .before .before .args .sheet .now) (c .before .before .before .before .before .before .before .before .before .before .loop .at) _ _ _ T) (c .before .before .record-line .ensures)
 
 pub rest-lines-spec : {M : Type 1} → statement M
 rest-lines-spec =

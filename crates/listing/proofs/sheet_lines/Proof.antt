@@ -1,7 +1,7 @@
 -- `listing::sheet_lines` meets its contract: the header's line and those of the rest. Assumes nothing.
 use native.Mathlib.Omega.{arith}
-use Rattle.listing.proofs.Stores.{put-none, put-then, put-as}
-use Rattle.listing.proofs.Sheets.{title-short, time-short, whole-none, whole-some}
+use Rattle.listing.proofs.Stores.{put-then, put-as}
+use Rattle.listing.proofs.Sheets.{title-short, time-short, whole-never, whole-some}
 use borrow.Author.Needs.{needs}
 use Rattle.listing.proofs.sheet_lines.Statement.{statement}
 use Rattle.listing.proofs.sheet_lines.Tie as tie
@@ -57,12 +57,12 @@ header-line-requires c κs =
 rest-lines-requires : tie.Need-rest-lines-requires
 rest-lines-requires c κs =
     let F = rw (c .before .before .before .before .before .before .before .before .front .given .1) at (c .before .before .before .before .before .before .before .before .before .before .read-front .ensures) in
-    (F .inside, c .before .before .before .before .before .before .before .before .before .before .before .before .before .pre, omega (arith, c .before .before .before .header-line .ensures .few))
+    (F .inside, c .before .before .before .before .before .before .before .before .before .before .before .before .before .pre .0, omega (arith, c .before .before .before .header-line .ensures .few))
 
 returns : tie.Need-returns
 returns c =
     let F = rw (c .enum-told .given .1) at (c .before .before .read-front .ensures) in
-    put-as (put-none _ _) (omega arith) (whole-none _ _ F)
+    absurd (whole-never _ 8 F (c .before .before .before .before .before .pre .1))
 
 same-length : tie.Need-same-length
 same-length c = search needs

@@ -1,10 +1,12 @@
 -- `measure::measure` meets its contract. Assumes nothing.
 use borrow.Author.Needs.{needs}
+use Rattle.measure.specs.declared.Measured.{Measured}
 use Rattle.measure.specs.declared.Measured.the-variants.{Styled, Moved, Passes, Made}
 use native.Mathlib.Omega.{arith}
 use Prim.Native.Nat.{_-_}
+use mathlib.Core.Path.{_≡_}
 use lib.ListN.{length, length-drop}
-use Rattle.measure.proofs.Turn.{Going, going-first, found, ends-bad, ends-after, ends-done, goes-size, going-on, makes-size, going-made}
+use Rattle.measure.proofs.Turn.{Going, going-first, found, ends-bad, ends-after, ends-done, going-on, going-made, Within, item-within}
 use Rattle.measure.proofs.measure.Statement.{statement}
 use Rattle.measure.proofs.measure.Tie as tie
 
@@ -13,6 +15,10 @@ Inv-loop file place front at₀ out₀ records₀ len₀ style₀ placed₀ at o
 
 abbrev μ-loop : tie.MeasureT-loop
 μ-loop file place front at₀ out₀ records₀ len₀ style₀ placed₀ at out records len style placed = length file - at
+
+-- the item's bytes are there
+within-at : (y : tie.After-measure-item Inv-loop μ-loop) (r : Measured) → y .measure-item .result ≡ r → Within (length (y .before .before .before .before .args .file .now)) (y .before .before .loop .at) r
+within-at y r e = item-within _ _ _ _ _ _ _ _ _ (y .before .before .loop .inv) r ((rw e at (y .measure-item .ensures)) .1)
 
 loop-holds : tie.Need-loop-holds Inv-loop μ-loop
 loop-holds c = going-first _ _ _ (c .before .pre .1)
@@ -62,17 +68,11 @@ enum-known-it-2 c = search needs
 
 add-at : tie.Need-add-at Inv-loop μ-loop
 add-at c =
-    let G = c .before .before .before .before .before .loop .inv in
-    let f = rw (c .before .it2 .given .1) at (c .before .before .before .measure-item .ensures) in
-    let z = goes-size _ _ _ _ _ _ _ _ _ G _ _ _ _ (found _ _ _ _ _ _ _ _ _ G (Styled _) (f .1)) in
-    omega (arith, z, c .before .before .before .before .before .before .before .pre .0)
+    omega (arith, within-at (c .before .before .before) (Styled _) (c .before .it2 .given .1), c .before .before .before .before .before .before .before .pre .0)
 
 loop-less : tie.Need-loop-less Inv-loop μ-loop
 loop-less c =
-    let G = c .before .before .before .before .before .loop .inv in
-    let f = rw (c .before .it2 .given .1) at (c .before .before .before .measure-item .ensures) in
-    let z = goes-size _ _ _ _ _ _ _ _ _ G _ _ _ _ (found _ _ _ _ _ _ _ _ _ G (Styled _) (f .1)) in
-    omega (arith, z, c .before .before .before .before .before .before .before .pre .0)
+    omega (arith, within-at (c .before .before .before) (Styled _) (c .before .it2 .given .1), c .before .before .before .before .before .before .before .pre .0)
 
 loop-again : tie.Need-loop-again Inv-loop μ-loop
 loop-again c =
@@ -85,17 +85,11 @@ enum-told-2 c = search needs
 
 add-at-2 : tie.Need-add-at-2 Inv-loop μ-loop
 add-at-2 c =
-    let G = c .before .before .before .before .loop .inv in
-    let f = rw (c .enum-told2 .given .1) at (c .before .before .measure-item .ensures) in
-    let z = goes-size _ _ _ _ _ _ _ _ _ G _ _ _ _ (found _ _ _ _ _ _ _ _ _ G Moved (f .1)) in
-    omega (arith, z, c .before .before .before .before .before .before .pre .0)
+    omega (arith, within-at (c .before .before) Moved (c .enum-told2 .given .1), c .before .before .before .before .before .before .pre .0)
 
 loop-less-2 : tie.Need-loop-less-2 Inv-loop μ-loop
 loop-less-2 c =
-    let G = c .before .before .before .before .loop .inv in
-    let f = rw (c .enum-told2 .given .1) at (c .before .before .measure-item .ensures) in
-    let z = goes-size _ _ _ _ _ _ _ _ _ G _ _ _ _ (found _ _ _ _ _ _ _ _ _ G Moved (f .1)) in
-    omega (arith, z, c .before .before .before .before .before .before .pre .0)
+    omega (arith, within-at (c .before .before) Moved (c .enum-told2 .given .1), c .before .before .before .before .before .before .pre .0)
 
 loop-again-2 : tie.Need-loop-again-2 Inv-loop μ-loop
 loop-again-2 c =
@@ -108,17 +102,11 @@ enum-known-it-3 c = search needs
 
 add-at-3 : tie.Need-add-at-3 Inv-loop μ-loop
 add-at-3 c =
-    let G = c .before .before .before .before .before .loop .inv in
-    let f = rw (c .before .it3 .given .1) at (c .before .before .before .measure-item .ensures) in
-    let z = goes-size _ _ _ _ _ _ _ _ _ G _ _ _ _ (found _ _ _ _ _ _ _ _ _ G (Passes _) (f .1)) in
-    omega (arith, z, c .before .before .before .before .before .before .before .pre .0)
+    omega (arith, within-at (c .before .before .before) (Passes _) (c .before .it3 .given .1), c .before .before .before .before .before .before .before .pre .0)
 
 loop-less-3 : tie.Need-loop-less-3 Inv-loop μ-loop
 loop-less-3 c =
-    let G = c .before .before .before .before .before .loop .inv in
-    let f = rw (c .before .it3 .given .1) at (c .before .before .before .measure-item .ensures) in
-    let z = goes-size _ _ _ _ _ _ _ _ _ G _ _ _ _ (found _ _ _ _ _ _ _ _ _ G (Passes _) (f .1)) in
-    omega (arith, z, c .before .before .before .before .before .before .before .pre .0)
+    omega (arith, within-at (c .before .before .before) (Passes _) (c .before .it3 .given .1), c .before .before .before .before .before .before .before .pre .0)
 
 loop-again-3 : tie.Need-loop-again-3 Inv-loop μ-loop
 loop-again-3 c =
@@ -143,17 +131,11 @@ add-records c =
 
 add-at-4 : tie.Need-add-at-4 Inv-loop μ-loop
 add-at-4 c =
-    let G = c .before .before .before .before .before .loop .inv in
-    let f = rw (c .before .it4 .given .1) at (c .before .before .before .measure-item .ensures) in
-    let z = makes-size _ _ _ _ _ _ _ _ _ G _ _ _ (found _ _ _ _ _ _ _ _ _ G (Made _ _ _) (f .1)) in
-    omega (arith, z, c .before .before .before .before .before .before .before .pre .0)
+    omega (arith, within-at (c .before .before .before) (Made _ _ _) (c .before .it4 .given .1), c .before .before .before .before .before .before .before .pre .0)
 
 loop-less-4 : tie.Need-loop-less-4 Inv-loop μ-loop
 loop-less-4 c =
-    let G = c .before .before .before .before .before .loop .inv in
-    let f = rw (c .before .it4 .given .1) at (c .before .before .before .measure-item .ensures) in
-    let z = makes-size _ _ _ _ _ _ _ _ _ G _ _ _ (found _ _ _ _ _ _ _ _ _ G (Made _ _ _) (f .1)) in
-    omega (arith, z, c .before .before .before .before .before .before .before .pre .0)
+    omega (arith, within-at (c .before .before .before) (Made _ _ _) (c .before .it4 .given .1), c .before .before .before .before .before .before .before .pre .0)
 
 loop-again-4 : tie.Need-loop-again-4 Inv-loop μ-loop
 loop-again-4 c =

@@ -6,33 +6,9 @@ use borrow.Author.Needs.{needs}
 use Rattle.measure.proofs.tailed.Statement.{statement}
 use Rattle.measure.proofs.tailed.Tie as tie
 
-enum-told : tie.Need-enum-told
-enum-told c = search needs
-
-add-t6 : tie.Need-add-t6
-add-t6 c = search needs
-
-enum-told-2 : tie.Need-enum-told-2
-enum-told-2 c = search needs
-
-add-t7 : tie.Need-add-t7
-add-t7 c = search needs
-
-enum-told-3 : tie.Need-enum-told-3
-enum-told-3 c = search needs
-
-add-t8 : tie.Need-add-t8
-add-t8 c = search needs
-
-enum-told-4 : tie.Need-enum-told-4
-enum-told-4 c = search needs
-
 returns : tie.Need-returns
 returns c =
     rw (c .before .enum-told4 .given .1) (tt, tail-unset _ _ _ _ (not-true _ (c .if1 .taken)))
-
-add-t10 : tie.Need-add-t10
-add-t10 c = search needs
 
 returns-2 : tie.Need-returns-2
 returns-2 c =
@@ -50,20 +26,6 @@ returns-5 : tie.Need-returns-5
 returns-5 c =
     rw (c .before .enum-told4 .given .1) ((c .before .before .before .pre, omega arith), tail-line _ _ _ _ (not-false _ (c .if1 .left)))
 
+-- the search closes the other needs
 pub tailed-spec : {M : Type 1} → statement M
-tailed-spec =
-    tie.close
-    (tie.spec
-    enum-told
-    add-t6
-    enum-told-2
-    add-t7
-    enum-told-3
-    add-t8
-    enum-told-4
-    returns
-    add-t10
-    returns-2
-    returns-3
-    returns-4
-    returns-5)
+tailed-spec = tie.close (tie.spec (λ c. search needs) (λ c. search needs) (λ c. search needs) (λ c. search needs) (λ c. search needs) (λ c. search needs) (λ c. search needs) returns (λ c. search needs) returns-2 returns-3 returns-4 returns-5)

@@ -4,21 +4,10 @@ use Rattle.format.specs.Bytes.{toLe32}
 use Rattle.number.proofs.le32_bytes.Statement.{statement}
 use Rattle.number.proofs.le32_bytes.Tie as tie
 
-cast-t3 : tie.Need-cast-t3
-cast-t3 c = search needs
-
-cast-t6 : tie.Need-cast-t6
-cast-t6 c = search needs
-
-cast-t9 : tie.Need-cast-t9
-cast-t9 c = search needs
-
-cast-t12 : tie.Need-cast-t12
-cast-t12 c = search needs
-
 returns : tie.Need-returns
 unfolding toLe32
 returns c = search needs
 
+-- the search closes the other needs
 pub le32-bytes-spec : {M : Type 1} → statement M
-le32-bytes-spec = tie.close (tie.spec cast-t3 cast-t6 cast-t9 cast-t12 returns)
+le32-bytes-spec = tie.close (tie.spec (λ c. search needs) (λ c. search needs) (λ c. search needs) (λ c. search needs) returns)

@@ -7,37 +7,13 @@ use borrow.Author.Needs.{needs}
 use Rattle.part.proofs.put_part.Statement.{statement}
 use Rattle.part.proofs.put_part.Tie as tie
 
-one-byte-requires : tie.Need-one-byte-requires
-one-byte-requires c κs = search needs
-
-mul-t10 : tie.Need-mul-t10
-mul-t10 c = search needs
-
-add-t11 : tie.Need-add-t11
-add-t11 c = search needs
-
 cast-t12 : tie.Need-cast-t12
 cast-t12 c =
     omega (arith, part-byte (c .before .before .before .args .d) (c .before .before .before .args .a) (sym (c .if1 .taken) ∙ c .before .one-byte .ensures))
 
-slice-aggregate-put : tie.Need-slice-aggregate-put
-slice-aggregate-put c = search needs
-
-put-requires : tie.Need-put-requires
-put-requires c κs = search needs
-
-same-length : tie.Need-same-length
-same-length c = search needs
-
 returns : tie.Need-returns
 returns c =
     lays-within (lays-as (c .before .before .put .ensures) (part-short (c .before .before .before .before .before .before .before .before .args .d) (c .before .before .before .before .before .before .before .before .args .a) (sym (c .before .before .before .before .before .if1 .taken) ∙ c .before .before .before .before .before .before .one-byte .ensures))) 11 (omega arith)
-
-slice-aggregate-put-2 : tie.Need-slice-aggregate-put-2
-slice-aggregate-put-2 c = search needs
-
-put-requires-2 : tie.Need-put-requires-2
-put-requires-2 c κs = search needs
 
 put-length-requires : tie.Need-put-length-requires
 put-length-requires c κs =
@@ -47,29 +23,11 @@ put-length-requires-2 : tie.Need-put-length-requires-2
 put-length-requires-2 c κs =
     (omega (arith, c .before .before .before .before .before .before .before .put2 .ensures .most, c .before .before .before .put-length .ensures .most, c .before .before .before .before .before .before .before .before .before .before .before .before .before .pre), omega (arith, c .before .before .before .before .before .before .before .before .before .before .before .before .before .pre))
 
-same-length-2 : tie.Need-same-length-2
-same-length-2 c = search needs
-
 returns-2 : tie.Need-returns-2
 returns-2 c =
     lays-as (lays-then (c .before .before .before .before .before .before .before .before .before .before .put2 .ensures) (lays-then (c .before .before .before .before .before .before .put-length .ensures) (c .before .before .put-length2 .ensures)))
     (part-long (c .before .before .before .before .before .before .before .before .before .before .before .before .before .before .before .before .args .d) (c .before .before .before .before .before .before .before .before .before .before .before .before .before .before .before .before .args .a) (sym (c .before .before .before .before .before .before .before .before .before .before .before .before .before .if1 .left) ∙ c .before .before .before .before .before .before .before .before .before .before .before .before .before .before .one-byte .ensures))
 
+-- the search closes the other needs
 pub put-part-spec : {M : Type 1} → statement M
-put-part-spec =
-    tie.close
-    (tie.spec
-    one-byte-requires
-    mul-t10
-    add-t11
-    cast-t12
-    slice-aggregate-put
-    put-requires
-    same-length
-    returns
-    slice-aggregate-put-2
-    put-requires-2
-    put-length-requires
-    put-length-requires-2
-    same-length-2
-    returns-2)
+put-part-spec = tie.close (tie.spec (λ c κs. search needs) (λ c. search needs) (λ c. search needs) cast-t12 (λ c. search needs) (λ c κs. search needs) (λ c. search needs) returns (λ c. search needs) (λ c κs. search needs) put-length-requires put-length-requires-2 (λ c. search needs) returns-2)

@@ -3,8 +3,13 @@ use borrow.Author.Needs.{needs}
 use native.Mathlib.Omega.{arith}
 use Prim.Native.Nat.{_-_}
 use mathlib.Core.Path.{_≡_}
+use mathlib.Core.List.{[]}
+use Rattle.format.proofs.ReadingLaws.{Within}
+use Rattle.item.specs.Seen.{seen}
+use Rattle.item.specs.declared.Step.{Step}
 use lib.ListN.{length, length-drop}
-use Rattle.read.proofs.Turn.{Going, going-first, ends-bad, ends-after, ends-done, on-size, made-size, going-on, going-made}
+use Rattle.item.specs.declared.Step.the-variants.{On, Made}
+use Rattle.read.proofs.Turn.{Going, going-first, ends-bad, ends-after, ends-done, item-within, going-on, going-made}
 use Rattle.read.proofs.pass.Statement.{statement}
 use Rattle.read.proofs.pass.Tie as tie
 
@@ -16,16 +21,20 @@ abbrev μ-loop : tie.MeasureT-loop
 μ-loop file version place sheet₀ front at₀ out₀ records₀ label₀ setting₀ sheet at out records label setting =
     length file - at
 
+-- the item's bytes are there
+within-at : (y : tie.After-lay-item Inv-loop μ-loop) (it : Step) → y .lay-item .result ≡ it → Within (length (y .before .before .before .before .before .before .before .before .before .args .file .now)) (y .before .before .before .before .loop .at) (seen it [])
+within-at y it e = item-within _ _ _ _ _ _ _ _ _ _ _ (y .before .before .before .before .loop .inv) it _ (rw e at (y .lay-item .ensures .0))
+
 blank-requires : tie.Need-blank-requires Inv-loop μ-loop
 blank-requires c κs = search needs
 
-start-requires : tie.Need-start-requires Inv-loop μ-loop
-start-requires c κs = search needs
+start-setting-requires : tie.Need-start-setting-requires Inv-loop μ-loop
+start-setting-requires c κs = search needs
 
 loop-holds : tie.Need-loop-holds Inv-loop μ-loop
 loop-holds c =
     let w : length (c .before .blank .result .bytes) ≡ 4096 = search needs in
-    going-first _ _ _ _ _ _ _ (c .start .ensures) (c .before .blank .ensures) (c .before .before .before .before .pre .1) w
+    going-first _ _ _ _ _ _ _ (c .start-setting .ensures) (c .before .blank .ensures) (c .before .before .before .before .pre .1) w
 
 sub-rest : tie.Need-sub-rest Inv-loop μ-loop
 sub-rest c = search needs
@@ -87,20 +96,10 @@ enum-known-it-2 : tie.Need-enum-known-it-2 Inv-loop μ-loop
 enum-known-it-2 c = search needs
 
 add-at : tie.Need-add-at Inv-loop μ-loop
-add-at c =
-    let d = c .before .before .before .before .before in
-    let l = c .before .before .before .before .before .before .before .before .before in
-    let T = rw (c .before .it2 .given .1) at (d .lay-item .ensures .0) in
-    let z = on-size _ _ _ _ _ _ _ _ _ _ _ (l .loop .inv) _ _ _ _ T in
-    omega arith
+add-at c = let z = within-at (c .before .before .before .before .before) (On _ _ _) (c .before .it2 .given .1) in omega arith
 
 loop-less : tie.Need-loop-less Inv-loop μ-loop
-loop-less c =
-    let d = c .before .before .before .before .before in
-    let l = c .before .before .before .before .before .before .before .before .before in
-    let T = rw (c .before .it2 .given .1) at (d .lay-item .ensures .0) in
-    let z = on-size _ _ _ _ _ _ _ _ _ _ _ (l .loop .inv) _ _ _ _ T in
-    omega arith
+loop-less c = let z = within-at (c .before .before .before .before .before) (On _ _ _) (c .before .it2 .given .1) in omega arith
 
 loop-again : tie.Need-loop-again Inv-loop μ-loop
 loop-again c =
@@ -131,20 +130,10 @@ add-records c =
     omega (arith, i .stands .inside, i .records-few, c .before .before .before .before .before .before .before .before .before .before .before .before .before .before .before .pre)
 
 add-at-2 : tie.Need-add-at-2 Inv-loop μ-loop
-add-at-2 c =
-    let d = c .before .before .before .before .before .before in
-    let l = c .before .before .before .before .before .before .before .before .before .before in
-    let T = rw (c .before .before .it3 .given .1) at (d .lay-item .ensures .0) in
-    let z = made-size _ _ _ _ _ _ _ _ _ _ _ (l .loop .inv) _ _ _ _ _ T in
-    omega arith
+add-at-2 c = let z = within-at (c .before .before .before .before .before .before) (Made _ _ _ _) (c .before .before .it3 .given .1) in omega arith
 
 loop-less-2 : tie.Need-loop-less-2 Inv-loop μ-loop
-loop-less-2 c =
-    let d = c .before .before .before .before .before .before in
-    let l = c .before .before .before .before .before .before .before .before .before .before in
-    let T = rw (c .before .before .it3 .given .1) at (d .lay-item .ensures .0) in
-    let z = made-size _ _ _ _ _ _ _ _ _ _ _ (l .loop .inv) _ _ _ _ _ T in
-    omega arith
+loop-less-2 c = let z = within-at (c .before .before .before .before .before .before) (Made _ _ _ _) (c .before .before .it3 .given .1) in omega arith
 
 loop-again-2 : tie.Need-loop-again-2 Inv-loop μ-loop
 loop-again-2 c =
@@ -161,7 +150,7 @@ pass-spec =
     Inv-loop
     μ-loop
     blank-requires
-    start-requires
+    start-setting-requires
     loop-holds
     sub-rest
     part-rest-start

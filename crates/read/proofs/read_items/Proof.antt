@@ -6,6 +6,7 @@ use mathlib.Core.List.{List}
 use Rattle.format.specs.Reading.{itemsOf}
 use Rattle.read.specs.Pass.{lay}
 use Rattle.read.proofs.Turn.{title-length, time-length, read-refused, read-small, front-fits, read-done}
+use lib.Seq.{length-take-le}
 use borrow.Author.Needs.{needs}
 use Rattle.read.proofs.read_items.Statement.{statement}
 use Rattle.read.proofs.read_items.Tie as tie
@@ -79,6 +80,13 @@ put-front-requires c κs =
     let z3 : 24 + t + 1 ≡ 25 + t = omega arith in
     rw (z2, z3, z1, title-length file old _ _ _ _ _ O, time-length file old _ _ _ _ _ O, m .1) (r .title-fits, r .time-fits, k)
 
+slice-relend-prefix-pass : tie.Need-slice-relend-prefix-pass
+slice-relend-prefix-pass c = search needs
+
+slice-aggregate-pass : tie.Need-slice-aggregate-pass
+slice-aggregate-pass c =
+    sym (length-take-le _ _ (omega (arith, c .before .before .before .before .before .before .before .if1 .left, c .before .before .before .put-front .kept)))
+
 pass-requires : tie.Need-pass-requires
 pass-requires c κs = search needs
 
@@ -109,8 +117,7 @@ returns-3 c =
     let z2 : 24 + t + 1 + n - (24 + t + 1) ≡ n = omega arith in
     let z3 : 24 + t + 1 ≡ 25 + t = omega arith in
     let p = rw (z2, z3, z1, m .1) at (c .before .before .before .before .before .before .put-front .ensures) in
-    let q = c .before .before .pass .ensures .1 ∙ ap (λ (s : List ℕ). lay s (7 + t + n) (itemsOf (a .args .version) (a .args .place) file .records)) p in
-    read-done file old _ _ _ _ _ (a .pre) _ _ e h _ q
+    read-done file old _ _ _ _ _ (a .pre) _ _ e h _ _ p (c .before .before .pass .ensures .1)
 
 pub read-items-spec : {M : Type 1} → statement M
 read-items-spec =
@@ -133,6 +140,8 @@ read-items-spec =
     part-put-front-start-2
     part-put-front-end-2
     put-front-requires
+    slice-relend-prefix-pass
+    slice-aggregate-pass
     pass-requires
     same-length-2
     returns-2

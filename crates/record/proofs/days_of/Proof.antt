@@ -1,4 +1,5 @@
 -- `record::days_of` meets its contract. Assumes nothing.
+use mathlib.Core.Path.{refl}
 use borrow.Author.Needs.{needs}
 use Rattle.record.proofs.days_of.Statement.{statement}
 use Rattle.record.proofs.days_of.Tie as tie
@@ -13,13 +14,13 @@ enum-known-date-2 : tie.Need-enum-known-date-2
 enum-known-date-2 c = search needs
 
 returns : tie.Need-returns
-returns c = simp (c .enum-told .given .1)
+returns c = rw (c .enum-told .given .1) (refl, refl, refl)
 
 returns-2 : tie.Need-returns-2
-returns-2 c = simp (c .before .date .given .1)
+returns-2 c = rw (c .before .date .given .1) (refl, refl, refl)
 
 returns-3 : tie.Need-returns-3
-returns-3 c = simp (c .before .date2 .given .1)
+returns-3 c = rw (c .before .date2 .given .1) (refl, refl, refl)
 
 pub days-of-spec : {M : Type 1} → statement M
 days-of-spec =

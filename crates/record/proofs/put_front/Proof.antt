@@ -10,27 +10,6 @@ use Rattle.record.proofs.Laws.{front-laid, front-parts}
 use Rattle.record.proofs.put_front.Statement.{statement}
 use Rattle.record.proofs.put_front.Tie as tie
 
-front-head-requires : tie.Need-front-head-requires
-front-head-requires c κs = search needs
-
-slice-aggregate-copy : tie.Need-slice-aggregate-copy
-slice-aggregate-copy c = search needs
-
-copy-requires : tie.Need-copy-requires
-copy-requires c κs = search needs
-
-put-at-requires : tie.Need-put-at-requires
-put-at-requires c κs = search needs
-
-add-put-at : tie.Need-add-put-at
-add-put-at c = search needs
-
-put-at-requires-2 : tie.Need-put-at-requires-2
-put-at-requires-2 c κs = search needs
-
-same-length : tie.Need-same-length
-same-length c = search needs
-
 returns : tie.Need-returns
 returns c =
     let a = c .before .before .before .before .before .before .before .before .before .before .before .before .before .before .before .before .before in
@@ -42,15 +21,6 @@ returns c =
     let h : length head + length title + length time ≤ length (a .args .sheet .now) = omega (arith, a .pre) in
     e ∙ (rw n at (front-laid (a .args .sheet .now) head title time h)) ∙ rw (c .before .before .before .before .before .before .before .before .before .before .before .before .before .front-head .ensures, front-parts)
 
+-- the search closes the other needs
 pub put-front-spec : {M : Type 1} → statement M
-put-front-spec =
-    tie.close
-    (tie.spec
-    front-head-requires
-    slice-aggregate-copy
-    copy-requires
-    put-at-requires
-    add-put-at
-    put-at-requires-2
-    same-length
-    returns)
+put-front-spec = tie.close (tie.spec (λ c κs. search needs) (λ c. search needs) (λ c κs. search needs) (λ c κs. search needs) (λ c. search needs) (λ c κs. search needs) (λ c. search needs) returns)

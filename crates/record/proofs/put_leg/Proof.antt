@@ -13,24 +13,6 @@ use Rattle.record.proofs.Laws.{leg-laid}
 use Rattle.record.proofs.put_leg.Statement.{statement}
 use Rattle.record.proofs.put_leg.Tie as tie
 
-slice-aggregate-copy : tie.Need-slice-aggregate-copy
-slice-aggregate-copy c = search needs
-
-copy-requires : tie.Need-copy-requires
-copy-requires c κs = search needs
-
-put-point-requires : tie.Need-put-point-requires
-put-point-requires c κs = search needs
-
-put-point-requires-2 : tie.Need-put-point-requires-2
-put-point-requires-2 c κs = search needs
-
-put-label-requires : tie.Need-put-label-requires
-put-label-requires c κs = search needs
-
-same-length : tie.Need-same-length
-same-length c = search needs
-
 returns : tie.Need-returns
 returns c =
     let a = c .before .before .before .before .before .before .before .before .before .before .before .before .before .before .before .before .before .before in
@@ -43,14 +25,6 @@ returns c =
     let e2 = c .before .before .before .before .before .before .put-point2 .ensures ∙ ap (λ (d : List ℕ). laid d 22 to) e1 in
     c .before .before .put-label .ensures ∙ ap (λ (d : List ℕ). laid d 34 l) e2 ∙ leg-laid (a .args .out .now) (a .args .t2) l (a .args .from) (a .args .to) n (omega (arith, a .pre))
 
+-- the search closes the other needs
 pub put-leg-spec : {M : Type 1} → statement M
-put-leg-spec =
-    tie.close
-    (tie.spec
-    slice-aggregate-copy
-    copy-requires
-    put-point-requires
-    put-point-requires-2
-    put-label-requires
-    same-length
-    returns)
+put-leg-spec = tie.close (tie.spec (λ c. search needs) (λ c κs. search needs) (λ c κs. search needs) (λ c κs. search needs) (λ c κs. search needs) (λ c. search needs) returns)

@@ -9,24 +9,6 @@ use Rattle.record.proofs.Laws.{point-laid}
 use Rattle.record.proofs.put_point.Statement.{statement}
 use Rattle.record.proofs.put_point.Tie as tie
 
-put-word-requires : tie.Need-put-word-requires
-put-word-requires c κs = search needs
-
-add-put-word : tie.Need-add-put-word
-add-put-word c = search needs
-
-put-word-requires-2 : tie.Need-put-word-requires-2
-put-word-requires-2 c κs = search needs
-
-add-put-word-2 : tie.Need-add-put-word-2
-add-put-word-2 c = search needs
-
-put-word-requires-3 : tie.Need-put-word-requires-3
-put-word-requires-3 c κs = search needs
-
-same-length : tie.Need-same-length
-same-length c = search needs
-
 returns : tie.Need-returns
 returns c =
     let a = c .before .before .before .before .before .before .before .before .before .before .before .before .before in
@@ -36,14 +18,6 @@ returns c =
     let e2 = c .before .before .before .before .before .before .put-word2 .ensures ∙ ap (λ (d : List ℕ). laid d (k + 4) (toBe32 (p .y))) e1 in
     c .before .before .put-word3 .ensures ∙ ap (λ (d : List ℕ). laid d (k + 8) (toBe32 (p .z))) e2 ∙ point-laid (a .args .out .now) k p (a .pre)
 
+-- the search closes the other needs
 pub put-point-spec : {M : Type 1} → statement M
-put-point-spec =
-    tie.close
-    (tie.spec
-    put-word-requires
-    add-put-word
-    put-word-requires-2
-    add-put-word-2
-    put-word-requires-3
-    same-length
-    returns)
+put-point-spec = tie.close (tie.spec (λ c κs. search needs) (λ c. search needs) (λ c κs. search needs) (λ c. search needs) (λ c κs. search needs) (λ c. search needs) returns)

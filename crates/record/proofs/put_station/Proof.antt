@@ -13,21 +13,6 @@ use Rattle.record.proofs.Laws.{station-laid}
 use Rattle.record.proofs.put_station.Statement.{statement}
 use Rattle.record.proofs.put_station.Tie as tie
 
-slice-aggregate-copy : tie.Need-slice-aggregate-copy
-slice-aggregate-copy c = search needs
-
-copy-requires : tie.Need-copy-requires
-copy-requires c κs = search needs
-
-put-point-requires : tie.Need-put-point-requires
-put-point-requires c κs = search needs
-
-put-label-requires : tie.Need-put-label-requires
-put-label-requires c κs = search needs
-
-same-length : tie.Need-same-length
-same-length c = search needs
-
 returns : tie.Need-returns
 returns c =
     let a = c .before .before .before .before .before .before .before .before .before .before .before .before .before .before in
@@ -38,13 +23,6 @@ returns c =
     let e1 = c .before .before .before .before .before .before .put-point .ensures ∙ ap (λ (d : List ℕ). laid d 4 place) (c .before .before .before .before .before .before .before .before .before .before .copy .ensures) in
     c .before .before .put-label .ensures ∙ ap (λ (d : List ℕ). laid d 16 l) e1 ∙ station-laid (a .args .out .now) (a .args .t2) l (a .args .place) n (omega (arith, a .pre))
 
+-- the search closes the other needs
 pub put-station-spec : {M : Type 1} → statement M
-put-station-spec =
-    tie.close
-    (tie.spec
-    slice-aggregate-copy
-    copy-requires
-    put-point-requires
-    put-label-requires
-    same-length
-    returns)
+put-station-spec = tie.close (tie.spec (λ c. search needs) (λ c κs. search needs) (λ c κs. search needs) (λ c κs. search needs) (λ c. search needs) returns)

@@ -5,27 +5,6 @@ use borrow.Author.Needs.{needs}
 use Rattle.record.proofs.record_size.Statement.{statement}
 use Rattle.record.proofs.record_size.Tie as tie
 
-enum-told : tie.Need-enum-told
-enum-told c = search needs
-
-add-result : tie.Need-add-result
-add-result c = search needs
-
-enum-told-2 : tie.Need-enum-told-2
-enum-told-2 c = search needs
-
-add-result-2 : tie.Need-add-result-2
-add-result-2 c = search needs
-
-enum-told-3 : tie.Need-enum-told-3
-enum-told-3 c = search needs
-
-add-result-3 : tie.Need-add-result-3
-add-result-3 c = search needs
-
-enum-told-4 : tie.Need-enum-told-4
-enum-told-4 c = search needs
-
 returns : tie.Need-returns
 returns c = rw (c .enum-told .given .1) (refl, omega arith)
 
@@ -35,21 +14,6 @@ returns-2 c = rw (c .enum-told2 .given .1) (refl, omega arith)
 returns-3 : tie.Need-returns-3
 returns-3 c = rw (c .enum-told3 .given .1) (refl, omega arith)
 
-returns-4 : tie.Need-returns-4
-returns-4 c = search needs
-
+-- the search closes the other needs
 pub record-size-spec : {M : Type 1} → statement M
-record-size-spec =
-    tie.close
-    (tie.spec
-    enum-told
-    add-result
-    enum-told-2
-    add-result-2
-    enum-told-3
-    add-result-3
-    enum-told-4
-    returns
-    returns-2
-    returns-3
-    returns-4)
+record-size-spec = tie.close (tie.spec (λ c. search needs) (λ c. search needs) (λ c. search needs) (λ c. search needs) (λ c. search needs) (λ c. search needs) (λ c. search needs) returns returns-2 returns-3 (λ c. search needs))

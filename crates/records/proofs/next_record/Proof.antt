@@ -2,8 +2,14 @@
 use borrow.Author.Needs.{needs}
 use native.Mathlib.Omega.{arith}
 use Prim.Native.Nat.{_-_}
+use mathlib.Core.Path.{_≡_}
+use mathlib.Core.List.{[]}
 use lib.ListN.{length, length-drop}
-use Rattle.records.proofs.Walk.{Going, going-first, finds-bad, finds-after, finds-end, on-size, going-on, made-size, finds-record}
+use Rattle.format.proofs.ReadingLaws.{Within}
+use Rattle.item.specs.Seen.{seen}
+use Rattle.item.specs.declared.Step.{Step}
+use Rattle.item.specs.declared.Step.the-variants.{On, Made}
+use Rattle.records.proofs.Walk.{Going, going-first, finds-bad, finds-after, finds-end, item-within, going-on, finds-record}
 use Rattle.records.proofs.next_record.Statement.{statement}
 use Rattle.records.proofs.next_record.Tie as tie
 
@@ -13,6 +19,10 @@ Inv-loop file version bytes₀ at₀ len₀ setting₀ bytes at len setting =
 
 abbrev μ-loop : tie.MeasureT-loop
 μ-loop file version bytes₀ at₀ len₀ setting₀ bytes at len setting = length file - at
+
+-- the item's bytes are there
+within-at : (y : tie.After-take-item Inv-loop μ-loop) (it : Step) → y .take-item .result ≡ it → Within (length (y .before .before .before .before .before .before .args .file .now)) (y .before .before .before .loop .at) (seen it [])
+within-at y it e = item-within _ _ _ _ _ _ _ _ (y .before .before .before .loop .inv) it _ (rw e at (y .take-item .ensures))
 
 loop-holds : tie.Need-loop-holds Inv-loop μ-loop
 loop-holds c =
@@ -59,16 +69,10 @@ enum-known-it-2 : tie.Need-enum-known-it-2 Inv-loop μ-loop
 enum-known-it-2 c = search needs
 
 add-at : tie.Need-add-at Inv-loop μ-loop
-add-at c =
-    let l = c .before .before .before .before .before .before in
-    let z = on-size _ _ _ _ _ _ _ _ (l .loop .inv) _ _ _ _ (rw (c .before .it2 .given .1) at (c .before .before .before .take-item .ensures)) in
-    omega arith
+add-at c = let z = within-at (c .before .before .before) (On _ _ _) (c .before .it2 .given .1) in omega arith
 
 loop-less : tie.Need-loop-less Inv-loop μ-loop
-loop-less c =
-    let l = c .before .before .before .before .before .before in
-    let z = on-size _ _ _ _ _ _ _ _ (l .loop .inv) _ _ _ _ (rw (c .before .it2 .given .1) at (c .before .before .before .take-item .ensures)) in
-    omega arith
+loop-less c = let z = within-at (c .before .before .before) (On _ _ _) (c .before .it2 .given .1) in omega arith
 
 loop-again : tie.Need-loop-again Inv-loop μ-loop
 loop-again c =
@@ -79,10 +83,7 @@ enum-known-it-3 : tie.Need-enum-known-it-3 Inv-loop μ-loop
 enum-known-it-3 c = search needs
 
 add-t25 : tie.Need-add-t25 Inv-loop μ-loop
-add-t25 c =
-    let l = c .before .before .before .before .before .before in
-    let z = made-size _ _ _ _ _ _ _ _ (l .loop .inv) _ _ _ _ _ (rw (c .before .it3 .given .1) at (c .before .before .before .take-item .ensures)) in
-    omega arith
+add-t25 c = let z = within-at (c .before .before .before) (Made _ _ _ _) (c .before .it3 .given .1) in omega arith
 
 returns-4 : tie.Need-returns-4 Inv-loop μ-loop
 returns-4 c =

@@ -17,29 +17,15 @@ returns-2 : tie.Need-returns-2
 unfolding atForm pick
 returns-2 c = simp (lt-leb _ _ (c .if2 .taken), and-no)
 
-shared-slice-read-if3 : tie.Need-shared-slice-read-if3
-shared-slice-read-if3 c = search needs
-
 returns-3 : tie.Need-returns-3
 unfolding atForm pick
 returns-3 c = simp (ne-eqb _ _ (c .if3 .taken))
-
-sub-number : tie.Need-sub-number
-sub-number c = search needs
-
-part-number-start : tie.Need-part-number-start
-part-number-start c = search needs
-
-part-number-end : tie.Need-part-number-end
-part-number-end c = search needs
-
-number-requires : tie.Need-number-requires
-number-requires c κs = search needs
 
 returns-4 : tie.Need-returns-4
 unfolding atForm numberFrom decimal
 returns-4 c =
     simp (eq-eqb _ _ (c .before .before .if3 .left), le-leb _ _ (c .before .before .before .before .before .if1 .left), le-leb _ _ (c .before .before .before .before .if2 .left)) (simp part-to-end at (c .number .ensures))
 
+-- the search closes the other needs
 pub at-form-spec : {M : Type 1} → statement M
-at-form-spec = tie.close (tie.spec returns returns-2 shared-slice-read-if3 returns-3 sub-number part-number-start part-number-end number-requires returns-4)
+at-form-spec = tie.close (tie.spec returns returns-2 (λ c. search needs) returns-3 (λ c. search needs) (λ c. search needs) (λ c. search needs) (λ c κs. search needs) returns-4)

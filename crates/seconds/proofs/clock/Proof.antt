@@ -21,69 +21,15 @@ minute c = field-told 2 (omega arith) _ _ (sym (c .minutes .given .1) ∙ c .bef
 second : (c : tie.After-seconds) → Said 2 (drop 21 (c .before .before .before .before .before .before .before .before .before .before .before .before .before .before .before .args .line .now)) (c .seconds .given .0 .0)
 second c = field-told 2 (omega arith) _ _ (sym (c .seconds .given .1) ∙ c .before .before .number3 .ensures)
 
-sub-number : tie.Need-sub-number
-sub-number c = search needs
-
-part-number-start : tie.Need-part-number-start
-part-number-start c = search needs
-
-part-number-end : tie.Need-part-number-end
-part-number-end c = search needs
-
-number-requires : tie.Need-number-requires
-number-requires c κs = search needs
-
-enum-known-hours : tie.Need-enum-known-hours
-enum-known-hours c = search needs
-
-enum-told : tie.Need-enum-told
-enum-told c = search needs
-
 returns : tie.Need-returns
 unfolding clockOf textClock pick
 returns c =
     simp (field-untold 2 (omega arith) (drop 15 (c .before .before .before .before .before .args .line .now)) (sym (c .enum-told .given .1) ∙ c .before .before .number .ensures))
 
-sub-number-2 : tie.Need-sub-number-2
-sub-number-2 c = search needs
-
-part-number-start-2 : tie.Need-part-number-start-2
-part-number-start-2 c = search needs
-
-part-number-end-2 : tie.Need-part-number-end-2
-part-number-end-2 c = search needs
-
-number-requires-2 : tie.Need-number-requires-2
-number-requires-2 c κs = search needs
-
-enum-known-minutes : tie.Need-enum-known-minutes
-enum-known-minutes c = search needs
-
-enum-told-2 : tie.Need-enum-told-2
-enum-told-2 c = search needs
-
 returns-2 : tie.Need-returns-2
 unfolding clockOf textClock pick
 returns-2 c =
     simp (hour (c .before .before .before .before .before) .digits, field-untold 2 (omega arith) (drop 18 (c .before .before .before .before .before .before .before .before .before .before .args .line .now)) (sym (c .enum-told2 .given .1) ∙ c .before .before .number2 .ensures))
-
-sub-number-3 : tie.Need-sub-number-3
-sub-number-3 c = search needs
-
-part-number-start-3 : tie.Need-part-number-start-3
-part-number-start-3 c = search needs
-
-part-number-end-3 : tie.Need-part-number-end-3
-part-number-end-3 c = search needs
-
-number-requires-3 : tie.Need-number-requires-3
-number-requires-3 c κs = search needs
-
-enum-known-seconds : tie.Need-enum-known-seconds
-enum-known-seconds c = search needs
-
-enum-told-3 : tie.Need-enum-told-3
-enum-told-3 c = search needs
 
 returns-3 : tie.Need-returns-3
 unfolding clockOf textClock pick
@@ -134,5 +80,6 @@ returns-7 c =
     let s = second (c .before .before .before .before) in
     simp (h .digits, m .digits, s .digits, le-leb _ 23 (rw (h .is) at (c .before .before .if1 .left)), le-leb _ 59 (rw (m .is) at (c .before .if2 .left)), le-leb _ 59 (rw (s .is) at (c .if3 .left))) (rw (h .is, m .is, s .is))
 
+-- the search closes the other needs
 pub clock-spec : {M : Type 1} → statement M
-clock-spec = tie.close (tie.spec sub-number part-number-start part-number-end number-requires enum-known-hours enum-told returns sub-number-2 part-number-start-2 part-number-end-2 number-requires-2 enum-known-minutes enum-told-2 returns-2 sub-number-3 part-number-start-3 part-number-end-3 number-requires-3 enum-known-seconds enum-told-3 returns-3 returns-4 returns-5 returns-6 mul-t19 mul-t20 add-t21 add-t22 returns-7)
+clock-spec = tie.close (tie.spec (λ c. search needs) (λ c. search needs) (λ c. search needs) (λ c κs. search needs) (λ c. search needs) (λ c. search needs) returns (λ c. search needs) (λ c. search needs) (λ c. search needs) (λ c κs. search needs) (λ c. search needs) (λ c. search needs) returns-2 (λ c. search needs) (λ c. search needs) (λ c. search needs) (λ c κs. search needs) (λ c. search needs) (λ c. search needs) returns-3 returns-4 returns-5 returns-6 mul-t19 mul-t20 add-t21 add-t22 returns-7)

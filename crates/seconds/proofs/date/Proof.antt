@@ -5,7 +5,7 @@ use lib.ListN.{drop}
 use borrow.Author.Tests.{not-true, not-false}
 use Rattle.format.specs.Bytes.{pick}
 use Rattle.format.specs.Times.{textDay}
-use Rattle.seconds.specs.declared.Spelled.the-variants.{Number}
+use Rattle.format.specs.declared.Spelled.the-variants.{Number}
 use Rattle.seconds.specs.Reading.{dateOf}
 use Rattle.seconds.proofs.Digits.{Said, field-told, field-untold}
 use Rattle.seconds.proofs.Days.{real}
@@ -28,77 +28,20 @@ judged : (c : tie.After-real-date) → c .real-date .result ≡ textDay (c .befo
 unfolding textDay
 judged c = rw (← year (c .before .before .before .before .before .before .before .before .before .before .before .before) .is, ← month (c .before .before .before .before .before .before .before) .is, ← day (c .before .before) .is) (c .real-date .ensures)
 
-sub-number : tie.Need-sub-number
-sub-number c = search needs
-
-part-number-start : tie.Need-part-number-start
-part-number-start c = search needs
-
-part-number-end : tie.Need-part-number-end
-part-number-end c = search needs
-
-number-requires : tie.Need-number-requires
-number-requires c κs = search needs
-
-enum-known-years : tie.Need-enum-known-years
-enum-known-years c = search needs
-
-enum-told : tie.Need-enum-told
-enum-told c = search needs
-
 returns : tie.Need-returns
 unfolding dateOf pick
 returns c =
     simp (field-untold 4 (omega arith) (drop 4 (c .before .before .before .before .before .args .line .now)) (sym (c .enum-told .given .1) ∙ c .before .before .number .ensures))
-
-sub-number-2 : tie.Need-sub-number-2
-sub-number-2 c = search needs
-
-part-number-start-2 : tie.Need-part-number-start-2
-part-number-start-2 c = search needs
-
-part-number-end-2 : tie.Need-part-number-end-2
-part-number-end-2 c = search needs
-
-number-requires-2 : tie.Need-number-requires-2
-number-requires-2 c κs = search needs
-
-enum-known-months : tie.Need-enum-known-months
-enum-known-months c = search needs
-
-enum-told-2 : tie.Need-enum-told-2
-enum-told-2 c = search needs
 
 returns-2 : tie.Need-returns-2
 unfolding dateOf pick
 returns-2 c =
     simp (year (c .before .before .before .before .before) .digits, field-untold 2 (omega arith) (drop 9 (c .before .before .before .before .before .before .before .before .before .before .args .line .now)) (sym (c .enum-told2 .given .1) ∙ c .before .before .number2 .ensures))
 
-sub-number-3 : tie.Need-sub-number-3
-sub-number-3 c = search needs
-
-part-number-start-3 : tie.Need-part-number-start-3
-part-number-start-3 c = search needs
-
-part-number-end-3 : tie.Need-part-number-end-3
-part-number-end-3 c = search needs
-
-number-requires-3 : tie.Need-number-requires-3
-number-requires-3 c κs = search needs
-
-enum-known-days : tie.Need-enum-known-days
-enum-known-days c = search needs
-
-enum-told-3 : tie.Need-enum-told-3
-enum-told-3 c = search needs
-
 returns-3 : tie.Need-returns-3
 unfolding dateOf pick
 returns-3 c =
     simp (year (c .before .before .before .before .before .before .before .before .before .before) .digits, month (c .before .before .before .before .before) .digits, field-untold 2 (omega arith) (drop 12 (c .before .before .before .before .before .before .before .before .before .before .before .before .before .before .before .args .line .now)) (sym (c .enum-told3 .given .1) ∙ c .before .before .number3 .ensures))
-
-real-date-requires : tie.Need-real-date-requires
-real-date-requires c κs = search needs
 
 returns-4 : tie.Need-returns-4
 unfolding dateOf pick
@@ -118,5 +61,6 @@ returns-5 c =
     let d = day (c .before .before .before .before) in
     simp (y .digits, m .digits, d .digits, ← judged (c .before .before), not-false (c .before .before .real-date .result) (c .before .if1 .left)) (ap Number (rw (y .is, m .is, d .is) at (c .day-number .ensures)))
 
+-- the search closes the other needs
 pub date-spec : {M : Type 1} → statement M
-date-spec = tie.close (tie.spec sub-number part-number-start part-number-end number-requires enum-known-years enum-told returns sub-number-2 part-number-start-2 part-number-end-2 number-requires-2 enum-known-months enum-told-2 returns-2 sub-number-3 part-number-start-3 part-number-end-3 number-requires-3 enum-known-days enum-told-3 returns-3 real-date-requires returns-4 day-number-requires returns-5)
+date-spec = tie.close (tie.spec (λ c. search needs) (λ c. search needs) (λ c. search needs) (λ c κs. search needs) (λ c. search needs) (λ c. search needs) returns (λ c. search needs) (λ c. search needs) (λ c. search needs) (λ c κs. search needs) (λ c. search needs) (λ c. search needs) returns-2 (λ c. search needs) (λ c. search needs) (λ c. search needs) (λ c κs. search needs) (λ c. search needs) (λ c. search needs) returns-3 (λ c κs. search needs) returns-4 day-number-requires returns-5)

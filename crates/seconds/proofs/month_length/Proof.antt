@@ -9,26 +9,12 @@ use borrow.Author.Needs.{needs}
 use Rattle.seconds.proofs.month_length.Statement.{statement}
 use Rattle.seconds.proofs.month_length.Tie as tie
 
-sub-column : tie.Need-sub-column
-sub-column c = search needs
-
-mul-wide : tie.Need-mul-wide
-mul-wide c = search needs
-
-index-1-wide : tie.Need-index-1-wide
-index-1-wide c = search needs
-
-index-2-wide : tie.Need-index-2-wide
-index-2-wide c = search needs
-
-wide-requires : tie.Need-wide-requires
-wide-requires c κs = search needs
-
 returns : tie.Need-returns
 unfolding monthLengths monthLength
 returns c =
     let x = c .before .before in
     c .wide .ensures .0 ∙ ap (λ (r : List ℕ). getD r (x .args .month - 1) 0) (rows _ (x .args .row) (x .pre .0))
 
+-- the search closes the other needs
 pub month-length-spec : {M : Type 1} → statement M
-month-length-spec = tie.close (tie.spec sub-column mul-wide index-1-wide index-2-wide wide-requires returns)
+month-length-spec = tie.close (tie.spec (λ c. search needs) (λ c. search needs) (λ c. search needs) (λ c. search needs) (λ c κs. search needs) returns)

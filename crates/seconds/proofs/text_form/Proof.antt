@@ -23,34 +23,13 @@ returns : tie.Need-returns
 unfolding textForm pick
 returns c = simp (lt-leb _ _ (c .if1 .taken))
 
-marks-requires : tie.Need-marks-requires
-marks-requires c κs = search needs
-
 returns-2 : tie.Need-returns-2
 unfolding textForm pick
 returns-2 c = simp (← c .before .marks .ensures, not-true (c .before .marks .result) (c .if2 .taken), and-no)
 
-date-requires : tie.Need-date-requires
-date-requires c κs = search needs
-
-enum-known-dated : tie.Need-enum-known-dated
-enum-known-dated c = search needs
-
-enum-told : tie.Need-enum-told
-enum-told c = search needs
-
 returns-3 : tie.Need-returns-3
 returns-3 c =
     no-date _ (c .before .before .before .before .before .if1 .left) (marked (c .before .before .before)) (sym (c .enum-told .given .1) ∙ c .before .before .date .ensures)
-
-clock-requires : tie.Need-clock-requires
-clock-requires c κs = search needs
-
-enum-known-timed : tie.Need-enum-known-timed
-enum-known-timed c = search needs
-
-enum-told-2 : tie.Need-enum-told-2
-enum-told-2 c = search needs
 
 returns-4 : tie.Need-returns-4
 returns-4 c =
@@ -69,5 +48,6 @@ add-t10 c =
 returns-5 : tie.Need-returns-5
 returns-5 c = put c .is
 
+-- the search closes the other needs
 pub text-form-spec : {M : Type 1} → statement M
-text-form-spec = tie.close (tie.spec returns marks-requires returns-2 date-requires enum-known-dated enum-told returns-3 clock-requires enum-known-timed enum-told-2 returns-4 mul-t9 add-t10 returns-5)
+text-form-spec = tie.close (tie.spec returns (λ c κs. search needs) returns-2 (λ c κs. search needs) (λ c. search needs) (λ c. search needs) returns-3 (λ c κs. search needs) (λ c. search needs) (λ c. search needs) returns-4 mul-t9 add-t10 returns-5)

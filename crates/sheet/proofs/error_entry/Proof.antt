@@ -10,24 +10,6 @@ returns : tie.Need-returns
 returns c =
     record { same = error-size (c .before .before .args .s .now) (c .before .before .args .n) (c .if1 .taken); inside = tt }
 
-sub-traverse : tie.Need-sub-traverse
-sub-traverse c = search needs
-
-part-traverse-start : tie.Need-part-traverse-start
-part-traverse-start c = search needs
-
-part-traverse-end : tie.Need-part-traverse-end
-part-traverse-end c = search needs
-
-traverse-requires : tie.Need-traverse-requires
-traverse-requires c κs = search needs
-
-add-t6 : tie.Need-add-t6
-add-t6 c = search needs
-
-add-t10 : tie.Need-add-t10
-add-t10 c = search needs
-
 returns-2 : tie.Need-returns-2
 returns-2 c =
     rw (simp part-to-end at (c .traverse .ensures))
@@ -36,15 +18,6 @@ returns-2 c =
       inside = record { from-within = omega arith; within = c .before .before .before .before .pre; short = omega arith };
     })
 
+-- the search closes the other needs
 pub error-entry-spec : {M : Type 1} → statement M
-error-entry-spec =
-    tie.close
-    (tie.spec
-    returns
-    sub-traverse
-    part-traverse-start
-    part-traverse-end
-    traverse-requires
-    add-t6
-    add-t10
-    returns-2)
+error-entry-spec = tie.close (tie.spec returns (λ c. search needs) (λ c. search needs) (λ c. search needs) (λ c κs. search needs) (λ c. search needs) (λ c. search needs) returns-2)

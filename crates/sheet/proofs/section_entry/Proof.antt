@@ -1,13 +1,25 @@
 -- `sheet::section_entry` meets its contract. Assumes nothing.
 use borrow.Author.Tests.{not-true, not-false}
 use native.Mathlib.Omega.{arith}
-use mathlib.Core.Path.{sym, _∙_}
+use Prim.Native.Nat.{_+_, _≤_}
+use mathlib.Core.Path.{_≡_, sym, _∙_}
+use mathlib.Core.Bool.{true}
 use borrow.Rule.Slice.PartAt.{part-to-end}
-use lib.ListN.{length-drop}
-use Rattle.sheet.proofs.Entries.{fits, inside, section-long, section-last, section-whole}
+use lib.ListN.{length, length-drop}
+use Rattle.format.specs.Sheet.{labelFits}
+use Rattle.format.proofs.SheetLaws.{fits}
+use Rattle.sheet.proofs.Entries.{inside, section-long, section-last, section-whole}
 use borrow.Author.Needs.{needs}
 use Rattle.sheet.proofs.section_entry.Statement.{statement}
 use Rattle.sheet.proofs.section_entry.Tie as tie
+
+-- the label fits
+label-at : (y : tie.Else1) → labelFits (y .before .before .before .args .n) 18 ≡ true
+label-at y = sym (y .before .label-fits .ensures) ∙ not-false _ (y .if1 .left)
+
+-- and so the body is there
+body-at : (y : tie.Else1) → (18 ≤ y .before .before .before .args .n) × (2 + y .before .before .before .args .n ≤ length (y .before .before .before .args .s .now))
+body-at y = (fits _ 18 (label-at y) .least, y .before .before .before .pre)
 
 label-fits-requires : tie.Need-label-fits-requires
 label-fits-requires c κs = search needs
@@ -18,41 +30,34 @@ returns c =
     record { same = section-long (a .s .now) (a .n) (sym (c .before .label-fits .ensures) ∙ not-true _ (c .if1 .taken)); inside = tt }
 
 shared-slice-read-last : tie.Need-shared-slice-read-last
-shared-slice-read-last c =
-    let f = fits (c .before .before .before .before .args .n) 18 (sym (c .before .before .label-fits .ensures) ∙ not-false _ (c .before .if1 .left)) in
-    omega (arith, f, c .before .before .before .before .pre)
+shared-slice-read-last c = omega (arith, body-at (c .before))
 
 returns-2 : tie.Need-returns-2
 returns-2 c =
     let a = c .before .before .before .before .before .args in
-    let e = sym (c .before .before .before .label-fits .ensures) ∙ not-false _ (c .before .before .if1 .left) in
+    let e = label-at (c .before .before) in
     record { same = section-last (a .s .now) (a .n) e (c .if2 .taken); inside = tt }
 
 sub-dimensions : tie.Need-sub-dimensions
-sub-dimensions c =
-    let f = fits (c .before .before .before .before .before .args .n) 18 (sym (c .before .before .before .label-fits .ensures) ∙ not-false _ (c .before .before .if1 .left)) in
-    omega (arith, f, c .before .before .before .before .before .pre)
+sub-dimensions c = omega (arith, body-at (c .before .before))
 
 part-dimensions-start : tie.Need-part-dimensions-start
-part-dimensions-start c =
-    let f = fits (c .before .before .before .before .before .args .n) 18 (sym (c .before .before .before .label-fits .ensures) ∙ not-false _ (c .before .before .if1 .left)) in
-    omega (arith, f, c .before .before .before .before .before .pre)
+part-dimensions-start c = omega (arith, body-at (c .before .before))
 
 part-dimensions-end : tie.Need-part-dimensions-end
 part-dimensions-end c = search needs
 
 dimensions-requires : tie.Need-dimensions-requires
 dimensions-requires c κs =
-    let f = fits (c .before .before .before .before .before .before .args .n) 18 (sym (c .before .before .before .before .label-fits .ensures) ∙ not-false _ (c .before .before .before .if1 .left)) in
-    simp (part-to-end, length-drop) (omega (arith, f, c .before .before .before .before .before .before .pre))
+    simp (part-to-end, length-drop) (omega (arith, body-at (c .before .before .before)))
 
-add-t10 : tie.Need-add-t10
-add-t10 c = search needs
+add-t11 : tie.Need-add-t11
+add-t11 c = search needs
 
 returns-3 : tie.Need-returns-3
 returns-3 c =
     let a = c .before .before .before .before .before .before .before .args in
-    let e = sym (c .before .before .before .before .before .label-fits .ensures) ∙ not-false _ (c .before .before .before .before .if1 .left) in
+    let e = label-at (c .before .before .before .before) in
     rw (simp part-to-end at (c .dimensions .ensures))
     (record { same = section-whole (a .s .now) (a .n) e (c .before .before .if2 .left); inside = inside (a .s .now) (a .n) 18 (c .before .before .before .before .before .before .before .pre) (fits (a .n) 18 e) })
 
@@ -68,5 +73,5 @@ section-entry-spec =
     part-dimensions-start
     part-dimensions-end
     dimensions-requires
-    add-t10
+    add-t11
     returns-3)

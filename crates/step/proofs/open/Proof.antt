@@ -38,7 +38,7 @@ use denote.Triple.Table.{entered, cited}
 use denote.Triple.Walked.{says, Stays, stay-none-slice, walkOf, goes-none-slice, Walks, ends-at, walked, walk-meets}
 use denote.Exit.{yes}
 use Rattle.format.specs.Stepping.{openStand}
-use Rattle.step.specs.Standing.{standSeen, Inside}
+use Rattle.step.specs.Standing.{standSeen}
 use Rattle.step.specs.declared.Reader.{Reader}
 use Rattle.step.specs.declared.Stand.{Stand}
 use Rattle.step.proofs.Reader as T
@@ -92,8 +92,8 @@ module _ {M : Type 1} (𝓤 : URA M) (H : Heap 𝓤) (A : Atoms 𝓤) (W : Given
   to = (((κ, tt), (q, tt), tt, (s, tt), at), tt)
 
   -- what is known of the call's result
-  abbrev Told : Stand → Type 0
-  Told r = (standSeen r ≡ openStand (s .now)) × Inside r (s .now)
+  abbrev Heard : Stand → Type 0
+  Heard r = standSeen r ≡ openStand (s .now)
 
   asked : ent 𝓤 (onEntry 𝓤 H A open-at.signature (κ, tt) (q, tt) (s, tt) at) (OpenAt 𝓤 H A mem run .pre to)
   asked = qed W ((‵ (flft κ q) ⊛ ‵ ftrue) ∷ ‵ (owns (ShrSlice (named 0) κ u8 ∷ []) (s, tt) at) ∷ []) ∵ join ! $ frame ! $ done !
@@ -106,14 +106,14 @@ module _ {M : Type 1} (𝓤 : URA M) (H : Heap 𝓤) (A : Atoms 𝓤) (W : Given
       -- [what file owns; the same; true; the token]
       move ! (0 ∷ 2 ∷ []) $ fjoin ! $ move ! (2 ∷ 0 ∷ []) $ use2 W (raw (OpenAt 𝓤 H A mem run .pre to)) asked $ frame ! $ done !
 
-  said : (r : Stand) → ent 𝓤 (ensured 𝓤 H A open-at.ended (open-at.clauses 𝓤 H A mem run) (κ, tt) (s, tt) tt r) (fact 𝓤 (Told r))
-  said r = exE 𝓤 _ (λ ws. snd∗ 𝓤 (sem 𝓤 H A (lasts open-at.ended (κ, tt) (s, tt) ws)) (fact 𝓤 (Told r)))
+  said : (r : Stand) → ent 𝓤 (ensured 𝓤 H A open-at.ended (open-at.clauses 𝓤 H A mem run) (κ, tt) (s, tt) tt r) (fact 𝓤 (Heard r))
+  said r = exE 𝓤 _ (λ ws. snd∗ 𝓤 (sem 𝓤 H A (lasts open-at.ended (κ, tt) (s, tt) ws)) (fact 𝓤 (Heard r)))
 
   -- the stand's relation, at its machine value spelled out
   spelled-is : (r : Stand) (u : Val) → Is St.the-row r (u ∷ []) → Is St.the-row r (LL.val St.the-type St′.the-laws r ∷ [])
   spelled-is r u is = LL.owes St.the-type St′.the-laws r (LL.owed St.the-type St′.the-laws r _ is)
 
-  exits : (r : Stand) → Told r → Is St.the-row r (LL.val St.the-type St′.the-laws r ∷ []) → ent 𝓤 (⋆ 𝓤 H A ((‵ (flft κ q) ⊛ ‵ ftrue) ∷ ‵ Own ∷ [])) (Post (LL.val D L (made r)))
+  exits : (r : Stand) → Heard r → Is St.the-row r (LL.val St.the-type St′.the-laws r ∷ []) → ent 𝓤 (⋆ 𝓤 H A ((‵ (flft κ q) ⊛ ‵ ftrue) ∷ ‵ Own ∷ [])) (Post (LL.val D L (made r)))
   exits r e is =
       qed W ((‵ (flft κ q) ⊛ ‵ ftrue) ∷ ‵ Own ∷ []) ∵
       suffices ! _ (ends-at 𝓤 H A opening.ended stayed (opening.clauses 𝓤 H A mem run) W (((κ, tt), (q, tt), tt, (s, tt), at), tt) (LL.val D L (made r)) (made r) (tt, tt) (tt, tt)) $ says ! (refl, e) $
@@ -130,7 +130,7 @@ module _ {M : Type 1} (𝓤 : URA M) (H : Heap 𝓤) (A : Atoms 𝓤) (W : Given
         move ! (6 ∷ []) $ use1 W (raw (OpenAt 𝓤 H A mem run .pre to) ⊛ ‵ Own) begins $ split ! $
         calls-at ! fm (OpenAt 𝓤 H A mem run) known to (and-then ! (load ! (from ! (stop !)) (look ! 4 refl)) (no-more !)) (λ u.
         use1 W (later (some (λ (r : Stand). ((‵ (flft κ q) ⊛ ‵ ftrue) ⊛ ‵ (St.the-row .own r (u ∷ []))) ⊛ raw (ensured 𝓤 H A open-at.ended (open-at.clauses 𝓤 H A mem run) (κ, tt) (s, tt) tt r)))) (id⊢ 𝓤 _) $ await ! tt $ pick ! (λ r.
-        split ! $ move ! (1 ∷ []) $ use1 W (raw (fact 𝓤 (Told r))) (said r) $ heard ! (Told r) (λ e. split ! $ move ! (1 ∷ []) $
+        split ! $ move ! (1 ∷ []) $ use1 W (raw (fact 𝓤 (Heard r))) (said r) $ heard ! (Heard r) (λ e. split ! $ move ! (1 ∷ []) $
         peeks ! St.the-row (Is St.the-row) (shows 𝓤 H A St.the-row) r (u ∷ []) (λ is. drop ! $
         -- [the token; what file owns; room for _2; …; _1; …; room for _0; …]
         land ! (from ! (stop !)) (init ! 2 refl (LL.lawful St.the-type St′.the-laws 𝓤 H A W .typed r _ is .0)) $

@@ -1,7 +1,6 @@
 -- `step::opened` meets its contract. Assumes nothing.
 use mathlib.Core.Path.{ap}
 use Rattle.format.specs.Answers.{openOutcome}
-use Rattle.header.specs.Head.{Told}
 use borrow.Author.Needs.{needs}
 use Rattle.step.proofs.opened.Statement.{statement}
 use Rattle.step.proofs.opened.Tie as tie
@@ -19,13 +18,13 @@ returns : tie.Need-returns
 returns c =
     let T = c .before .before .before .opening .ensures in
     let U = (rw (c .before .head .given .1) at T) in
-    (ap openOutcome (U .same), tt)
+    ap openOutcome (U .same)
 
 returns-2 : tie.Need-returns-2
 returns-2 c =
     let T = c .before .before .before .opening .ensures in
     let U = (rw (c .before .head2 .given .1) at T) in
-    (ap openOutcome (U .same), U .room .inside)
+    ap openOutcome (U .same)
 
 pub opened-spec : {M : Type 1} → statement M
 opened-spec =

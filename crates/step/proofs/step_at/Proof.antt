@@ -25,12 +25,12 @@ returns c = search needs
 returns-2 : tie.Need-returns-2
 returns-2 c =
     let a = c .before .before .before .before in
-    stands-still (a .args .stand) _ _ (a .pre) (c .enum-told2 .given .1)
+    stands-still (a .args .stand) _ _ (c .enum-told2 .given .1)
 
 returns-3 : tie.Need-returns-3
 returns-3 c =
     let a = c .before .before .before .before .before in
-    stands-refused (a .args .stand) _ _ _ _ (a .pre) (c .before .phase .given .1)
+    stands-refused (a .args .stand) _ _ _ _ (c .before .phase .given .1)
 
 pub step-at-spec : {M : Type 1} → statement M
 step-at-spec =

@@ -1,5 +1,6 @@
 -- `tally::finish` meets its contract. Assumes nothing.
 use native.Mathlib.Omega.{arith}
+use Rattle.format.specs.Writing.{v8}
 use Rattle.tally.proofs.Left.{finish-unsaid, finish-big, finish-done}
 use borrow.Author.Needs.{needs}
 use Rattle.tally.proofs.finish.Statement.{statement}
@@ -11,7 +12,7 @@ sub-t10 c = search needs
 returns : tie.Need-returns
 returns c =
     let a = c .before .before .args in
-    finish-unsaid _ _ (record { bytes = a .total; records = a .number; fault = a .fault }) (c .if1 .taken)
+    finish-unsaid v8 _ _ (record { bytes = a .total; records = a .number; fault = a .fault }) (c .if1 .taken)
 
 within-requires : tie.Need-within-requires
 within-requires c κs = search needs
@@ -39,7 +40,7 @@ returns-2 : tie.Need-returns-2
 returns-2 c =
     let a = c .before .before .before .before .before .before .before .before .args in
     let W = c .before .before .before .before .before .within .ensures in
-    finish-big _ _ (record { bytes = a .total; records = a .number; fault = a .fault }) _ _ _ (c .before .before .before .before .before .before .if1 .left) (W .0) (W .1) (c .before .before .before .put-closing .ensures) (c .if2 .taken)
+    finish-big v8 _ _ (record { bytes = a .total; records = a .number; fault = a .fault }) _ _ _ _ (c .before .before .before .before .before .before .if1 .left) (W .0) (W .1) (c .before .before .before .put-closing .ensures) (c .if2 .taken)
 
 same-length-2 : tie.Need-same-length-2
 same-length-2 c = search needs
@@ -48,7 +49,7 @@ returns-3 : tie.Need-returns-3
 returns-3 c =
     let a = c .before .before .before .before .before .before .before .before .args in
     let W = c .before .before .before .before .before .within .ensures in
-    finish-done _ _ (record { bytes = a .total; records = a .number; fault = a .fault }) _ _ _ (c .before .before .before .before .before .before .if1 .left) (W .0) (W .1) (c .before .before .before .put-closing .ensures) (c .if2 .left)
+    finish-done v8 _ _ (record { bytes = a .total; records = a .number; fault = a .fault }) _ _ _ _ (c .before .before .before .before .before .before .if1 .left) (W .0) (W .1) (c .before .before .before .put-closing .ensures) (c .if2 .left)
 
 pub finish-spec : {M : Type 1} → statement M
 finish-spec =

@@ -2,7 +2,7 @@
 use native.Mathlib.Omega.{arith}
 use Prim.Native.Nat.{_+_, _-_}
 use mathlib.Core.Path.{_≡_, sym, ap}
-use Rattle.timeline.specs.declared.Stamped.{Stamped}
+use Rattle.format.specs.declared.Stamp.{Stamp}
 use Rattle.timeline.specs.Handing.{lineIn, placeIn}
 use Rattle.timeline.proofs.Stamps.{stands-at}
 use borrow.Author.Needs.{needs}
@@ -44,7 +44,7 @@ returns : tie.Need-returns
 returns c =
     let x = c .before .before .before .args .file in
     let e = sym (c .before .enum-told .given .1) in
-    (ap (λ (r : Stamped). lineIn r (x .now)) e, ap (λ (r : Stamped). placeIn r (x .ptr)) e)
+    (ap (λ (r : Stamp). lineIn r (x .now)) e, ap (λ (r : Stamp). placeIn r (x .ptr)) e)
 
 returns-2 : tie.Need-returns-2
 returns-2 c =
@@ -52,7 +52,7 @@ returns-2 c =
     let s = c .before .before .s .given in
     let e = sym (s .1) in
     let z : s .0 .1 .0 + s .0 .1 .1 .0 - s .0 .1 .0 ≡ s .0 .1 .1 .0 = omega arith in
-    (rw z (ap (λ (r : Stamped). lineIn r (x .now)) e), ap (λ (r : Stamped). placeIn r (x .ptr)) e)
+    (rw z (ap (λ (r : Stamp). lineIn r (x .now)) e), ap (λ (r : Stamp). placeIn r (x .ptr)) e)
 
 pub line-of-spec : {M : Type 1} → statement M
 line-of-spec = tie.close (tie.spec enum-told sub-result part-result-start part-result-end enum-known-s add-end sub-result-2 part-result-start-2 part-result-end-2 returns returns-2)

@@ -1,5 +1,6 @@
 use Prim.Native.Nat.{_+_, _-_, _≤_}
 -- `write::put_records` meets its contract. Assumes nothing.
+use Rattle.format.specs.Writing.{v8}
 use borrow.Author.Needs.{needs}
 use native.Mathlib.Omega.{arith}
 use lib.ListN.{length}
@@ -54,7 +55,7 @@ returns : tie.Need-returns Inv-loop μ-loop
 returns c =
     let l = c .before .before .before .before .before in
     let T = rw (c .enum-told .given .1) at (c .before .before .read-entry .ensures) in
-    rest-refused _ _ _ _ (l .loop .inv .kept) 12 _ (going-flawed _ _ _ _ _ _ _ _ _ _ (l .loop .inv) (c .before .before .before .before .loop-test .taken) T)
+    rest-refused v8 _ _ _ _ (l .loop .inv .kept) 12 _ (going-flawed _ _ _ _ _ _ _ _ _ _ (l .loop .inv) (c .before .before .before .before .loop-test .taken) T)
 
 add-name : tie.Need-add-name Inv-loop μ-loop
 add-name c = omega (arith, sizes (c .before))
@@ -144,7 +145,7 @@ returns-2 : tie.Need-returns-2 Inv-loop μ-loop
 returns-2 c =
     let l = c .before .before .before .before .before .before in
     let L = going-end _ _ _ _ _ _ _ _ _ _ (l .loop .inv) (c .before .before .before .before .before .loop-test .left) in
-    left-end _ _ _ _ _ _ _ _ (l .loop .inv .kept) L (c .before .before .finish .ensures)
+    left-end v8 _ _ _ _ _ _ _ _ (l .loop .inv .kept) L (c .before .before .finish .ensures)
 
 pub put-records-spec : {M : Type 1} → statement M
 put-records-spec =

@@ -1,9 +1,10 @@
 -- `write::write` meets its contract. Assumes nothing.
-use mathlib.Core.Path.{sym, _∙_}
 use Rattle.format.specs.Sheet.{frontHeader, sheetResult}
-use Rattle.format.specs.Writing.{writeOutcome, writeBuffer}
-use Rattle.wire.proofs.Laws.{none-before}
-use Rattle.tally.proofs.Files.{file-refused, file-small, file-done}
+use Rattle.format.specs.Writing.{v8, writeOutcome, writeBuffer}
+use Rattle.tally.proofs.Files.{passes-refused, passes-small, passes-done}
+use mathlib.Core.Path.{sym}
+use lib.Seq.{length-take-le}
+use native.Mathlib.Omega.{arith}
 use borrow.Author.Needs.{needs}
 use Rattle.write.proofs.write.Statement.{statement}
 use Rattle.write.proofs.write.Tie as tie
@@ -31,10 +32,13 @@ unfolding writeOutcome writeBuffer
 returns c =
     let a = c .before .before .before .before .before .before .before .before .before .before .args in
     let p = c .before .before .before .before .before .before .pass .ensures in
-    let n = none-before (c .before .before .before .before .before .before .pass .last .1 .0) (a .out .now) (p .kept) in
-    let e = rw (c .before .before .answer2 .given .1) at (p .answer) in
-    let x = file-small (frontHeader (a .sheet .now)) (sheetResult (a .sheet .now)) (a .out .now) _ _ _ e (rw n at (c .if1 .taken)) in
-    (x .0, n ∙ x .1)
+    passes-small v8 (frontHeader (a .sheet .now)) (sheetResult (a .sheet .now)) (a .out .now) (c .before .before .before .before .before .before .pass .last .1 .0) (c .before .before .before .before .before .before .pass .result) (p .kept) (p .answer) (c .before .before .answer2 .given .1) (c .if1 .taken)
+
+slice-relend-prefix-pass-2 : tie.Need-slice-relend-prefix-pass-2
+slice-relend-prefix-pass-2 c = search needs
+
+slice-aggregate-pass-2 : tie.Need-slice-aggregate-pass-2
+slice-aggregate-pass-2 c = sym (length-take-le _ _ (omega (arith, c .before .if1 .left)))
 
 pass-requires-2 : tie.Need-pass-requires-2
 pass-requires-2 c κs = search needs
@@ -47,10 +51,7 @@ unfolding writeOutcome writeBuffer
 returns-2 c =
     let a = c .before .before .before .before .before .before .before .before .before .args in
     let p = c .before .before .before .before .before .pass .ensures in
-    let n = none-before (c .before .before .before .before .before .pass .last .1 .0) (a .out .now) (p .kept) in
-    let e = rw (c .before .answer .given .1) at (p .answer) in
-    let x = file-refused (frontHeader (a .sheet .now)) (sheetResult (a .sheet .now)) (a .out .now) _ _ e in
-    (x .0, n ∙ x .1)
+    passes-refused v8 (frontHeader (a .sheet .now)) (sheetResult (a .sheet .now)) (a .out .now) (c .before .before .before .before .before .pass .last .1 .0) (c .before .before .before .before .before .pass .result) (p .kept) (p .answer) (c .before .answer .given .1)
 
 same-length-3 : tie.Need-same-length-3
 same-length-3 c = search needs
@@ -60,12 +61,7 @@ unfolding writeOutcome writeBuffer
 returns-3 c =
     let a = c .before .before .before .before .before .before .before .before .before .before .before .before .before .before .args in
     let p = c .before .before .before .before .before .before .before .before .before .before .pass .ensures in
-    let n = none-before (c .before .before .before .before .before .before .before .before .before .before .pass .last .1 .0) (a .out .now) (p .kept) in
-    let e = rw (c .before .before .before .before .before .before .answer2 .given .1) at (p .answer) in
-    let h = rw n at (c .before .before .before .before .if1 .left) in
-    let x = file-done (frontHeader (a .sheet .now)) (sheetResult (a .sheet .now)) (a .out .now) _ _ _ e h in
-    let q = rw n at (c .before .before .pass2 .ensures) in
-    (x .0, q .written _ _ _ (sym e) h ∙ x .1)
+    passes-done v8 (frontHeader (a .sheet .now)) (sheetResult (a .sheet .now)) (a .out .now) (c .before .before .before .before .before .before .before .before .before .before .pass .last .1 .0) (c .before .before .before .before .before .before .before .before .before .before .pass .result) (p .kept) (p .answer) (c .before .before .before .before .before .before .answer2 .given .1) (c .before .before .before .before .if1 .left) (c .before .before .pass2 .ensures)
 
 pub write-spec : {M : Type 1} → statement M
 write-spec =
@@ -78,6 +74,8 @@ write-spec =
     enum-known-answer-2
     same-length
     returns
+    slice-relend-prefix-pass-2
+    slice-aggregate-pass-2
     pass-requires-2
     same-length-2
     returns-2
