@@ -20,8 +20,10 @@ fn main() {
     println!("buffers: allocated once, the same one for both, and filled with a pattern");
     println!("before each run, so all their pages have been touched; filling is not timed");
     for version in [8, 3, 7] {
-        versions(version, repeats);
+        let file = legs(version);
+        versions(&format!("v{version}"), "legs", &file, repeats);
     }
+    versions("v8", "stations, cross-sections and legs in turn", &mixed(), repeats);
     edits(repeats);
 }
 
@@ -46,14 +48,13 @@ fn second_edit(file: &[u8], out: &mut [u8]) -> Answer {
     second::edit(file, 300_000, 10, &STATION, out)
 }
 
-/// Reads and writes a file of one version.
-fn versions(version: u8, repeats: usize) {
-    let file = legs(version);
-    let sheet = read_sheet(&file);
+/// Reads and writes a file.
+fn versions(version: &str, what: &str, file: &[u8], repeats: usize) {
+    let sheet = read_sheet(file);
     let bytes = (file.len(), sheet.len());
-    println!("v{version}: file {} bytes of legs, sheet {} bytes", bytes.0, bytes.1);
+    println!("{version}: file {} bytes of {what}, sheet {} bytes", bytes.0, bytes.1);
     let reading = Pair { proved: survex3d::read, second: second::read };
-    report("read", survex3d::HAS_READ, &file, sheet.len(), reading, repeats);
+    report("read", survex3d::HAS_READ, file, sheet.len(), reading, repeats);
     if survex3d::HAS_WRITE {
         let writing = Pair { proved: survex3d::write, second: second::write };
         let needed = needed(second::write, &sheet);
@@ -75,6 +76,26 @@ fn legs(version: u8) -> Vec<u8> {
         } else {
             coder.drop(4).leg(0, (0, &end, Form::Least), to);
         }
+    }
+    coder.close();
+    coder.bytes
+}
+
+/// A v8 file of 10 MiB with as many stations and cross-sections as legs, whose labels
+/// differ in the last four bytes. Every other section has i32 dimensions.
+fn mixed() -> Vec<u8> {
+    let mut rng = Rng::new(10, 80);
+    let mut coder = Coder::short(8);
+    coder.move_to([0; 3]).leg(0, (0, b"cave.series.passage.0000", Form::Least), [0; 3]);
+    let mut narrow = true;
+    while coder.bytes.len() < TEN_MIB - 80 {
+        let mut end = || rng.name(4);
+        let names = [end(), end(), end()];
+        let at = [0; 3].map(|_: i32| rng.next() as i32 >> 8);
+        coder.station(0, (4, &names[0], Form::Least), at);
+        coder.section(0, (4, &names[1], Form::Least), [100, 200, 150, -1], narrow);
+        coder.leg(0, (4, &names[2], Form::Least), at);
+        narrow = !narrow;
     }
     coder.close();
     coder.bytes
