@@ -1,6 +1,7 @@
 -- `read::read_items` meets its contract. Assumes nothing.
 use native.Mathlib.Omega.{arith}
-use Prim.Native.Nat.{ℕ, _+_, _-_}
+use Prim.Native.Nat.{ℕ, _+_, _-_, _≤_}
+use lib.ListN.{length}
 use mathlib.Core.Path.{_≡_, sym, ap, _∙_}
 use mathlib.Core.List.{List}
 use Rattle.format.specs.Reading.{itemsOf}
@@ -85,7 +86,10 @@ slice-relend-prefix-pass c = search needs
 
 slice-aggregate-pass : tie.Need-slice-aggregate-pass
 slice-aggregate-pass c =
-    sym (length-take-le _ _ (omega (arith, c .before .before .before .before .before .before .before .if1 .left, c .before .before .before .put-front .kept)))
+    let s = c .before .before .before .put-front .last .0 in
+    let h : c .before .before .before .before .before .before .before .before .before .total2 .given .0 .0 ≤ length s = omega (arith, c .before .before .before .before .before .before .before .if1 .left, c .before .before .before .put-front .kept) in
+    let e = length-take-le (c .before .before .before .before .before .before .before .before .before .total2 .given .0 .0) s h in
+    omega (arith, e)
 
 pass-requires : tie.Need-pass-requires
 pass-requires c κs = search needs
