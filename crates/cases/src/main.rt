@@ -1,4 +1,5 @@
-// Cases 11, 12 and 13 of document 01, run through the proved functions; a line each.
+// Cases 11, 12 and 13 of document 01 and the dates of cross-sections (#106), run through
+// the proved functions.
 use format::Answer;
 use format::Later;
 use listing::Printed;
@@ -69,6 +70,11 @@ fn main() {
     // 12: v8 first item 40 20 and 12 bytes: 6, before 8.
     run_read(
         b"Survex 3D Image File\nv8\nA\n@0\n\x00\x40\x20\x00\x00\x00\x00\x00\x00\x00\x00\x00\x00\x00\x00\x00\x00",
+    );
+    // #106: a cross-section without a date, of a day and of a range; the date stands after
+    // the last-in-passage number.
+    run_read(
+        b"Survex 3D Image File\nv8\nA\n@0\n\x00\x30\x01a\x00\x00\x00\x00\x00\x00\x00\x00\x11\x07\x00\x31\x11a\x00\x00\x00\x00\x00\x00\x00\x00\x12\x07\x00\x02\x30\x11a\x00\x00\x00\x00\x00\x00\x00\x00\x00\x00",
     );
     // 13: a text form equals its seconds, whatever its zone.
     let text = b"Survex 3D Image File\nv7\nA\nSun,2002.03.17 14:01:07 GMT\n";

@@ -8,7 +8,7 @@ ghost use Rattle.format.specs.Bytes.{toLe16, toLe32, same};
 ghost use Rattle.format.specs.Fields.{recordOf, stateOf};
 ghost use Rattle.format.specs.Sheet.{pointBytes, dimensionBytes, traverseBytes};
 ghost use Rattle.format.specs.WellFormed.{WellFormed, GoodDated, GoodLeg, GoodStation, GoodSection};
-ghost use Rattle.format.specs.State.{leg, station, section, error};
+ghost use Rattle.format.specs.State.{leg, section as sectionRecord};
 ghost use Rattle.format.specs.Codes.{sameDate, dateCodes, samePoint, standsAt, styleIf, dateIf, moveIf, lineCodes, stationCodes, fitsShort, allShort, sectionCodes, errorCodes, codesLimit, codes};
 ghost use Rattle.format.specs.declared.Dated.the-variants.{Range};
 use part::kept_bytes;
@@ -324,25 +324,42 @@ fn all_short(d: format::Dimensions) -> bool
     fits_short(d.down)
 }
 
-fn put_section(out: &mut [u8], last: &[u8], name: &[u8], section: format::Section) -> usize
-    requires { ⌜ (length (now last) ≤ labelLimit) × GoodSection section (now name) ⌝ }
-    ensures { λ r. ⌜ Lays (now (out .entry)) (now (out .exit)) 0 (sectionCodes (now (last .entry)) section (now (name .entry))) 4124 r ⌝ }
+// The XSECT item itself.
+fn put_xsect(out: &mut [u8], at: usize, last: &[u8], name: &[u8], section: format::Section) -> usize
+    requires { ⌜ (at ≤ labelLimit) × (length (now last) ≤ labelLimit) × GoodSection section (now name) ⌝ }
+    ensures { λ r. ⌜ Lays (now (out .entry)) (now (out .exit)) at (sectionCodes (now (last .entry)) section (now (name .entry))) 4124 r ⌝ }
 {
     let size = section.size;
     let end = section.last;
     let kept = kept_bytes(last, name);
     if all_short(size) {
         let code = [0x30 + end];
-        let a = put(out, 0, &code);
+        let a = put(out, at, &code);
         let b = put_label(out, a, last.len(), name, kept);
         let bytes = short_bytes(size);
         return put(out, b, &bytes);
     }
     let code = [0x32 + end];
-    let a = put(out, 0, &code);
+    let a = put(out, at, &code);
     let b = put_label(out, a, last.len(), name, kept);
     let bytes = long_bytes(size);
     put(out, b, &bytes)
+}
+
+fn put_section(
+    out: &mut [u8],
+    setting: format::Setting,
+    last: &[u8],
+    name: &[u8],
+    section: format::Section,
+) -> usize
+    requires { ⌜ (length (now last) ≤ labelLimit) × GoodSection section (now name) ⌝ }
+    ensures { λ r. ⌜ Lays (now (out .entry)) (now (out .exit)) 0 (codes (stateOf setting (now (last .entry))) (sectionRecord section (now (name .entry)))) 4129 r ⌝ }
+{
+    let old = setting.date;
+    let date = section.date;
+    let at = put_date_if(out, 0, old, date);
+    put_xsect(out, at, last, name, section)
 }
 
 fn put_error(out: &mut [u8], traverse: format::Traverse) -> usize
@@ -376,7 +393,19 @@ pub fn put_record(
             to,
         } => put_leg(out, setting, last, name, flags, style, date, from, to),
         format::Fields::Station { station } => put_station(out, last, name, station),
-        format::Fields::Section { section } => put_section(out, last, name, section),
+        format::Fields::Section {
+            last: end,
+            unused: _,
+            date,
+            size,
+        } => {
+            let section = format::Section {
+                last: end,
+                date,
+                size,
+            };
+            put_section(out, setting, last, name, section)
+        }
         format::Fields::Error { traverse } => put_error(out, traverse),
     }
 }

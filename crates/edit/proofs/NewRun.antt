@@ -37,19 +37,19 @@ judging-first new = record { place = 0; inside = omega arith; counted = omega ar
 
 module _ (new : List ℕ) (at number : ℕ) (G : Judging new at number) where
   pub flaw-none : length new ≤ at → refusalAt 12 0 ≡ recordsOf sheetVersion new .verdict
-  flaw-none h = sym (ap (λ (x : Result). x .verdict) (none-at new at (G .place) number h)) ∙ G .verdict
+  flaw-none h = sym (ap (λ (x : Result). x .verdict) (none-at sheetVersion new at (G .place) number h)) ∙ G .verdict
 
-  pub flaw-here : (h : at < length new) → EntryTold Flawed (take (length new - at) (drop at new)) → refusalAt 12 (number + 1) ≡ recordsOf sheetVersion new .verdict
-  flaw-here h T = rw (add-one number) (sym (ap (λ (x : Result). x .verdict) (flawed-at new at h T (G .place) number)) ∙ G .verdict)
+  pub flaw-here : (h : at < length new) → EntryTold Flawed sheetVersion (take (length new - at) (drop at new)) → refusalAt 12 (number + 1) ≡ recordsOf sheetVersion new .verdict
+  flaw-here h T = rw (add-one number) (sym (ap (λ (x : Result). x .verdict) (flawed-at sheetVersion new at h T (G .place) number)) ∙ G .verdict)
 
-  pub judging-more : (h : at < length new) (n : ℕ) (f : Fields) (k : ℕ) → EntryTold (Whole n f k) (take (length new - at) (drop at new)) → Judging new (at + n) (number + 1)
+  pub judging-more : (h : at < length new) (n : ℕ) (f : Fields) (k : ℕ) → EntryTold (Whole n f k) sheetVersion (take (length new - at) (drop at new)) → Judging new (at + n) (number + 1)
   judging-more h n f k T =
-      let z = found-size new at h n f k T in
+      let z = found-size sheetVersion new at h n f k T in
       record {
         place = G .place + n;
         inside = z .1;
         counted = omega (arith, G .counted);
-        verdict = sym (ap (λ (x : Result). x .verdict) (found-at new at h n f k T (G .place) number)) ∙ G .verdict;
+        verdict = sym (ap (λ (x : Result). x .verdict) (found-at sheetVersion new at h n f k T (G .place) number)) ∙ G .verdict;
       }
 
 -- ---- writing them
@@ -77,24 +77,24 @@ module _ (new : List ℕ) (pen : Pen) (l d : List ℕ) (at : ℕ) (next : Pen) (
   putting-fits h k = record { few-bytes = G .few-bytes; few-records = omega (arith, G .few-records, G .inside) }
 
   -- a well-formed replacement has no bad record
-  pub never-flawed : recordsOf sheetVersion new .verdict ≡ Good → (h : at < length new) → EntryTold Flawed (take (length new - at) (drop at new)) → ⊥
+  pub never-flawed : recordsOf sheetVersion new .verdict ≡ Good → (h : at < length new) → EntryTold Flawed sheetVersion (take (length new - at) (drop at new)) → ⊥
   never-flawed e h T =
-      let q : Refusal 12 (G .number) ≡ Good = sym (ap (λ (x : Result). x .verdict) (flawed-at new at h T (G .place) (G .number))) ∙ G .verdict ∙ e in
+      let q : Refusal 12 (G .number) ≡ Good = sym (ap (λ (x : Result). x .verdict) (flawed-at sheetVersion new at h T (G .place) (G .number))) ∙ G .verdict ∙ e in
       let z : _≡_ {A = ℕ} 0 1 = cc in
       omega arith
 
   pub puts-new : length new ≤ at → PutsNew new pen l d next l′ d′
   puts-new h =
-      let e : recordsOf sheetVersion new .records ≡ G .so-far = G .records ∙ ap (λ (x : Result). G .so-far ++ x .records) (none-at new at (G .place) (G .number) h) ∙ append-nil (G .so-far) in
+      let e : recordsOf sheetVersion new .records ≡ G .so-far = G .records ∙ ap (λ (x : Result). G .so-far ++ x .records) (none-at sheetVersion new at (G .place) (G .number) h) ∙ append-nil (G .so-far) in
       record { written = rw e (G .written); fits = G .fits; few-bytes = G .few-bytes; few-records = omega (arith, G .few-records, G .inside) }
 
-  pub putting-more : (h : at < length new) (n : ℕ) (f : Fields) (k : ℕ) → EntryTold (Whole n f k) (take (length new - at) (drop at new)) → (next′ : Pen) (l″ d″ : List ℕ)
+  pub putting-more : (h : at < length new) (n : ℕ) (f : Fields) (k : ℕ) → EntryTold (Whole n f k) sheetVersion (take (length new - at) (drop at new)) → (next′ : Pen) (l″ d″ : List ℕ)
       → Emits next l′ (recordOf f (part new (at + k) (at + n))) d′ d″ next′ l″ → Putting new pen l d (at + n) next′ l″ d″
   putting-more h n f k T next′ l″ d″ E =
       let r = recordOf f (part new (at + k) (at + n)) in
       let A = E .adds in
-      let z = found-size new at h n f k T in
-      let here = found-at new at h n f k T (G .place) (G .number) in
+      let z = found-size sheetVersion new at h n f k T in
+      let here = found-at sheetVersion new at h n f k T (G .place) (G .number) in
       let one : Written (penState next l′) d′ (next .count) (r ∷ []) (penState next′ l″) d″ (next′ .count) = rw (E .state) (more A none) in
       record {
         place = G .place + n;

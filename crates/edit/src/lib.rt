@@ -3,6 +3,7 @@
 use format::Answer;
 use format::Fields;
 use format::LABEL_LIMIT;
+use format::SHEET_VERSION;
 use format::Setting;
 use header::Head;
 use house::Judged;
@@ -181,7 +182,7 @@ fn put_new(new: &[u8], out: &mut [u8], pen: Pen, last: &mut [u8; LABEL_LIMIT]) -
     let mut at: usize = 0;
     let mut next = pen;
     while at < new.len() {
-        let entry = sheet::read_entry(&new[at..]);
+        let entry = sheet::read_entry(&new[at..], SHEET_VERSION);
         let sheet::Entry::Whole { size, fields, from } = entry else {
             return next;
         };
@@ -201,7 +202,7 @@ fn first_flaw(new: &[u8]) -> usize
     let mut at: usize = 0;
     let mut number: usize = 0;
     while at < new.len() {
-        let entry = sheet::read_entry(&new[at..]);
+        let entry = sheet::read_entry(&new[at..], SHEET_VERSION);
         let sheet::Entry::Whole {
             size,
             fields: _,

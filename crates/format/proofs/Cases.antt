@@ -14,10 +14,10 @@ use Rattle.format.specs.Reading.{next, ended, readStep, run, itemsOf, re
 use Rattle.format.specs.Refusals.{Outcome, accepted, refused}
 use Rattle.format.specs.Stepping.{Step, Gathered}
 use Rattle.format.specs.declared.Stamp.{Stamp}
-use Rattle.format.specs.Codes.{common, lengthCodes, partCodes, labelCodes, keptBytes, fitsShort, allShort, stationCodes, sectionCodes, codes}
+use Rattle.format.specs.Codes.{common, lengthCodes, partCodes, labelCodes, keptBytes, sameDate, dateIf, fitsShort, allShort, stationCodes, sectionCodes, codes}
 use Rattle.format.specs.declared.Point.{Point}
 use Rattle.format.specs.declared.Dated.{Dated}
-use Rattle.format.specs.declared.Dated.the-variants.{Day}
+use Rattle.format.specs.declared.Dated.the-variants.{Undated, Day}
 
 -- what a row of a table speaks of
 pub data Shown : Type 0 where
@@ -94,17 +94,17 @@ abbrev pub partOfLabel : ℕ → ℕ → Shown
 partOfLabel n size = written (take size (drop 1 (codes start (station (record { flags = 0; place = origin }) (replicate n 97)))))
 
 abbrev pub sectionWritten : ℕ → Shown
-sectionWritten down = written (codes start (section (record { last = 0; size = record { left = 32767; right = 32767; up = 32767; down = down } }) (97 ∷ [])))
+sectionWritten down = written (codes start (section (record { last = 0; date = Undated; size = record { left = 32767; right = 32767; up = 32767; down = down } }) (97 ∷ [])))
 
 abbrev pub table : List Row
 table =
-    -- 1. v8, title `A`, time `@0`, byte 00, then 00 00 (32 bytes): sheet 01 00 07 00 00 00 01 41 40 30
-    record { given = readFile (case1 (0 ∷ 0 ∷ [])) 11; due = reading (accepted 10 0 8) (1 ∷ 0 ∷ 7 ∷ 0 ∷ 0 ∷ 0 ∷ 1 ∷ 65 ∷ 64 ∷ 48 ∷ 7 ∷ []) }
+    -- 1. v8, title `A`, time `@0`, byte 00, then 00 00 (32 bytes): sheet 02 00 07 00 00 00 01 41 40 30 (#106: cases 1 and 3 "begin with 02")
+    record { given = readFile (case1 (0 ∷ 0 ∷ [])) 11; due = reading (accepted 10 0 8) (2 ∷ 0 ∷ 7 ∷ 0 ∷ 0 ∷ 0 ∷ 1 ∷ 65 ∷ 64 ∷ 48 ∷ 7 ∷ []) }
     -- 2. The same less its last byte: 5 at 31. One 00 more: 10 at 32
     ∷ record { given = readFile (case1 (0 ∷ [])) 2; due = reading (refused 5 31) (7 ∷ 7 ∷ []) }
     ∷ record { given = readFile (case1 (0 ∷ 0 ∷ 0 ∷ [])) 2; due = reading (refused 10 32) (7 ∷ 7 ∷ []) }
-    -- 3. v3, title `A`, time `T`, then 00 (29 bytes): sheet 01 00 06 00 00 00 01 41 54
-    ∷ record { given = readFile (case3 (0 ∷ [])) 10; due = reading (accepted 9 0 3) (1 ∷ 0 ∷ 6 ∷ 0 ∷ 0 ∷ 0 ∷ 1 ∷ 65 ∷ 84 ∷ 7 ∷ []) }
+    -- 3. v3, title `A`, time `T`, then 00 (29 bytes): sheet 02 00 06 00 00 00 01 41 54
+    ∷ record { given = readFile (case3 (0 ∷ [])) 10; due = reading (accepted 9 0 3) (2 ∷ 0 ∷ 6 ∷ 0 ∷ 0 ∷ 0 ∷ 1 ∷ 65 ∷ 84 ∷ 7 ∷ []) }
     -- 4. Label `a.b.0123456789abcdef`: code 01 leaves `a.b.`, 02 leaves `a.`, 03 gives 6
     ∷ record { given = fromLabel 3 case4 (1 ∷ []); due = label (97 ∷ 46 ∷ 98 ∷ 46 ∷ []) }
     ∷ record { given = fromLabel 3 case4 (2 ∷ []); due = label (97 ∷ 46 ∷ []) }
@@ -144,5 +144,5 @@ dues (r ∷ rs) = r .due ∷ dues rs
 
 -- THE STATEMENT: row by row, what the definitions give is what is due
 pub cases : givens table ≡ dues table
-unfolding pick le16 le32 toLe16 toLe32 toBe16 toBe32 widened same over magic lineEnd endsInReturn goodLine extendedByte closedHeader timeLine titleLine goodVersion headerOf openingOf dots dotFrom keptToDot labelStep sized oldPart lengthSize lengthValue longPart newPart labelledItem stationItem lineItem sectionItem moveItem errorItem dayItem spanItem daysItem dayOfSeconds secondsItem twoSecondsItem oldDateItem v7DateItem oldMiddleItem oldLowItem oldHighItem newDateItem newLowItem newHighItem itemOf dateOf badDates iter iterUp layout layoutAll headerLayout sheetOf next ended readStep run itemsOf readOutcome readBuffer common lengthCodes partCodes labelCodes keptBytes fitsShort allShort stationCodes sectionCodes
+unfolding pick le16 le32 toLe16 toLe32 toBe16 toBe32 widened same over magic lineEnd endsInReturn goodLine extendedByte closedHeader timeLine titleLine goodVersion headerOf openingOf dots dotFrom keptToDot labelStep sized oldPart lengthSize lengthValue longPart newPart labelledItem stationItem lineItem sectionItem moveItem errorItem dayItem spanItem daysItem dayOfSeconds secondsItem twoSecondsItem oldDateItem v7DateItem oldMiddleItem oldLowItem oldHighItem newDateItem newLowItem newHighItem itemOf dateOf badDates iter iterUp layout layoutAll headerLayout sheetOf next ended readStep run itemsOf readOutcome readBuffer common lengthCodes partCodes labelCodes keptBytes sameDate dateIf fitsShort allShort stationCodes sectionCodes
 cases = refl

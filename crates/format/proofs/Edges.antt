@@ -9,9 +9,9 @@ use Rattle.format.specs.Bytes.{pick, le16, le32, toLe16, toLe32, toBe16,
 use Rattle.format.specs.Label.{dots, dotFrom, keptToDot, labelStep}
 use Rattle.format.specs.Items.{Decoded, faulty, whole, sized, oldPart, lengthSize, lengthValue, longPart, newPart, labelledItem, stationItem, lineItem, sectionItem, moveItem, errorItem, dayItem, spanItem, daysItem, dayOfSeconds, secondsItem, twoSecondsItem, oldDateItem, v7DateItem, oldMiddleItem, oldLowItem, oldHighItem, newDateItem, newLowItem, newHighItem, itemOf}
 use Rattle.format.specs.State.{State, start, named, styled, datedBy, moved, Record, leg, station, section, error, Next, bad, end, on, made, dateOf, badDates}
-use Rattle.format.specs.Sheet.{sheetVersion, layout}
+use Rattle.format.specs.Sheet.{sheetVersion, undatedVersion, layout}
 use Rattle.format.specs.Reading.{next}
-use Rattle.format.specs.Codes.{common, lengthCodes, partCodes, labelCodes, keptBytes, sameDate, samePoint, styleIf, dateIf, moveIf, lineCodes, fitsShort, allShort, stationCodes, sectionCodes, codes, closing}
+use Rattle.format.specs.Codes.{common, lengthCodes, partCodes, labelCodes, keptBytes, sameDate, samePoint, styleIf, dateIf, moveIf, lineCodes, fitsShort, allShort, stationCodes, sectionCodes, codes, after, closing}
 use Rattle.format.specs.declared.Dated.{Dated}
 use Rattle.format.specs.declared.Dated.the-variants.{Undated, Day, Range}
 use Rattle.format.proofs.Cases.{Shown, label, date, no, written, other, Row, dateAfter, fromLabel, dateOfItem, origin, givens, dues}
@@ -32,6 +32,24 @@ dimensionsMade (made n (leg g l) st) = other
 dimensionsMade (made n (station s l) st) = other
 dimensionsMade (made n (section s l) st) = let d = s .size in written (d .left ∷ d .right ∷ d .up ∷ d .down ∷ [])
 dimensionsMade (made n (error t) st) = other
+
+-- the date of a section that an item makes
+abbrev pub sectionDate : Next → Shown
+sectionDate (bad k) = no k
+sectionDate end = other
+sectionDate (on n st) = other
+sectionDate (made n (leg g l) st) = other
+sectionDate (made n (station s l) st) = other
+sectionDate (made n (section s l) st) = date (s .date)
+sectionDate (made n (error t) st) = other
+
+-- a section `a` of dimensions 0, measured on a date
+abbrev pub sectionOf : Dated → Record
+sectionOf when = section (record { last = 0; date = when; size = record { left = 0; right = 0; up = 0; down = 0 } }) (97 ∷ [])
+
+-- XSECT of that section, from an empty label
+abbrev pub sectionItself : List ℕ
+sectionItself = 0x30 ∷ 0x01 ∷ 97 ∷ replicate 8 0
 
 -- a leg of the empty label along the origin
 abbrev pub legOf : ℕ → Dated → Record
@@ -112,6 +130,23 @@ table =
     -- a range of 255 days has a span, one of 256 days two days
     ∷ record { given = written (take 4 (codes (standing 5) (legOf 5 (Range 1 256)))); due = written (18 ∷ 1 ∷ 0 ∷ 255 ∷ []) }
     ∷ record { given = written (take 5 (codes (standing 5) (legOf 5 (Range 1 257)))); due = written (19 ∷ 1 ∷ 0 ∷ 1 ∷ 1 ∷ []) }
+    -- "Survex puts the date in force on sections as well" (#106), in each version that has XSECT
+    ∷ record { given = sectionDate (next 5 (0x30 ∷ replicate 9 0) (datedBy (Day 7) start)); due = date (Day 7) }
+    ∷ record { given = sectionDate (next 6 (0x31 ∷ replicate 9 0) (datedBy (Range 7 9) start)); due = date (Range 7 9) }
+    ∷ record { given = sectionDate (next 7 (0x32 ∷ replicate 17 0) (datedBy (Day 7) start)); due = date (Day 7) }
+    ∷ record { given = sectionDate (next 8 (0x33 ∷ 0x00 ∷ 0 ∷ 0 ∷ replicate 16 0) (datedBy (Range 7 9) start)); due = date (Range 7 9) }
+    ∷ record { given = sectionDate (next 8 sectionItself start); due = date Undated }
+    -- "Writing puts a date item before a section where it differs": none, no date, a day, a span, two days
+    ∷ record { given = written (codes (datedBy (Day 7) start) (sectionOf (Day 7))); due = written sectionItself }
+    ∷ record { given = written (codes (datedBy (Day 7) start) (sectionOf Undated)); due = written (0x10 ∷ sectionItself) }
+    ∷ record { given = written (codes start (sectionOf (Day 7))); due = written (0x11 ∷ 7 ∷ 0 ∷ sectionItself) }
+    ∷ record { given = written (codes (datedBy (Day 7) start) (sectionOf (Range 7 262))); due = written (0x12 ∷ 7 ∷ 0 ∷ 255 ∷ sectionItself) }
+    ∷ record { given = written (codes (datedBy (Day 7) start) (sectionOf (Range 7 263))); due = written (0x13 ∷ 7 ∷ 0 ∷ 7 ∷ 1 ∷ sectionItself) }
+    -- and the date is then in force for what follows
+    ∷ record { given = date (after start (sectionOf (Day 7)) .setting .date); due = date (Day 7) }
+    -- the section's bytes in a sheet of version 2 and of version 1
+    ∷ record { given = written (layout sheetVersion (sectionOf (Range 7 263))); due = written (0 ∷ 24 ∷ 3 ∷ 0 ∷ 2 ∷ 0 ∷ 7 ∷ 1 ∷ 7 ∷ (replicate 16 0 ++ 97 ∷ [])) }
+    ∷ record { given = written (layout undatedVersion (sectionOf Undated)); due = written (0 ∷ 19 ∷ 3 ∷ 0 ∷ (replicate 16 0 ++ 97 ∷ [])) }
     -- the reserved codes of each version: dates come with v4, XSECT with v5, ERROR with v6, two more dates with v7
     ∷ record { given = reservedCodes 3; due = written (upFrom 0x20 32 ++ (upFrom 0x60 32 ++ upFrom 0x88 120)) }
     ∷ record { given = reservedCodes 4; due = written (upFrom 0x22 30 ++ (upFrom 0x60 32 ++ upFrom 0x88 120)) }

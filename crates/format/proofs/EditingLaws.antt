@@ -205,7 +205,7 @@ module _ (file new : List ℕ) (file-bytes : Bytes file) (new-bytes : Bytes new)
   old-sayable = subst (λ (x : Result). recordsVerdict v8 0 start (x .records) ≡ Good) reads (items-sayable v p file file-bytes)
 
   all-formed : AllWellFormed after-edit
-  all-formed = edited-formed rs ns first count fits old-formed (subst (λ (x : Result). AllWellFormed (x .records)) formed (records-formed new new-bytes))
+  all-formed = edited-formed rs ns first count fits old-formed (subst (λ (x : Result). AllWellFormed (x .records)) formed (records-formed sheetVersion new new-bytes))
 
   whole : Result
   whole = record { records = after-edit; verdict = Good }

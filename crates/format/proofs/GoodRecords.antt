@@ -259,7 +259,7 @@ module _ (st : State) (n : ℕ) (g : GoodState st) where
   apply-good (Error t) i = (i, g)
   apply-good (Xsect last d k added) i =
       good-label (Back k) added _ λ l h.
-      (record { last-fits = i .0; dimensions-fit = i .1; label-fits = h }, named-good l h)
+      (record { last-fits = i .0; date-fits = g .date-fits; dimensions-fit = i .1; label-fits = h }, named-good l h)
   apply-good (Label flags p k added) i =
       good-label (Back k) added _ λ l h.
       (record { flags-fit = i .0; place-fits = i .1; label-fits = h }, named-good l h)

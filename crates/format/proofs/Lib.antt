@@ -17,5 +17,6 @@ pub mod RoundTrip
 pub mod Rows
 pub mod SheetLaws
 pub mod SteppingLaws
+pub mod Versions
 pub mod WritingLaws
 pub mod WrittenBytes

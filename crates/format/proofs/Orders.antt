@@ -11,7 +11,7 @@ use Rattle.format.specs.Label.{labelStep}
 use Rattle.format.specs.Items.{sized, lengthSize, lengthValue, longPart, newPart, labelledItem, stationItem, lineItem, moveItem, dayItem, spanItem, daysItem, v7DateItem, oldMiddleItem, oldLowItem, newLowItem, newHighItem, itemOf}
 use Rattle.format.specs.State.{start, named, Record, dateOf, badDates}
 use Rattle.format.specs.Iterate.{iter, iterUp}
-use Rattle.format.specs.Sheet.{sheetVersion, layout, layoutAll, headerLayout, sheetOf, goodDate, dateFrom, legEntry, bodyEntry, framed, entryOf, recordsStep, recordsFrom, recordsOf, goodText, goodHeader, goodFront, frontHeader, behindFront, sheetResult}
+use Rattle.format.specs.Sheet.{sheetVersion, layout, layoutAll, headerLayout, sheetOf, goodDate, dateFrom, legEntry, bodyEntry, framed, entryOf, recordsStep, recordsFrom, recordsOf, goodText, goodHeader, goodFront, frontHeader, behindFront, versionResult, versionOf, sheetResult}
 use Rattle.format.specs.Refusals.{accepted, refused}
 use Rattle.format.specs.Reading.{next, ended, readStep, run, itemsOf, readOutcome}
 use Rattle.format.specs.Codes.{common, lengthCodes, partCodes, labelCodes, sameDate, samePoint, styleIf, dateIf, moveIf, lineCodes, closing, headerCodes}
@@ -130,9 +130,12 @@ table =
     ∷ record { given = answer (readOutcome (case1 (0x00 ∷ 0x00 ∷ [])) 9); due = answer (refused 11 10) }
     -- writing, 12: "record, or 0 for version byte or header"; it comes before 13, which comes before 11
     ∷ record { given = answer (writeOutcome v8 [] 0); due = answer (refused 12 0) }
-    ∷ record { given = answer (writeOutcome v8 (2 ∷ drop 1 unsaidAfter) 0); due = answer (refused 12 0) }
+    ∷ record { given = answer (writeOutcome v8 (0 ∷ drop 1 unsaidAfter) 0); due = answer (refused 12 0) }
+    ∷ record { given = answer (writeOutcome v8 (3 ∷ drop 1 unsaidAfter) 0); due = answer (refused 12 0) }
     ∷ record { given = answer (writeOutcome v8 (unsaidAfter ++ badRecord) 0); due = answer (refused 12 2) }
     ∷ record { given = answer (writeOutcome v8 unsaidAfter 0); due = answer (refused 13 1) }
+    -- "takes both versions": legs are alike in them
+    ∷ record { given = answer (writeOutcome v8 (1 ∷ drop 1 unsaidAfter) 0); due = answer (refused 13 1) }
     ∷ record { given = answer (writeOutcome v8 (sheetOf sheetVersion caseHeader (legOf 0 Undated ∷ [])) 57); due = answer (refused 11 58) }
     ∷ record { given = answer (writeOutcome v8 (sheetOf sheetVersion caseHeader (legOf 0 Undated ∷ [])) 58); due = answer (accepted 58 1 8) }
     -- "12 (first bad record), 13, 16, 11", of a file one byte too long; and one of the greatest length
@@ -180,7 +183,7 @@ table =
     ∷ []
 
 pub orders : givens table ≡ dues table
-unfolding pick le16 le32 be16 be32 toLe16 toLe32 toBe16 toBe32 widened same magic lineEnd endsInReturn goodLine extendedByte closedHeader timeLine titleLine goodVersion headerOf openingOf labelStep sized lengthSize lengthValue longPart newPart labelledItem stationItem lineItem moveItem dayItem spanItem daysItem v7DateItem oldMiddleItem oldLowItem newLowItem newHighItem itemOf dateOf badDates iter iterUp layout layoutAll headerLayout sheetOf goodDate dateFrom legEntry bodyEntry framed entryOf recordsStep recordsFrom recordsOf goodText goodHeader goodFront frontHeader behindFront sheetResult next ended readStep run itemsOf readOutcome common lengthCodes partCodes labelCodes sameDate samePoint styleIf dateIf moveIf lineCodes closing headerCodes codesAll afterAll encodeAll fileOf recordsVerdict sizeVerdict filedOutcome writtenOutcome writeOutcome houseWritten edited houseVerdict runVerdict editVerdict editResult editOutcome openStand recorded gathered isDigit allDigits decimalFrom decimal leap monthLengths monthLength monthDays yearDays dayNumber realDate atForm textMarks textDigits textDay textClock textForm textSeconds secondsOf stampOf
+unfolding pick le16 le32 be16 be32 toLe16 toLe32 toBe16 toBe32 widened same magic lineEnd endsInReturn goodLine extendedByte closedHeader timeLine titleLine goodVersion headerOf openingOf labelStep sized lengthSize lengthValue longPart newPart labelledItem stationItem lineItem moveItem dayItem spanItem daysItem v7DateItem oldMiddleItem oldLowItem newLowItem newHighItem itemOf dateOf badDates iter iterUp layout layoutAll headerLayout sheetOf goodDate dateFrom legEntry bodyEntry framed entryOf recordsStep recordsFrom recordsOf goodText goodHeader goodFront frontHeader behindFront versionResult versionOf sheetResult next ended readStep run itemsOf readOutcome common lengthCodes partCodes labelCodes sameDate samePoint styleIf dateIf moveIf lineCodes closing headerCodes codesAll afterAll encodeAll fileOf recordsVerdict sizeVerdict filedOutcome writtenOutcome writeOutcome houseWritten edited houseVerdict runVerdict editVerdict editResult editOutcome openStand recorded gathered isDigit allDigits decimalFrom decimal leap monthLengths monthLength monthDays yearDays dayNumber realDate atForm textMarks textDigits textDay textClock textForm textSeconds secondsOf stampOf
 orders = refl
 
 -- 16 comes before all that a header can be refused for

@@ -66,7 +66,7 @@ unfolding writeOutcome
 written-ours sheet bytes old b n v e =
     let s = sheet-is sheet bytes old b n v e in
     rw (file-written sheet bytes old b n v e)
-    (file-ours (frontHeader sheet) (s .1) (sheetResult sheet) b n v (s .2) (writes v8 (frontHeader sheet) (sheetResult sheet) (length old) b n v e))
+    (file-ours (frontHeader sheet) (s .header) (sheetResult sheet) b n v (s .formed) (writes v8 (frontHeader sheet) (sheetResult sheet) (length old) b n v e))
 
 -- ---- what an accepted edit leaves
 
@@ -117,7 +117,7 @@ module _ (file : List ℕ) (first count : ℕ) (new old : List ℕ) (b n w v p :
   pub edited-ours : Bytes file → Bytes new → Ours (take b (editBuffer file first count new old)) h (edited rs first count (recordsOf sheetVersion new .records))
   unfolding editBuffer editResult
   edited-ours file-bytes new-bytes =
-      let f = edited-formed rs (recordsOf sheetVersion new .records) first count edit-fits (items-formed v p file file-bytes) (records-formed new new-bytes) in
+      let f = edited-formed rs (recordsOf sheetVersion new .records) first count edit-fits (items-formed v p file file-bytes) (records-formed sheetVersion new new-bytes) in
       rw (accept, opens, writes-file v8 h asked (length old) b n w answer old)
       (file-ours h (opening-fits file opens .header) asked b n w f (writes v8 h asked (length old) b n w answer))
 

@@ -70,7 +70,7 @@ HasDimensions dims (made n (error t) st) = ⊥
 pub dimensions-kept : (st : State) (n last : ℕ) (dims : Dimensions) (d : ℕ) (added : List ℕ) → HasDimensions dims (apply st n (Xsect last dims d added))
 dimensions-kept st n last dims d added = label-case (HasDimensions dims) (st .label) (Back d) added _ tt tt (λ l h. refl)
 
--- ---- "Dates and styles touch only later legs"
+-- ---- "Dates and styles touch only later legs", and "Survex puts the date in force on sections as well" (#106)
 
 -- a style or date makes no record, and leaves label and position
 abbrev pub OnlyTouches : State → Next → Type 0
@@ -103,7 +103,7 @@ same-labelled style date tooShort go = refl
 same-labelled style date tooLong go = refl
 same-labelled style date (labelled l) go = refl
 
--- so a station, a section and an error are the same records whatever style and date are
+-- so a station and an error are the same records whatever style and date are
 module _ (style : ℕ) (date : Dated) (st : State) (n : ℕ) where
   pub error-untouched : (t : Traverse) → apply (restyled style date st) n (Error t) ≡ sameRecord style date (apply st n (Error t))
   error-untouched t = refl
@@ -112,11 +112,27 @@ module _ (style : ℕ) (date : Dated) (st : State) (n : ℕ) where
       → apply (restyled style date st) n (Label flags p d added) ≡ sameRecord style date (apply st n (Label flags p d added))
   station-untouched flags p d added = same-labelled style date (labelStep (st .label) (Back d) added) (λ l. made n (station (record { flags = flags; place = p }) l) (named l st))
 
-  pub section-untouched : (last : ℕ) (dims : Dimensions) (d : ℕ) (added : List ℕ)
-      → apply (restyled style date st) n (Xsect last dims d added) ≡ sameRecord style date (apply st n (Xsect last dims d added))
-  section-untouched last dims d added = same-labelled style date (labelStep (st .label) (Back d) added) (λ l. made n (section (record { last = last; size = dims }) l) (named l st))
+-- a section is the same record whatever style is
+pub section-untouched : (style : ℕ) (st : State) (n last : ℕ) (dims : Dimensions) (d : ℕ) (added : List ℕ)
+    → apply (restyled style (st .setting .date) st) n (Xsect last dims d added) ≡ sameRecord style (st .setting .date) (apply st n (Xsect last dims d added))
+section-untouched style st n last dims d added =
+    same-labelled style (st .setting .date) (labelStep (st .label) (Back d) added)
+    (λ l. made n (section (record { last = last; date = st .setting .date; size = dims }) l) (named l st))
 
--- and a leg has the style and date that the LINE finds
+-- and has the date that the XSECT finds
+abbrev pub SectionFinds : State → Next → Type 0
+SectionFinds st (bad k) = Unit
+SectionFinds st end = ⊥
+SectionFinds st (on n st′) = ⊥
+SectionFinds st (made n (leg g l) st′) = ⊥
+SectionFinds st (made n (station s l) st′) = ⊥
+SectionFinds st (made n (section s l) st′) = s .date ≡ st .setting .date
+SectionFinds st (made n (error t) st′) = ⊥
+
+pub section-finds : (st : State) (n last : ℕ) (dims : Dimensions) (d : ℕ) (added : List ℕ) → SectionFinds st (apply st n (Xsect last dims d added))
+section-finds st n last dims d added = label-case (SectionFinds st) (st .label) (Back d) added _ tt tt (λ l h. refl)
+
+-- a leg has the style and date that the LINE finds
 abbrev pub LegFinds : State → Next → Type 0
 LegFinds st (bad k) = Unit
 LegFinds st end = ⊥
@@ -198,4 +214,4 @@ pub edited-bytes : (h : Header) (rs : List Record) (first count : ℕ) (new : Li
     → recordsOf sheetVersion new ≡ record { records = ns; verdict = Good }
     → sheetOf sheetVersion h (edited rs first count ns)
     ≡ take (sheetPlace h rs first) (sheetOf sheetVersion h rs) ++ (new ++ drop (sheetPlace h rs (first + count)) (sheetOf sheetVersion h rs))
-edited-bytes h rs first count new b ns e = edited-sheet h rs first count ns ∙ rw (records-layout new b ns e .0)
+edited-bytes h rs first count new b ns e = edited-sheet h rs first count ns ∙ rw (records-layout sheetVersion new b ns e .0)

@@ -1,28 +1,29 @@
--- The round trip: what writing a good sheet gives, reading gives back as the same sheet, byte for byte, with the same record count.
+-- The round trip: what writing a good sheet gives, reading gives back as the same sheet, byte for byte, with the same record count; a
+-- version 1 sheet comes back as its version 2 twin.
 -- Assumes nothing.
 use Prim.Native.Nat.{ℕ, _≤_}
 use mathlib.Core.Path.{_≡_, refl, sym, ap, _∙_}
 use mathlib.Core.List.{List}
 use mathlib.Core.Bool.{Bool, true, false}
 use native.Mathlib.Omega.{arith}
-use lib.ListN.{length, take, drop}
+use lib.ListN.{length, getD, take, drop}
 use lib.Seq.{take-at, drop-append-seam}
 use lib.Dec.{ltb}
 use borrow.Author.Tests.{ltb-false, le-ltb}
 use Rattle.format.specs.Bytes.{pick, over, Bytes}
 use Rattle.format.specs.Header.{Header, opened, openingOf, fileLimit}
 use Rattle.format.specs.State.{start, Record}
-use Rattle.format.specs.Sheet.{sheetVersion, sheetOf, sheetResult, frontHeader}
+use Rattle.format.specs.Sheet.{sheetVersion, sheetOf, sheetResult, versionOf, frontHeader}
 use Rattle.format.specs.Refusals.{Result, orElse, accepted, refused, outcomeOf, bufferOf}
 use Rattle.format.specs.declared.Verdict.the-variants.{Good, Refusal}
 use Rattle.format.specs.declared.Verdict.{Verdict}
 use Rattle.format.specs.WellFormed.{GoodHeader, AllWellFormed}
 use Rattle.format.specs.Reading.{itemsOf, sheetFrom, readOutcome, readBuffer}
-use Rattle.format.specs.Writing.{Writer, v8, encodeAll, fileOf, recordsVerdict, sizeVerdict, writingVerdict, writtenOutcome, filedOutcome, writeOutcome, writeBuffer}
+use Rattle.format.specs.Writing.{Writer, v8, encodeAll, fileOf, recordsVerdict, sizeVerdict, writingVerdict, writtenOutcome, filedOutcome, writeOutcome, writeBuffer, twin}
 use Rattle.format.specs.Codes.{headerCodes}
 use Rattle.format.proofs.Basics.{second-picked}
 use Rattle.format.proofs.RefusalLaws.{never}
-use Rattle.format.proofs.SheetLaws.{records-sheet}
+use Rattle.format.proofs.SheetLaws.{SheetRead, records-sheet}
 use Rattle.format.proofs.HeaderLaws.{opening-read}
 use Rattle.format.proofs.WritingLaws.{encode-read}
 
@@ -134,7 +135,7 @@ module _ (sheet : List ℕ) (bytes : Bytes sheet) (old : List ℕ) (b n v : ℕ)
   good-sheet : sheetResult sheet ≡ record { records = rs; verdict = Good }
   good-sheet = λ i. record { records = rs; verdict = written .given i }
 
-  pub sheet-is : (sheetOf sheetVersion h rs ≡ sheet) × GoodHeader h × AllWellFormed rs
+  pub sheet-is : SheetRead (versionOf sheet) sheet rs
   sheet-is = records-sheet sheet bytes rs good-sheet
 
   -- the buffer begins with the file
@@ -142,16 +143,27 @@ module _ (sheet : List ℕ) (bytes : Bytes sheet) (old : List ℕ) (b n v : ℕ)
   unfolding writeBuffer writeOutcome
   file-written = rw e (writes-file v8 h (sheetResult sheet) (length old) b n v e old)
 
-  -- reading it answers with the sheet's own length and the same record count
-  pub round-trip-answer : (room : ℕ) → readOutcome (take b (writeBuffer v8 sheet old)) room ≡ outcomeOf Good (length sheet) n 8 room
-  round-trip-answer room =
-      let t = written-outcome h (sheet-is .1) rs (sheet-is .2) (written .writable) (written .small) room in
-      rw (file-written, written .records-are) (t ∙ ap (λ (x : List ℕ). outcomeOf Good (length x) (length rs) 8 room) (sheet-is .0))
+  -- reading it answers with the twin's length and the same record count
+  pub twin-answer : (room : ℕ) → readOutcome (take b (writeBuffer v8 sheet old)) room ≡ outcomeOf Good (length (twin sheet)) n 8 room
+  unfolding twin
+  twin-answer room = rw (file-written, written .records-are) (written-outcome h (sheet-is .header) rs (sheet-is .formed) (written .writable) (written .small) room)
 
-  -- and gives the same sheet, byte for byte
-  pub round-trip-sheet : (new : List ℕ) → length sheet ≤ length new → readBuffer (take b (writeBuffer v8 sheet old)) new ≡ over sheet new
-  unfolding readBuffer pick
-  round-trip-sheet new fits =
-      let t = written-sheet h (sheet-is .1) rs (sheet-is .2) (written .writable) (written .small) in
-      let a : sheetFrom (openingOf (take b (writeBuffer v8 sheet old))) (take b (writeBuffer v8 sheet old)) ≡ sheet = rw file-written (t ∙ sheet-is .0) in
-      rw (round-trip-answer (length new), le-ltb (length new) (length sheet) fits, a)
+  -- and gives the twin, byte for byte
+  pub twin-sheet : (new : List ℕ) → length (twin sheet) ≤ length new → readBuffer (take b (writeBuffer v8 sheet old)) new ≡ over (twin sheet) new
+  unfolding readBuffer twin pick
+  twin-sheet new fits =
+      let t = written-sheet h (sheet-is .header) rs (sheet-is .formed) (written .writable) (written .small) in
+      let a : sheetFrom (openingOf (take b (writeBuffer v8 sheet old))) (take b (writeBuffer v8 sheet old)) ≡ twin sheet = rw file-written t in
+      rw (twin-answer (length new), le-ltb (length new) (length (twin sheet)) fits, a)
+
+  -- which of a version 2 sheet is the sheet itself
+  module _ (two : getD sheet 0 0 ≡ sheetVersion) where
+    pub twin-is : twin sheet ≡ sheet
+    unfolding twin versionOf pick
+    twin-is = let v : versionOf sheet ≡ sheetVersion = rw two in rw v at (sheet-is .laid)
+
+    pub round-trip-answer : (room : ℕ) → readOutcome (take b (writeBuffer v8 sheet old)) room ≡ outcomeOf Good (length sheet) n 8 room
+    round-trip-answer room = twin-answer room ∙ rw twin-is
+
+    pub round-trip-sheet : (new : List ℕ) → length sheet ≤ length new → readBuffer (take b (writeBuffer v8 sheet old)) new ≡ over sheet new
+    round-trip-sheet new fits = rw twin-is at (twin-sheet new (rw twin-is fits))

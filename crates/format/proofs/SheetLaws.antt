@@ -15,10 +15,10 @@ use Rattle.format.specs.Header.{Header, lineEnd, endsInReturn, titleLimi
 use Rattle.format.specs.Label.{labelLimit}
 use Rattle.format.specs.Items.{pointOf, dimensionsOf, traverseOf}
 use Rattle.format.specs.State.{Record, leg, station, section, error}
-use Rattle.format.specs.Sheet.{sheetVersion, pointBytes, dimensionBytes, traverseBytes, dateBytes, legBody, stationBody, sectionBody, errorBody, recordBody, legSize, stationSize, sectionSize, errorSize, recordLimit, dateKind, dateDay, dateLast, legFields, stationFields, sectionFields, layout, layoutAll, headerLayout, sheetOf, Entry, flawed, entry, labelFits, labelFrom, goodDate, dateFrom, legEntry, stationEntry, sectionEntry, errorEntry, bodyEntry, framed, entryOf, entryStep, recordsStep, recordsFrom, recordsOf, goodText, headerFrom, goodHeader, goodFront, frontHeader, behindFront, sheetResult}
+use Rattle.format.specs.Sheet.{sheetVersion, undatedVersion, pointBytes, dimensionBytes, traverseBytes, dateBytes, legBody, stationBody, sectionBody, undatedSectionBody, errorBody, recordBody, legSize, stationSize, sectionSize, undatedSectionSize, errorSize, recordLimit, dateKind, dateDay, dateLast, legFields, stationFields, sectionFields, undatedSectionFields, layout, layoutAll, headerLayout, sheetOf, Entry, flawed, entry, labelFits, labelFrom, goodDate, dateFrom, legEntry, stationEntry, sectionEntry, undatedSectionEntry, errorEntry, bodyEntry, framed, entryOf, entryStep, recordsStep, recordsFrom, recordsOf, goodText, headerFrom, goodHeader, goodFront, frontHeader, behindFront, versionResult, versionOf, sheetResult}
 use Rattle.format.specs.Refusals.{Result, stop, also}
 use Rattle.format.specs.declared.Verdict.the-variants.{Good, Refusal}
-use Rattle.format.specs.WellFormed.{GoodPoint, GoodTraverse, GoodDated, GoodLeg, GoodStation, GoodSection, WellFormed, AllWellFormed, GoodHeader}
+use Rattle.format.specs.WellFormed.{GoodPoint, GoodDimensions, GoodTraverse, GoodDated, GoodLeg, GoodStation, GoodSection, WellFormed, AllWellFormed, GoodHeader}
 use Rattle.format.specs.declared.Point.{Point}
 use Rattle.format.specs.declared.Dimensions.{Dimensions}
 use Rattle.format.specs.declared.Traverse.{Traverse}
@@ -81,28 +81,32 @@ module _ (s : List ℕ) (n : ℕ) (t : List ℕ) (least : 1 ≤ n) (inside : 2 +
   unfolding stationEntry
   sized-station = pick-case (SizedEntry s) _ _ _ (λ e. labelled-size 14 (omega arith) (both _ _ e .0)) λ e. tt
 
-  sized-section : SizedEntry s (sectionEntry sheetVersion n t)
+  sized-section : SizedEntry s (sectionEntry n t)
   unfolding sectionEntry
-  sized-section = pick-case (SizedEntry s) _ _ _ (λ e. labelled-size 18 (omega arith) (both _ _ e .0)) λ e. tt
+  sized-section = pick-case (SizedEntry s) _ _ _ (λ e. labelled-size 23 (omega arith) (both _ _ e .0)) λ e. tt
+
+  sized-undated : SizedEntry s (undatedSectionEntry n t)
+  unfolding undatedSectionEntry
+  sized-undated = pick-case (SizedEntry s) _ _ _ (λ e. labelled-size 18 (omega arith) (both _ _ e .0)) λ e. tt
 
   sized-error : SizedEntry s (errorEntry n t)
   unfolding errorEntry
   sized-error = pick-case (SizedEntry s) _ _ _ (λ e. let z : n ≡ 21 = eqb-true _ _ e in size (omega arith)) λ e. tt
 
-  sized-body : SizedEntry s (bodyEntry sheetVersion n t)
+  sized-body : (version : ℕ) → SizedEntry s (bodyEntry version n t)
   unfolding bodyEntry
-  sized-body =
+  sized-body version =
       pick-case (SizedEntry s) _ _ _ (λ e. sized-leg) λ e.
       pick-case (SizedEntry s) _ _ _ (λ e. sized-station) λ e.
-      pick-case (SizedEntry s) _ _ _ (λ e. sized-section) λ e.
+      pick-case (SizedEntry s) _ _ _ (λ e. pick-case (SizedEntry s) _ _ _ (λ u. sized-undated) (λ u. sized-section)) λ e.
       pick-case (SizedEntry s) _ _ _ (λ e. sized-error) λ e. tt
 
-pub sized-entry : (s : List ℕ) → SizedEntry s (entryOf sheetVersion s)
+pub sized-entry : (version : ℕ) (s : List ℕ) → SizedEntry s (entryOf version s)
 unfolding entryOf
-sized-entry s = pick-case (SizedEntry s) _ _ _ (λ e. let f = frame s e in sized-body s (be16 s) (drop 2 s) (f .least) (f .inside) refl) λ e. tt
+sized-entry version s = pick-case (SizedEntry s) _ _ _ (λ e. let f = frame s e in sized-body s (be16 s) (drop 2 s) (f .least) (f .inside) refl version) λ e. tt
 
-pub entry-sized : (s : List ℕ) {k : ℕ} {r : Record} → entryOf sheetVersion s ≡ entry k r → Size s k
-entry-sized s e = rw e at (sized-entry s)
+pub entry-sized : (version : ℕ) (s : List ℕ) {k : ℕ} {r : Record} → entryOf version s ≡ entry k r → Size s k
+entry-sized version s e = rw e at (sized-entry version s)
 
 -- ---- the equation of reading records
 
@@ -110,62 +114,74 @@ entryStep-cong : (s : List ℕ) (it : Entry) → SizedEntry s it → (n : ℕ) (
 entryStep-cong s flawed z n f g h = refl
 entryStep-cong s (entry k r) z n f g h = ap (λ (x : Result). also r x) (h k (n + 1) (omega arith) (z .inside))
 
-recordsStep-cong : (at : ℕ) (s : List ℕ) (n : ℕ) (f g : ℕ → ℕ → Result) → ((k m : ℕ) → 0 < k → k ≤ length s → f k m ≡ g k m) → recordsStep sheetVersion at s n f ≡ recordsStep sheetVersion at s n g
+recordsStep-cong : (version : ℕ) (at : ℕ) (s : List ℕ) (n : ℕ) (f g : ℕ → ℕ → Result) → ((k m : ℕ) → 0 < k → k ≤ length s → f k m ≡ g k m) → recordsStep version at s n f ≡ recordsStep version at s n g
 unfolding recordsStep
-recordsStep-cong at s n f g h = ap (λ (x : Result). pick (eqb (length s) 0) (stop Good) x) (entryStep-cong s (entryOf sheetVersion s) (sized-entry s) n f g h)
+recordsStep-cong version at s n f g h = ap (λ (x : Result). pick (eqb (length s) 0) (stop Good) x) (entryStep-cong s (entryOf version s) (sized-entry version s) n f g h)
 
-records-eq : (at : ℕ) (s : List ℕ) (n : ℕ) → recordsFrom sheetVersion at s n ≡ recordsStep sheetVersion at s n (λ k m. recordsFrom sheetVersion (at + k) (drop k s) m)
+records-eq : (version : ℕ) (at : ℕ) (s : List ℕ) (n : ℕ) → recordsFrom version at s n ≡ recordsStep version at s n (λ k m. recordsFrom version (at + k) (drop k s) m)
 unfolding recordsFrom
-records-eq at s n = iter-eq (recordsStep sheetVersion) (λ p. stop Good) recordsStep-cong at s n
+records-eq version at s n = iter-eq (recordsStep version) (λ p. stop Good) (recordsStep-cong version) at s n
 
-pub records-none : (at n : ℕ) → recordsFrom sheetVersion at [] n ≡ stop Good
+pub records-none : (version : ℕ) (at n : ℕ) → recordsFrom version at [] n ≡ stop Good
 unfolding recordsStep pick
-records-none at n = records-eq at [] n
+records-none version at n = records-eq version at [] n
 
-pub records-more : (at : ℕ) (s : List ℕ) (n : ℕ) → 0 < length s → recordsFrom sheetVersion at s n ≡ entryStep (entryOf sheetVersion s) n (λ k m. recordsFrom sheetVersion (at + k) (drop k s) m)
+pub records-more : (version : ℕ) (at : ℕ) (s : List ℕ) (n : ℕ) → 0 < length s → recordsFrom version at s n ≡ entryStep (entryOf version s) n (λ k m. recordsFrom version (at + k) (drop k s) m)
 unfolding recordsStep
-records-more at s n h = records-eq at s n ∙ pick-false _ _ (ne-eqb (length s) 0 λ e. omega arith)
+records-more version at s n h = records-eq version at s n ∙ pick-false _ _ (ne-eqb (length s) 0 λ e. omega arith)
 
 -- ---- the lengths of layouts
 
-pub layout-leg : (g : Leg) (label : List ℕ) → length (layout sheetVersion (leg g label)) ≡ 2 + (legSize + length label)
+pub layout-leg : (version : ℕ) (g : Leg) (label : List ℕ) → length (layout version (leg g label)) ≡ 2 + (legSize + length label)
 unfolding layout toBe16 toBe32
-layout-leg g label = omega arith
+layout-leg version g label = omega arith
 
-pub layout-station : (s : Station) (label : List ℕ) → length (layout sheetVersion (station s label)) ≡ 2 + (stationSize + length label)
+pub layout-station : (version : ℕ) (s : Station) (label : List ℕ) → length (layout version (station s label)) ≡ 2 + (stationSize + length label)
 unfolding layout toBe16 toBe32
-layout-station s label = omega arith
+layout-station version s label = omega arith
 
 pub layout-section : (s : Section) (label : List ℕ) → length (layout sheetVersion (section s label)) ≡ 2 + (sectionSize + length label)
-unfolding layout toBe16 toBe32
+unfolding layout toBe16 toBe32 pick
 layout-section s label = omega arith
 
-pub layout-error : (t : Traverse) → length (layout sheetVersion (error t)) ≡ 2 + errorSize
+pub layout-error : (version : ℕ) (t : Traverse) → length (layout version (error t)) ≡ 2 + errorSize
 unfolding layout toBe16 toBe32
-layout-error t = refl
+layout-error version t = refl
 
-pub layout-length : (r : Record) → WellFormed r → length (layout sheetVersion r) ≤ recordLimit
-layout-length (leg g label) w = omega (arith, layout-leg g label)
-layout-length (station s label) w = omega (arith, layout-station s label)
-layout-length (section s label) w = omega (arith, layout-section s label)
-layout-length (error t) w = omega (arith, layout-error t)
+layout-is : (version : ℕ) (r : Record) → length (layout version r) ≡ 2 + length (recordBody version r)
+unfolding layout toBe16
+layout-is version r = omega arith
+
+section-most : (version : ℕ) (s : Section) (label : List ℕ) → length label ≤ labelLimit → length (recordBody version (section s label)) ≤ sectionSize + labelLimit
+unfolding toBe16 toBe32
+section-most version s label h = pick-case (λ (b : List ℕ). length b ≤ sectionSize + labelLimit) (eqb version undatedVersion) _ _ (λ e. omega arith) (λ e. omega arith)
+
+-- a section takes at least what it does in version 1
+pub section-least : (version : ℕ) (s : Section) (label : List ℕ) → 2 + (undatedSectionSize + length label) ≤ length (layout version (section s label))
+unfolding layout toBe16 toBe32
+section-least version s label =
+    let h : undatedSectionSize + length label ≤ length (recordBody version (section s label)) =
+    pick-case (λ (b : List ℕ). undatedSectionSize + length label ≤ length b) (eqb version undatedVersion) _ _ (λ e. omega arith) (λ e. omega arith) in
+    omega arith
+
+body-some : (version : ℕ) (r : Record) → 1 ≤ length (recordBody version r)
+body-some version (leg g label) = omega arith
+body-some version (station s label) = omega arith
+body-some version (section s label) = pick-case (λ (b : List ℕ). 1 ≤ length b) (eqb version undatedVersion) _ _ (λ e. omega arith) (λ e. omega arith)
+body-some version (error t) = omega arith
+
+pub layout-length : (version : ℕ) (r : Record) → WellFormed r → length (layout version r) ≤ recordLimit
+layout-length version (leg g label) w = omega (arith, layout-leg version g label)
+layout-length version (station s label) w = omega (arith, layout-station version s label)
+layout-length version (section s label) w = omega (arith, layout-is version (section s label), section-most version s label (w .label-fits))
+layout-length version (error t) w = omega (arith, layout-error version t)
 
 -- the size that the code adds up is that of the layout
 pub layout-size : (f : Fields) (l : List ℕ) → length (layout sheetVersion (recordOf f l)) ≡ recordSize f (length l)
-layout-size (FieldsLeg flags style date from to) l = layout-leg _ l ∙ omega arith
-layout-size (FieldsStation s) l = layout-station s l ∙ omega arith
-layout-size (FieldsSection s) l = layout-section s l ∙ omega arith
-layout-size (FieldsError t) l = layout-error t
-
-layout-is : (r : Record) → length (layout sheetVersion r) ≡ 2 + length (recordBody sheetVersion r)
-unfolding layout toBe16
-layout-is r = omega arith
-
-body-some : (r : Record) → 1 ≤ length (recordBody sheetVersion r)
-body-some (leg g label) = omega arith
-body-some (station s label) = omega arith
-body-some (section s label) = omega arith
-body-some (error t) = omega arith
+layout-size (FieldsLeg flags style date from to) l = layout-leg sheetVersion _ l ∙ omega arith
+layout-size (FieldsStation s) l = layout-station sheetVersion s l ∙ omega arith
+layout-size (FieldsSection last unused date size) l = layout-section _ l ∙ omega arith
+layout-size (FieldsError t) l = layout-error sheetVersion t
 
 -- ---- dates: kind, day and last day tell the date
 
@@ -221,42 +237,77 @@ module _ (label rest : List ℕ) (n : ℕ) where
       let g = w .place-fits in
       simp (fits-back stationSize en (w .label-fits), le-leb (s .flags) 0x7f (w .flags-fit), be32-to, g .x-fits, g .y-fits, g .z-fits, label-back stationSize en)
 
-  section-back : n ≡ sectionSize + length label → (s : Section) → GoodSection s label → sectionEntry sheetVersion n (sectionBody sheetVersion s label ++ rest) ≡ entry (2 + n) (section s label)
-  unfolding sectionEntry pick toBe32
+  section-back : n ≡ sectionSize + length label → (s : Section) → GoodSection s label → sectionEntry n (sectionBody s label ++ rest) ≡ entry (2 + n) (section s label)
+  unfolding sectionEntry pick toBe16 toBe32
   section-back en s w =
       let g = w .dimensions-fit in
-      simp (fits-back sectionSize en (w .label-fits), le-leb (s .last) 1 (w .last-fits), be32-to, g .left-fits, g .right-fits, g .up-fits, g .down-fits, label-back sectionSize en)
+      let d = date-back (s .date) (w .date-fits) in
+      simp (
+        fits-back sectionSize en (w .label-fits),
+        le-leb (s .last) 1 (w .last-fits),
+        be16-to,
+        d .day-fits,
+        d .last-fits,
+        d .good,
+        d .same,
+        be32-to,
+        g .left-fits,
+        g .right-fits,
+        g .up-fits,
+        g .down-fits,
+        label-back sectionSize en,
+      )
+
+  undated-back : n ≡ undatedSectionSize + length label → (s : Section) → GoodSection s label → s .date ≡ Undated
+      → undatedSectionEntry n (undatedSectionBody s label ++ rest) ≡ entry (2 + n) (section s label)
+  unfolding undatedSectionEntry pick toBe32
+  undated-back en s w u =
+      let g = w .dimensions-fit in
+      simp (fits-back undatedSectionSize en (w .label-fits), le-leb (s .last) 1 (w .last-fits), be32-to, g .left-fits, g .right-fits, g .up-fits, g .down-fits, label-back undatedSectionSize en)
+      (ap (λ (d : Dated). entry (2 + n) (section (record { last = s .last; date = d; size = s .size }) label)) (sym u))
 
 error-back : (t : Traverse) (rest : List ℕ) → GoodTraverse t → errorEntry 21 (errorBody t ++ rest) ≡ entry 23 (error t)
 unfolding errorEntry pick toBe32
 error-back t rest g = simp (be32-to, g .legs-fit, g .total-fits, g .e-fits, g .h-fits, g .v-fits)
 
-body-back : (r : Record) → WellFormed r → (rest : List ℕ) (n : ℕ) → n ≡ length (recordBody sheetVersion r) → bodyEntry sheetVersion n (recordBody sheetVersion r ++ rest) ≡ entry (2 + n) r
+-- "a version 1 section having no date": the records that a sheet of the version has a layout for
+abbrev pub Carries : ℕ → Record → Type 0
+Carries version (leg g label) = Unit
+Carries version (station s label) = Unit
+Carries version (section s label) = version ≡ undatedVersion → s .date ≡ Undated
+Carries version (error t) = Unit
+
+body-back : (version : ℕ) (r : Record) → WellFormed r → Carries version r → (rest : List ℕ) (n : ℕ) → n ≡ length (recordBody version r)
+    → bodyEntry version n (recordBody version r ++ rest) ≡ entry (2 + n) r
 unfolding bodyEntry pick toBe16 toBe32
-body-back (leg g label) w rest n en = leg-back label rest n (omega arith) g w
-body-back (station s label) w rest n en = station-back label rest n (omega arith) s w
-body-back (section s label) w rest n en = section-back label rest n (omega arith) s w
-body-back (error t) w rest n en = rw en (error-back t rest w)
+body-back version (leg g label) w c rest n en = leg-back label rest n (omega arith) g w
+body-back version (station s label) w c rest n en = station-back label rest n (omega arith) s w
+body-back version (section s label) w c rest n en = go (eqb version undatedVersion) refl
+  where
+    go : (t : Bool) → eqb version undatedVersion ≡ t → bodyEntry version n (recordBody version (section s label) ++ rest) ≡ entry (2 + n) (section s label)
+    go true e = let k = rw e at en in rw e (undated-back label rest n (omega arith) s w (c (eqb-true version undatedVersion e)))
+    go false e = let k = rw e at en in rw e (section-back label rest n (omega arith) s w)
+body-back version (error t) w c rest n en = rw en (error-back t rest w)
 
 -- what is laid out is all there
 is-framed : (s : List ℕ) → 1 ≤ be16 s → 2 + be16 s ≤ length s → framed s ≡ true
 unfolding framed
 is-framed s h1 h2 = and-true (le-leb 3 (length s) (omega arith)) (and-true (le-leb 1 (be16 s) h1) (le-leb (2 + be16 s) (length s) h2))
 
-entry-framed : (s : List ℕ) → 1 ≤ be16 s → 2 + be16 s ≤ length s → entryOf sheetVersion s ≡ bodyEntry sheetVersion (be16 s) (drop 2 s)
+entry-framed : (version : ℕ) (s : List ℕ) → 1 ≤ be16 s → 2 + be16 s ≤ length s → entryOf version s ≡ bodyEntry version (be16 s) (drop 2 s)
 unfolding entryOf
-entry-framed s h1 h2 = pick-true _ _ (is-framed s h1 h2)
+entry-framed version s h1 h2 = pick-true _ _ (is-framed s h1 h2)
 
 -- "A well-formed record keeps the sheet's layout": it is read back
-pub entry-layout : (r : Record) → WellFormed r → (rest : List ℕ) → entryOf sheetVersion (layout sheetVersion r ++ rest) ≡ entry (length (layout sheetVersion r)) r
+pub entry-layout : (version : ℕ) (r : Record) → WellFormed r → Carries version r → (rest : List ℕ) → entryOf version (layout version r ++ rest) ≡ entry (length (layout version r)) r
 unfolding layout toBe16
-entry-layout r w rest =
-    let b = recordBody sheetVersion r in
-    let most = layout-length r w in
-    let some = body-some r in
-    let e : be16 (layout sheetVersion r ++ rest) ≡ length b = be16-to (length b) (b ++ rest) (omega arith) in
+entry-layout version r w c rest =
+    let b = recordBody version r in
+    let most = layout-length version r w in
+    let some = body-some version r in
+    let e : be16 (layout version r ++ rest) ≡ length b = be16-to (length b) (b ++ rest) (omega arith) in
     let l = length-append b rest in
-    entry-framed (layout sheetVersion r ++ rest) (omega arith) (omega arith) ∙ body-back r w rest (be16 (layout sheetVersion r ++ rest)) e ∙ ap (λ (n : ℕ). entry n r) (omega arith)
+    entry-framed version (layout version r ++ rest) (omega arith) (omega arith) ∙ body-back version r w c rest (be16 (layout version r ++ rest)) e ∙ ap (λ (n : ℕ). entry n r) (omega arith)
 
 -- ---- the other way: what is read is what is laid out
 
@@ -353,6 +404,27 @@ pub date-read : (kind d e : ℕ) → goodDate kind d e ≡ true → DateRead kin
 unfolding goodDate dateFrom
 date-read kind d e q = date-cases kind d e (eqb kind 0) (eqb kind 1) refl refl q
 
+-- a date's five bytes at k, laid out again
+date-take : (t : List ℕ) → Bytes t → (k m : ℕ) → k + 5 ≤ length t → goodDate (getD t k 0) (be16 (drop (k + 1) t)) (be16 (drop (k + 3) t)) ≡ true
+    → dateBytes (dateFrom (getD t k 0) (be16 (drop (k + 1) t)) (be16 (drop (k + 3) t))) ++ take m (drop (k + 5) t) ≡ take (5 + m) (drop k t)
+date-take t b k m h d =
+    let q = date-read (getD t k 0) (be16 (drop (k + 1) t)) (be16 (drop (k + 3) t)) d in
+    let z5 : k + 3 + 2 ≡ k + 5 = omega arith in
+    let z3 : k + 1 + 2 ≡ k + 3 = omega arith in
+    let z : 1 + (2 + (2 + m)) ≡ 5 + m = omega arith in
+    rw (
+      q .kind-is,
+      q .day-is,
+      q .last-is,
+      append-assoc (toBe16 (be16 (drop (k + 1) t))) (toBe16 (be16 (drop (k + 3) t))) _,
+      ← z5,
+      be16-take t b (k + 3) m (omega arith),
+      ← z3,
+      be16-take t b (k + 1) (2 + m) (omega arith),
+      byte-take t b k (2 + (2 + m)) (omega arith),
+      z,
+    )
+
 -- the bytes of a body t from the kind on, laid out again
 module _ (t : List ℕ) (b : Bytes t) (m : ℕ) where
   point-from : (k : ℕ) → k + 12 ≤ length t → pointBytes toBe32 (pointOf be32 (drop k t)) ++ take m (drop (k + 12) t) ≡ take (12 + m) (drop k t)
@@ -373,8 +445,15 @@ module _ (t : List ℕ) (b : Bytes t) (n : ℕ) (inside : n ≤ length t) where
       let z : 2 + (12 + (n - 14)) ≡ n = omega arith in
       rw (point-from t b (n - 14) 2 (omega arith), kind-take t b (12 + (n - 14)) 2 (omega arith) e, z)
 
-  section-take : sectionSize ≤ n → getD t 0 0 ≡ 3 → sectionBody sheetVersion (sectionFields t) (labelFrom n sectionSize t) ≡ take n t
-  section-take h e =
+  section-take : sectionSize ≤ n → getD t 0 0 ≡ 3 → goodDate (getD t 2 0) (be16 (drop 3 t)) (be16 (drop 5 t)) ≡ true
+      → sectionBody (sectionFields t) (labelFrom n sectionSize t) ≡ take n t
+  section-take h e d =
+      let k = n - 23 in
+      let z : 2 + (5 + (16 + k)) ≡ n = omega arith in
+      rw (dimensions-from t b k 7 (omega arith), date-take t b 2 (16 + k) (omega arith) d, kind-take t b (5 + (16 + k)) 3 (omega arith) e, z)
+
+  undated-take : undatedSectionSize ≤ n → getD t 0 0 ≡ 3 → undatedSectionBody (undatedSectionFields t) (labelFrom n undatedSectionSize t) ≡ take n t
+  undated-take h e =
       let z : 2 + (16 + (n - 18)) ≡ n = omega arith in
       rw (dimensions-from t b (n - 18) 2 (omega arith), kind-take t b (16 + (n - 18)) 3 (omega arith) e, z)
 
@@ -387,20 +466,13 @@ module _ (t : List ℕ) (b : Bytes t) (n : ℕ) (inside : n ≤ length t) where
       → legBody (legFields t) (labelFrom n legSize t) ≡ take n t
   leg-take h e d =
       let k = n - 32 in
-      let q = date-read (getD t 3 0) (be16 (drop 4 t)) (be16 (drop 6 t)) d in
-      let z : 2 + (1 + (1 + (2 + (2 + (12 + (12 + k)))))) ≡ n = omega arith in
+      let z : 2 + (1 + (5 + (12 + (12 + k)))) ≡ n = omega arith in
       rw (
-        q .kind-is,
-        q .day-is,
-        q .last-is,
-        append-assoc (toBe16 (be16 (drop 4 t))) (toBe16 (be16 (drop 6 t))) _,
         point-from t b k 20 (omega arith),
         point-from t b (12 + k) 8 (omega arith),
-        be16-take t b 6 (12 + (12 + k)) (omega arith),
-        be16-take t b 4 (2 + (12 + (12 + k))) (omega arith),
-        byte-take t b 3 (2 + (2 + (12 + (12 + k)))) (omega arith),
-        byte-take t b 2 (1 + (2 + (2 + (12 + (12 + k))))) (omega arith),
-        kind-take t b (1 + (1 + (2 + (2 + (12 + (12 + k)))))) 1 (omega arith) e,
+        date-take t b 3 (12 + (12 + k)) (omega arith) d,
+        byte-take t b 2 (5 + (12 + (12 + k))) (omega arith),
+        kind-take t b (1 + (5 + (12 + (12 + k)))) 1 (omega arith) e,
         z,
       )
 
@@ -412,21 +484,21 @@ module _ (t : List ℕ) (b : Bytes t) (n : ℕ) (inside : n ≤ length t) where
       omega arith
 
 -- a body of n bytes, read as an entry
-abbrev BodyRead : ℕ → List ℕ → Entry → Type 0
-BodyRead n t flawed = Unit
-BodyRead n t (entry k r) = (k ≡ 2 + n) × (recordBody sheetVersion r ≡ take n t) × WellFormed r
+abbrev BodyRead : ℕ → ℕ → List ℕ → Entry → Type 0
+BodyRead version n t flawed = Unit
+BodyRead version n t (entry k r) = (k ≡ 2 + n) × (recordBody version r ≡ take n t) × WellFormed r
 
-module _ (n : ℕ) (t : List ℕ) (b : Bytes t) (inside : n ≤ length t) where
+module _ (version n : ℕ) (t : List ℕ) (b : Bytes t) (inside : n ≤ length t) where
   word-fits : (k j : ℕ) → be32 (drop j (drop k t)) < 4294967296
   word-fits k j = be32-fits (drop j (drop k t)) (bytes-drop (drop k t) (bytes-drop t b k) j)
 
   point-fits : (k : ℕ) → GoodPoint (pointOf be32 (drop k t))
   point-fits k = record { x-fits = word-fits k 0; y-fits = word-fits k 4; z-fits = word-fits k 8 }
 
-  leg-read : getD t 0 0 ≡ 1 → BodyRead n t (legEntry n t)
+  leg-read : getD t 0 0 ≡ 1 → BodyRead version n t (legEntry n t)
   unfolding legEntry
   leg-read e0 =
-      pick-case (BodyRead n t) _ _ _
+      pick-case (BodyRead version n t) _ _ _
       (λ e.
       let f = both (labelFits n legSize) _ e in
       let g = both (leb (getD t 1 0) 7) _ (f .1) in
@@ -444,121 +516,153 @@ module _ (n : ℕ) (t : List ℕ) (b : Bytes t) (inside : n ≤ length t) where
       ))
       λ e. tt
 
-  station-read : getD t 0 0 ≡ 2 → BodyRead n t (stationEntry n t)
+  station-read : getD t 0 0 ≡ 2 → BodyRead version n t (stationEntry n t)
   unfolding stationEntry
   station-read e0 =
-      pick-case (BodyRead n t) _ _ _
+      pick-case (BodyRead version n t) _ _ _
       (λ e.
       let f = both (labelFits n stationSize) _ e in
       (refl, station-take t b n inside (fits n stationSize (f .0) .least) e0, record { flags-fit = leb-true _ _ (f .1); place-fits = point-fits 2; label-fits = label-short t b n inside stationSize (f .0) }))
       λ e. tt
 
-  section-read : getD t 0 0 ≡ 3 → BodyRead n t (sectionEntry sheetVersion n t)
+  dimensions-fit : (k : ℕ) → GoodDimensions (dimensionsOf 4 be32 (drop k t))
+  dimensions-fit k = record { left-fits = word-fits k 0; right-fits = word-fits k 4; up-fits = word-fits k 8; down-fits = word-fits k 12 }
+
+  section-read : eqb version undatedVersion ≡ false → getD t 0 0 ≡ 3 → BodyRead version n t (sectionEntry n t)
   unfolding sectionEntry
-  section-read e0 =
-      pick-case (BodyRead n t) _ _ _
+  section-read u e0 =
+      pick-case (BodyRead version n t) _ _ _
       (λ e.
-      let f = both (labelFits n sectionSize) _ e in (
+      let f = both (labelFits n sectionSize) _ e in
+      let g = both (leb (getD t 1 0) 1) _ (f .1) in (
         refl,
-        section-take t b n inside (fits n sectionSize (f .0) .least) e0,
+        pick-false _ _ u ∙ section-take t b n inside (fits n sectionSize (f .0) .least) e0 (g .1),
         record {
-          last-fits = leb-true _ _ (f .1);
-          dimensions-fit = record { left-fits = word-fits 2 0; right-fits = word-fits 2 4; up-fits = word-fits 2 8; down-fits = word-fits 2 12 };
+          last-fits = leb-true _ _ (g .0);
+          date-fits = date-read _ _ _ (g .1) .fits (be16-fits _ (bytes-drop t b 3)) (be16-fits _ (bytes-drop t b 5));
+          dimensions-fit = dimensions-fit 7;
           label-fits = label-short t b n inside sectionSize (f .0);
         },
       ))
       λ e. tt
 
-  error-read : getD t 0 0 ≡ 4 → BodyRead n t (errorEntry n t)
+  undated-read : eqb version undatedVersion ≡ true → getD t 0 0 ≡ 3 → BodyRead version n t (undatedSectionEntry n t)
+  unfolding undatedSectionEntry
+  undated-read u e0 =
+      pick-case (BodyRead version n t) _ _ _
+      (λ e.
+      let f = both (labelFits n undatedSectionSize) _ e in (
+        refl,
+        pick-true _ _ u ∙ undated-take t b n inside (fits n undatedSectionSize (f .0) .least) e0,
+        record { last-fits = leb-true _ _ (f .1); date-fits = tt; dimensions-fit = dimensions-fit 2; label-fits = label-short t b n inside undatedSectionSize (f .0) },
+      ))
+      λ e. tt
+
+  error-read : getD t 0 0 ≡ 4 → BodyRead version n t (errorEntry n t)
   unfolding errorEntry
   error-read e0 =
-      pick-case (BodyRead n t) _ _ _
+      pick-case (BodyRead version n t) _ _ _
       (λ e. (refl, error-take t b n inside (eqb-true n 21 e) e0, record { legs-fit = word-fits 1 0; total-fits = word-fits 1 4; e-fits = word-fits 1 8; h-fits = word-fits 1 12; v-fits = word-fits 1 16 }))
       λ e. tt
 
-  body-read : BodyRead n t (bodyEntry sheetVersion n t)
+  body-read : BodyRead version n t (bodyEntry version n t)
   unfolding bodyEntry
   body-read =
-      pick-case (BodyRead n t) _ _ _ (λ e. leg-read (eqb-true (getD t 0 0) 1 e)) λ e.
-      pick-case (BodyRead n t) _ _ _ (λ e. station-read (eqb-true (getD t 0 0) 2 e)) λ e.
-      pick-case (BodyRead n t) _ _ _ (λ e. section-read (eqb-true (getD t 0 0) 3 e)) λ e.
-      pick-case (BodyRead n t) _ _ _ (λ e. error-read (eqb-true (getD t 0 0) 4 e)) λ e. tt
+      pick-case (BodyRead version n t) _ _ _ (λ e. leg-read (eqb-true (getD t 0 0) 1 e)) λ e.
+      pick-case (BodyRead version n t) _ _ _ (λ e. station-read (eqb-true (getD t 0 0) 2 e)) λ e.
+      pick-case (BodyRead version n t) _ _ _ (λ e. pick-case (BodyRead version n t) _ _ _ (λ u. undated-read u (eqb-true (getD t 0 0) 3 e)) (λ u. section-read u (eqb-true (getD t 0 0) 3 e))) λ e.
+      pick-case (BodyRead version n t) _ _ _ (λ e. error-read (eqb-true (getD t 0 0) 4 e)) λ e. tt
 
 -- the record at the front of s: its bytes are its layout, and it is well-formed
-abbrev pub EntryRead : List ℕ → Entry → Type 0
-EntryRead s flawed = Unit
-EntryRead s (entry k r) = (take k s ≡ layout sheetVersion r) × (k ≡ length (layout sheetVersion r)) × WellFormed r
+abbrev pub EntryRead : ℕ → List ℕ → Entry → Type 0
+EntryRead version s flawed = Unit
+EntryRead version s (entry k r) = (take k s ≡ layout version r) × (k ≡ length (layout version r)) × WellFormed r
 
-framed-read : (s : List ℕ) → Bytes s → 2 + be16 s ≤ length s → (it : Entry) → BodyRead (be16 s) (drop 2 s) it → EntryRead s it
+framed-read : (version : ℕ) (s : List ℕ) → Bytes s → 2 + be16 s ≤ length s → (it : Entry) → BodyRead version (be16 s) (drop 2 s) it → EntryRead version s it
 unfolding layout
-framed-read s b h flawed x = tt
-framed-read s b h (entry k r) x =
+framed-read version s b h flawed x = tt
+framed-read version s b h (entry k r) x =
     let n = be16 s in
     let l : length (take n (drop 2 s)) ≡ n = length-take-le n (drop 2 s) (simp length-drop (omega arith)) in
-    let lr : length (recordBody sheetVersion r) ≡ n = ap length (x .1) ∙ l in
-    let e : take k s ≡ layout sheetVersion r = rw (x .0, lr, x .1) (sym (to-be16 s b n (omega arith))) in
-    (e, x .0 ∙ rw (layout-is r, lr), x .2)
+    let lr : length (recordBody version r) ≡ n = ap length (x .1) ∙ l in
+    let e : take k s ≡ layout version r = rw (x .0, lr, x .1) (sym (to-be16 s b n (omega arith))) in
+    (e, x .0 ∙ rw (layout-is version r, lr), x .2)
 
-pub read-entry : (s : List ℕ) → Bytes s → EntryRead s (entryOf sheetVersion s)
+pub read-entry : (version : ℕ) (s : List ℕ) → Bytes s → EntryRead version s (entryOf version s)
 unfolding entryOf
-read-entry s b =
-    pick-case (EntryRead s) _ _ _
-    (λ e. let f = frame s e in framed-read s b (f .inside) (bodyEntry sheetVersion (be16 s) (drop 2 s)) (body-read (be16 s) (drop 2 s) (bytes-drop s b 2) (simp length-drop (omega arith))))
+read-entry version s b =
+    pick-case (EntryRead version s) _ _ _
+    (λ e. let f = frame s e in framed-read version s b (f .inside) (bodyEntry version (be16 s) (drop 2 s)) (body-read version (be16 s) (drop 2 s) (bytes-drop s b 2) (simp length-drop (omega arith))))
     λ e. tt
 
-pub entry-read : (s : List ℕ) → Bytes s → {k : ℕ} {r : Record} → entryOf sheetVersion s ≡ entry k r → (take k s ≡ layout sheetVersion r) × (k ≡ length (layout sheetVersion r)) × WellFormed r
-entry-read s b e = rw e at (read-entry s b)
+pub entry-read : (version : ℕ) (s : List ℕ) → Bytes s → {k : ℕ} {r : Record} → entryOf version s ≡ entry k r → (take k s ≡ layout version r) × (k ≡ length (layout version r)) × WellFormed r
+entry-read version s b e = rw e at (read-entry version s b)
 
 -- ---- all the records of a list of bytes
 
-layout-some : (r : Record) → 3 ≤ length (layout sheetVersion r)
-layout-some r = omega (arith, layout-is r, body-some r)
+layout-some : (version : ℕ) (r : Record) → 3 ≤ length (layout version r)
+layout-some version r = omega (arith, layout-is version r, body-some version r)
 
-layout-from : (rs : List Record) → AllWellFormed rs → (at n : ℕ) → recordsFrom sheetVersion at (layoutAll sheetVersion rs) n ≡ record { records = rs; verdict = Good }
+abbrev pub AllCarried : ℕ → List Record → Type 0
+AllCarried version [] = Unit
+AllCarried version (r ∷ rs) = Carries version r × AllCarried version rs
+
+-- version 2 carries every record
+carries : (r : Record) → Carries sheetVersion r
+carries (leg g label) = tt
+carries (station s label) = tt
+carries (section s label) = λ e. absurd (omega arith)
+carries (error t) = tt
+
+pub all-carried : (rs : List Record) → AllCarried sheetVersion rs
+all-carried [] = tt
+all-carried (r ∷ rs) = (carries r, all-carried rs)
+
+layout-from : (version : ℕ) (rs : List Record) → AllWellFormed rs → AllCarried version rs → (at n : ℕ) → recordsFrom version at (layoutAll version rs) n ≡ record { records = rs; verdict = Good }
 unfolding layoutAll
-layout-from [] w at n = records-none at n
-layout-from (r ∷ rs) w at n =
-    let k = length (layout sheetVersion r) in
-    let h : 0 < length (layout sheetVersion r ++ layoutAll sheetVersion rs) = omega (arith, layout-some r, length-append (layout sheetVersion r) (layoutAll sheetVersion rs)) in
-    records-more at (layout sheetVersion r ++ layoutAll sheetVersion rs) n h
-    ∙ rw (entry-layout r (w .0) (layoutAll sheetVersion rs), drop-at (layout sheetVersion r) (layoutAll sheetVersion rs) k refl, layout-from rs (w .1) (at + k) (n + 1))
+layout-from version [] w c at n = records-none version at n
+layout-from version (r ∷ rs) w c at n =
+    let k = length (layout version r) in
+    let h : 0 < length (layout version r ++ layoutAll version rs) = omega (arith, layout-some version r, length-append (layout version r) (layoutAll version rs)) in
+    records-more version at (layout version r ++ layoutAll version rs) n h
+    ∙ rw (entry-layout version r (w .0) (c .0) (layoutAll version rs), drop-at (layout version r) (layoutAll version rs) k refl, layout-from version rs (w .1) (c .1) (at + k) (n + 1))
 
-pub layout-records : (rs : List Record) → AllWellFormed rs → recordsOf sheetVersion (layoutAll sheetVersion rs) ≡ record { records = rs; verdict = Good }
+pub layout-records : (version : ℕ) (rs : List Record) → AllWellFormed rs → AllCarried version rs → recordsOf version (layoutAll version rs) ≡ record { records = rs; verdict = Good }
 unfolding recordsOf
-layout-records rs w = layout-from rs w 0 0
+layout-records version rs w c = layout-from version rs w c 0 0
 
 -- what is read from s is well-formed, whatever the verdict; and s is its layout where the verdict is good
-pub record RecordsRead (s : List ℕ) (x : Result) : Type 0 where
+pub record RecordsRead (version : ℕ) (s : List ℕ) (x : Result) : Type 0 where
   pub formed : AllWellFormed (x .records)
-  pub laid : x .verdict ≡ Good → layoutAll sheetVersion (x .records) ≡ s
+  pub laid : x .verdict ≡ Good → layoutAll version (x .records) ≡ s
 
-step-read : (s : List ℕ) (it : Entry) → EntryRead s it → (n : ℕ) (go : ℕ → ℕ → Result) → ((k m : ℕ) → 0 < k → RecordsRead (drop k s) (go k m)) → RecordsRead s (entryStep it n go)
+step-read : (version : ℕ) (s : List ℕ) (it : Entry) → EntryRead version s it → (n : ℕ) (go : ℕ → ℕ → Result) → ((k m : ℕ) → 0 < k → RecordsRead version (drop k s) (go k m)) → RecordsRead version s (entryStep it n go)
 unfolding layoutAll
-step-read s flawed x n go h = record { formed = tt; laid = λ e. cc }
-step-read s (entry k r) x n go h =
-    let g = h k (n + 1) (omega (arith, x .1, layout-some r)) in
+step-read version s flawed x n go h = record { formed = tt; laid = λ e. cc }
+step-read version s (entry k r) x n go h =
+    let g = h k (n + 1) (omega (arith, x .1, layout-some version r)) in
     record { formed = (x .2, g .formed); laid = λ e. rw (← (x .0), g .laid e) (take-append-drop k s) }
 
-read-list : (at : ℕ) (s : List ℕ) (n : ℕ) → Bytes s → ((k m : ℕ) → 0 < k → 0 < length s → RecordsRead (drop k s) (recordsFrom sheetVersion (at + k) (drop k s) m)) → RecordsRead s (recordsFrom sheetVersion at s n)
+read-list : (version : ℕ) (at : ℕ) (s : List ℕ) (n : ℕ) → Bytes s → ((k m : ℕ) → 0 < k → 0 < length s → RecordsRead version (drop k s) (recordsFrom version (at + k) (drop k s) m)) → RecordsRead version s (recordsFrom version at s n)
 unfolding layoutAll
-read-list at [] n b h = rw (records-none at n) (record { formed = tt; laid = λ e. refl })
-read-list at (x ∷ s) n b h =
-    rw (records-more at (x ∷ s) n (omega arith))
-    (step-read (x ∷ s) (entryOf sheetVersion (x ∷ s)) (read-entry (x ∷ s) b) n _ λ k m hk. h k m hk (omega arith))
+read-list version at [] n b h = rw (records-none version at n) (record { formed = tt; laid = λ e. refl })
+read-list version at (x ∷ s) n b h =
+    rw (records-more version at (x ∷ s) n (omega arith))
+    (step-read version (x ∷ s) (entryOf version (x ∷ s)) (read-entry version (x ∷ s) b) n _ λ k m hk. h k m hk (omega arith))
 
-read-from : (f at : ℕ) (s : List ℕ) (n : ℕ) → length s ≤ f → Bytes s → RecordsRead s (recordsFrom sheetVersion at s n)
-read-from zero at s n h b = read-list at s n b λ k m hk hs. absurd (omega arith)
-read-from (suc f) at s n h b = read-list at s n b λ k m hk hs. read-from f (at + k) (drop k s) m (simp length-drop (omega arith)) (bytes-drop s b k)
+read-from : (version : ℕ) (f at : ℕ) (s : List ℕ) (n : ℕ) → length s ≤ f → Bytes s → RecordsRead version s (recordsFrom version at s n)
+read-from version zero at s n h b = read-list version at s n b λ k m hk hs. absurd (omega arith)
+read-from version (suc f) at s n h b = read-list version at s n b λ k m hk hs. read-from version f (at + k) (drop k s) m (simp length-drop (omega arith)) (bytes-drop s b k)
 
-pub records-read : (s : List ℕ) → Bytes s → RecordsRead s (recordsOf sheetVersion s)
+pub records-read : (version : ℕ) (s : List ℕ) → Bytes s → RecordsRead version s (recordsOf version s)
 unfolding recordsOf
-records-read s b = read-from (length s) 0 s 0 (le-refl _) b
+records-read version s b = read-from version (length s) 0 s 0 (le-refl _) b
 
-pub records-formed : (s : List ℕ) → Bytes s → AllWellFormed (recordsOf sheetVersion s .records)
-records-formed s b = records-read s b .formed
+pub records-formed : (version : ℕ) (s : List ℕ) → Bytes s → AllWellFormed (recordsOf version s .records)
+records-formed version s b = records-read version s b .formed
 
-pub records-layout : (s : List ℕ) → Bytes s → (rs : List Record) → recordsOf sheetVersion s ≡ record { records = rs; verdict = Good } → (layoutAll sheetVersion rs ≡ s) × AllWellFormed rs
-records-layout s b rs e = let x = rw e at (records-read s b) in (x .laid refl, x .formed)
+pub records-layout : (version : ℕ) (s : List ℕ) → Bytes s → (rs : List Record) → recordsOf version s ≡ record { records = rs; verdict = Good } → (layoutAll version rs ≡ s) × AllWellFormed rs
+records-layout version s b rs e = let x = rw e at (records-read version s b) in (x .laid refl, x .formed)
 
 -- ---- a sheet: its version byte, its header, its records
 
@@ -593,7 +697,7 @@ module _ (h : Header) (g : GoodHeader h) where
   pub header-most : length (headerLayout h) ≤ 4166
   header-most = omega (arith, header-length h, title-short, time-short)
 
-  module _ (rest : List ℕ) where
+  module _ (version : ℕ) (rest : List ℕ) where
     -- the header record behind its length
     abbrev body : List ℕ
     body = 0 ∷ h .extended ∷ (toBe16 (length (h .title)) ++ (h .title ++ (h .time ++ rest)))
@@ -621,7 +725,7 @@ module _ (h : Header) (g : GoodHeader h) where
         and-true (le-leb (h .extended) 1 (g .extended-fits)) (and-true (le-leb (4 + be16 (drop 2 body)) n (omega (arith, title-size))) (and-true et em))
 
     abbrev front : List ℕ
-    front = 1 ∷ (headerLayout h ++ rest)
+    front = version ∷ (headerLayout h ++ rest)
 
     front-size : be16 (drop 1 front) ≡ 4 + length (h .title) + length (h .time)
     unfolding headerLayout toBe16
@@ -637,27 +741,28 @@ module _ (h : Header) (g : GoodHeader h) where
     unfolding frontHeader
     front-back = rw front-body (header-back (be16 (drop 1 front)) front-size)
 
-    front-good : goodFront front ≡ true
+    front-good : goodFront version front ≡ true
     unfolding goodFront
     front-good =
         let n = be16 (drop 1 front) in
         let l = length-append (headerLayout h) rest in
         let f : framed (drop 1 front) ≡ true = is-framed (drop 1 front) (omega (arith, front-size)) (omega (arith, front-size, header-length h)) in
         let q : goodHeader n (drop 3 front) ≡ true = rw front-body (header-good n front-size) in
-        and-true f (and-true (le-leb 4 n (omega (arith, front-size))) q)
+        and-true (eq-eqb version version refl) (and-true f (and-true (le-leb 4 n (omega (arith, front-size))) q))
 
     behind-back : behindFront front ≡ rest
     unfolding behindFront
-    behind-back = drop-at (1 ∷ headerLayout h) rest (3 + be16 (drop 1 front)) (omega (arith, front-size, header-length h))
+    behind-back = drop-at (version ∷ headerLayout h) rest (3 + be16 (drop 1 front)) (omega (arith, front-size, header-length h))
 
 pub sheet-records : (h : Header) → GoodHeader h → (rs : List Record) → AllWellFormed rs → (sheetResult (sheetOf sheetVersion h rs) ≡ record { records = rs; verdict = Good }) × (frontHeader (sheetOf sheetVersion h rs) ≡ h)
-unfolding sheetResult sheetOf
+unfolding sheetResult versionResult versionOf sheetOf pick
 sheet-records h g rs w =
-    (pick-true _ _ (front-good h g (layoutAll sheetVersion rs)) ∙ rw (behind-back h g (layoutAll sheetVersion rs)) (layout-records rs w), front-back h g (layoutAll sheetVersion rs))
+    let l = layoutAll sheetVersion rs in
+    (pick-true _ _ (front-good h g sheetVersion l) ∙ rw (behind-back h g sheetVersion l) (layout-records sheetVersion rs w (all-carried rs)), front-back h g sheetVersion l)
 
 -- what a good front says
-pub record FrontRead (sheet : List ℕ) : Type 0 where
-  pub laid : 1 ∷ (headerLayout (frontHeader sheet) ++ behindFront sheet) ≡ sheet
+pub record FrontRead (version : ℕ) (sheet : List ℕ) : Type 0 where
+  pub laid : version ∷ (headerLayout (frontHeader sheet) ++ behindFront sheet) ≡ sheet
   pub header : GoodHeader (frontHeader sheet)
 
 -- the header record of n bytes t
@@ -692,16 +797,16 @@ module _ (t : List ℕ) (b : Bytes t) (n : ℕ) (inside : n ≤ length t) (least
       let z : 2 + (2 + (n - 4)) ≡ n = omega arith in
       rw (title-length, texts-are, be16-take t b 2 (n - 4) (omega arith), kind-take t b (2 + (n - 4)) 0 (omega arith) (header-parts .kind), z)
 
-pub front-read : (sheet : List ℕ) → Bytes sheet → goodFront sheet ≡ true → FrontRead sheet
+pub front-read : (version : ℕ) (sheet : List ℕ) → Bytes sheet → goodFront version sheet ≡ true → FrontRead version sheet
 unfolding goodFront frontHeader behindFront headerLayout
-front-read sheet b e =
+front-read version sheet b e =
     let s = drop 1 sheet in
     let n = be16 s in
     let t = drop 3 sheet in
-    let c = both (eqb (getD sheet 0 0) 1) _ e in
+    let c = both (eqb (getD sheet 0 0) version) _ e in
     let d = both (framed s) _ (c .1) in
     let f = both (leb 4 n) _ (d .1) in
-    let one : getD sheet 0 0 ≡ 1 = eqb-true _ _ (c .0) in
+    let byte : getD sheet 0 0 ≡ version = eqb-true _ _ (c .0) in
     let w = frame s (d .0) in
     let least : 4 ≤ n = leb-true 4 n (f .0) in
     let ls = length-drop 1 sheet in
@@ -715,32 +820,38 @@ front-read sheet b e =
     let eh : headerLayout (frontHeader sheet) ≡ take (2 + n) s = ap (λ (x : List ℕ). toBe16 (length x) ++ x) body ∙ rw l es in
     let z : 1 + (2 + n) ≡ 3 + n = omega arith in
     let eb : drop (3 + n) sheet ≡ drop (2 + n) s = rw (← z) (sym (drop-drop (2 + n) 1 sheet)) in
-    let ec : sheet ≡ 1 ∷ s = drop-cons sheet 0 0 (omega arith) ∙ ap (λ (x : ℕ). x ∷ s) one in
+    let ec : sheet ≡ version ∷ s = drop-cons sheet 0 0 (omega arith) ∙ ap (λ (x : ℕ). x ∷ s) byte in
     record {
-      laid = ap₂ (λ (x y : List ℕ). 1 ∷ (x ++ y)) eh eb ∙ ap (λ (x : List ℕ). 1 ∷ x) (take-append-drop (2 + n) s) ∙ sym ec;
+      laid = ap₂ (λ (x y : List ℕ). version ∷ (x ++ y)) eh eb ∙ ap (λ (x : List ℕ). version ∷ x) (take-append-drop (2 + n) s) ∙ sym ec;
       header = record { extended-fits = hr .extended; title-good = hr .title; time-good = hr .time };
     }
-
-abbrev SheetRead : List ℕ → List Record → Result → Type 0
-SheetRead sheet rs x = x ≡ record { records = rs; verdict = Good } → (sheetOf sheetVersion (frontHeader sheet) rs ≡ sheet) × GoodHeader (frontHeader sheet) × AllWellFormed rs
 
 pub bytes-behind : (sheet : List ℕ) → Bytes sheet → Bytes (behindFront sheet)
 unfolding behindFront
 bytes-behind sheet b = bytes-drop sheet b (3 + be16 (drop 1 sheet))
 
-pub records-sheet : (sheet : List ℕ) → Bytes sheet → (rs : List Record) → sheetResult sheet ≡ record { records = rs; verdict = Good }
-    → (sheetOf sheetVersion (frontHeader sheet) rs ≡ sheet) × GoodHeader (frontHeader sheet) × AllWellFormed rs
-unfolding sheetResult sheetOf
-records-sheet sheet b rs =
-    pick-case (SheetRead sheet rs) (goodFront sheet) _ _
+-- a sheet that is good in its version is the layout of its header and records in that version
+pub record SheetRead (version : ℕ) (sheet : List ℕ) (rs : List Record) : Type 0 where
+  pub laid : sheetOf version (frontHeader sheet) rs ≡ sheet
+  pub header : GoodHeader (frontHeader sheet)
+  pub formed : AllWellFormed rs
+
+version-sheet : (version : ℕ) (sheet : List ℕ) → Bytes sheet → (rs : List Record) → versionResult version sheet ≡ record { records = rs; verdict = Good } → SheetRead version sheet rs
+unfolding versionResult sheetOf
+version-sheet version sheet b rs =
+    pick-case (λ (x : Result). x ≡ record { records = rs; verdict = Good } → SheetRead version sheet rs) (goodFront version sheet) _ _
     (λ e q.
-    let f = front-read sheet b e in
-    let x = records-layout (behindFront sheet) (bytes-behind sheet b) rs q in
-    (rw (x .0) (f .laid), f .header, x .1))
+    let f = front-read version sheet b e in
+    let x = records-layout version (behindFront sheet) (bytes-behind sheet b) rs q in
+    record { laid = rw (x .0) (f .laid); header = f .header; formed = x .1 })
     λ e q. let v : Refusal 12 0 ≡ Good = ap (λ (x : Result). x .verdict) q in absurd (let z : _≡_ {A = ℕ} 0 1 = cc in omega arith)
+
+pub records-sheet : (sheet : List ℕ) → Bytes sheet → (rs : List Record) → sheetResult sheet ≡ record { records = rs; verdict = Good } → SheetRead (versionOf sheet) sheet rs
+unfolding sheetResult
+records-sheet sheet b rs q = version-sheet (versionOf sheet) sheet b rs q
 
 -- the records of a sheet are well-formed, whatever the verdict
 pub sheet-formed : (sheet : List ℕ) → Bytes sheet → AllWellFormed (sheetResult sheet .records)
-unfolding sheetResult
+unfolding sheetResult versionResult
 sheet-formed sheet b =
-    pick-case (λ (x : Result). AllWellFormed (x .records)) (goodFront sheet) _ _ (λ e. records-read (behindFront sheet) (bytes-behind sheet b) .formed) λ e. tt
+    pick-case (λ (x : Result). AllWellFormed (x .records)) (goodFront (versionOf sheet) sheet) _ _ (λ e. records-formed (versionOf sheet) (behindFront sheet) (bytes-behind sheet b)) λ e. tt

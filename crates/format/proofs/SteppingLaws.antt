@@ -46,7 +46,7 @@ module _ (version : ℕ) (file : List ℕ) (bytes : Bytes file) (room : ℕ) (am
   step-gathers n p st end z g h = stop-gathers (ended p (drop p file)) _
   step-gathers n p st (on m st′) z g h = h m st′ (z .0) (z .1) g ∙ rw (drop-drop m p file)
   step-gathers n p st (made m r st′) z g h =
-      let l : length (layout sheetVersion r) ≤ room = omega (arith, layout-length r (g .0), ample) in
+      let l : length (layout sheetVersion r) ≤ room = omega (arith, layout-length sheetVersion r (g .0), ample) in
       rw (le-ltb room (length (layout sheetVersion r)) l, h m st′ (z .0) (z .1) (g .1), drop-drop m p file)
 
   gathers : (n p : ℕ) (st : State) → GoodState st → length (drop p file) < n → Gathers n p st
@@ -71,13 +71,13 @@ module _ (file : List ℕ) (bytes : Bytes file) (room : ℕ) (ample : 4130 ≤ r
   steps-gather = rw opens (gathers v file bytes room ample (suc (length file)) p start start-good (simp length-drop (omega arith)))
 
   -- the reader has stopped, with the verdict of reading; and the bytes of its records, in order, are the sheet's after its header
-  pub steps-are-records : (steps .halt ≡ stops (itemsOf v p file .verdict)) × (sheetFrom (openingOf file) file ≡ 1 ∷ (headerLayout h ++ steps .bytes))
+  pub steps-are-records : (steps .halt ≡ stops (itemsOf v p file .verdict)) × (sheetFrom (openingOf file) file ≡ sheetVersion ∷ (headerLayout h ++ steps .bytes))
   unfolding sheetOf
   steps-are-records = (ap (λ (g : Gathered). g .halt) steps-gather, rw (opens, steps-gather))
 
   -- so they are what an accepted reading leaves in a lent sheet
   pub steps-are-read : (old : List ℕ) (b n w : ℕ) → readOutcome file (length old) ≡ accepted b n w
-      → (steps .halt ≡ stops Good) × (take b (readBuffer file old) ≡ 1 ∷ (headerLayout h ++ steps .bytes))
+      → (steps .halt ≡ stops Good) × (take b (readBuffer file old) ≡ sheetVersion ∷ (headerLayout h ++ steps .bytes))
   unfolding readOutcome readBuffer over
   steps-are-read old b n w e =
       let x = itemsOf v p file in

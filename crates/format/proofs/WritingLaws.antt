@@ -78,13 +78,13 @@ module _ (w : Writer) where
 pub unsayable-at : (old : ℕ) (f : Fields) (l : List ℕ) → unsayable old (recordOf f []) ≡ unsayable old (recordOf f l)
 unsayable-at old (FieldsLeg flags style date from to) l = refl
 unsayable-at old (FieldsStation s) l = refl
-unsayable-at old (FieldsSection s) l = refl
+unsayable-at old (FieldsSection last unused date size) l = refl
 unsayable-at old (FieldsError traverse) l = refl
 
 pub setting-at : (setting : Setting) (f : Fields) (l : List ℕ) → settingAfter setting (recordOf f []) ≡ settingAfter setting (recordOf f l)
 setting-at setting (FieldsLeg flags style date from to) l = refl
 setting-at setting (FieldsStation s) l = refl
-setting-at setting (FieldsSection s) l = refl
+setting-at setting (FieldsSection last unused date size) l = refl
 setting-at setting (FieldsError traverse) l = refl
 
 -- ---- `common` and `keptBytes`
@@ -458,9 +458,10 @@ module _ (st : State) (rest : List ℕ) (hl : length (st .label) ≤ labelLimit)
       rw (station-item (st .label) label k hl (g .label-fits) (s .flags) (s .place) rest (g .place-fits), label-read (st .label) label k (kept-shares (st .label) label) (g .label-fits)) in
       goes-made c rest st (station s label) (named label st) e
 
-  section-read : (s : Section) (label : List ℕ) → GoodSection s label → Reads (sectionCodes (st .label) s label) (section s label) (named label st)
+  -- XSECT, where the date is the section's
+  xsect-read : (s : Section) (label : List ℕ) → GoodSection s label → st .setting .date ≡ s .date → Reads (sectionCodes (st .label) s label) (section s label) (named label st)
   unfolding sectionCodes next
-  section-read s label g =
+  xsect-read s label g hd =
       let d = s .size in
       let k = keptBytes (st .label) label in
       let name = labelCodes (st .label) label k in
@@ -469,9 +470,9 @@ module _ (st : State) (rest : List ℕ) (hl : length (st .label) ≤ labelLimit)
       let a = (0x30 + s .last) ∷ (name ++ dimensionBytes toLe16 d) in
       let b = (0x32 + s .last) ∷ (name ++ dimensionBytes toLe32 d) in
       let ea : allShort d ≡ true → next 8 (a ++ rest) st ≡ made (length a) r (named label st) =
-      λ q. rw (short-section-item (st .label) label k hl (g .label-fits) (s .last) d rest (g .last-fits) (g .dimensions-fit) q, e) in
+      λ q. rw (short-section-item (st .label) label k hl (g .label-fits) (s .last) d rest (g .last-fits) (g .dimensions-fit) q, e, hd) in
       let eb : next 8 (b ++ rest) st ≡ made (length b) r (named label st) =
-      rw (wide-section-item (st .label) label k hl (g .label-fits) (s .last) d rest (g .last-fits) (g .dimensions-fit), e) in
+      rw (wide-section-item (st .label) label k hl (g .label-fits) (s .last) d rest (g .last-fits) (g .dimensions-fit), e, hd) in
       pick-case (λ (x : List ℕ). Reads x r (named label st)) (allShort d) a b (λ q. goes-made a rest st r (named label st) (ea q)) (λ q. goes-made b rest st r (named label st) eb)
 
   error-read : (t : Traverse) → GoodTraverse t → Reads (errorCodes t) (error t) st
@@ -501,6 +502,15 @@ module _ (st : State) (rest : List ℕ) (hl : length (st .label) ≤ labelLimit)
       λ q. rw (same-line-item flags to rest hf g, label-same l hl, hp) (rw (same-true l label q)) in
       pick-case (λ (x : List ℕ). Reads x r (moved to (named label st))) (same l label) a b (λ q. goes-made a rest st r (moved to (named label st)) (ea q)) (λ q. goes-made b rest st r (moved to (named label st)) eb)
 
+section-read : (st : State) (s : Section) (label : List ℕ) → length (st .label) ≤ labelLimit → GoodSection s label → (rest : List ℕ)
+    → Goes 8 (codes st (section s label) ++ rest) st (section s label ∷ []) (length (codes st (section s label))) (after st (section s label))
+unfolding dateIf
+section-read st s label hl w rest =
+    let D = dateIf (st .setting .date) (s .date) in
+    let X = sectionCodes (st .label) s label in
+    goes-as (sym (append-assoc D X rest)) (sym (length-append D X))
+    (goes-append D (X ++ rest) (date-read st (s .date) (X ++ rest) (w .date-fits)) (xsect-read (datedBy (s .date) st) rest hl s label w refl))
+
 leg-read : (st : State) (g : Leg) (label : List ℕ) → length (st .label) ≤ labelLimit → GoodLeg g label → unsayable (st .setting .style) (leg g label) ≡ false → (rest : List ℕ)
     → Goes 8 (codes st (leg g label) ++ rest) st (leg g label ∷ []) (length (codes st (leg g label))) (after st (leg g label))
 unfolding dateIf moveIf lineCodes
@@ -527,7 +537,7 @@ pub codes-go : (st : State) (r : Record) → length (st .label) ≤ labelLimit �
     → Goes 8 (codes st r ++ rest) st (r ∷ []) (length (codes st r)) (after st r)
 codes-go st (leg g label) hl w u rest = leg-read st g label hl w u rest
 codes-go st (station s label) hl w u rest = station-read st rest hl s label w
-codes-go st (section s label) hl w u rest = section-read st rest hl s label w
+codes-go st (section s label) hl w u rest = section-read st s label hl w rest
 codes-go st (error t) hl g u rest = error-read st rest hl t g
 
 pub codes-read : (st : State) (r : Record) → length (st .label) ≤ labelLimit → WellFormed r → unsayable (st .setting .style) r ≡ false → (at : ℕ) (rest : List ℕ)

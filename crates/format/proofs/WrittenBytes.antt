@@ -126,9 +126,10 @@ codes-bytes st (station s label) w f =
     bytes-cons (0x80 + s .flags) _ (omega arith) (bytes-append _ _ (label-bytes (st .label) label _ f) (point-bytes toLe32 le32-bytes (s .place)))
 codes-bytes st (section s label) w f =
     let k = w .last-fits in
-    pick-case All _ _ _
+    bytes-append _ _ (if-bytes _ _ (date-bytes (s .date) (w .date-fits)))
+    (pick-case All _ _ _
     (λ e. bytes-cons (0x30 + s .last) _ (omega arith) (bytes-append _ _ (label-bytes (st .label) label _ f) (dimensions-bytes toLe16 le16-bytes (s .size))))
-    (λ e. bytes-cons (0x32 + s .last) _ (omega arith) (bytes-append _ _ (label-bytes (st .label) label _ f) (dimensions-bytes toLe32 le32-bytes (s .size))))
+    (λ e. bytes-cons (0x32 + s .last) _ (omega arith) (bytes-append _ _ (label-bytes (st .label) label _ f) (dimensions-bytes toLe32 le32-bytes (s .size)))))
 codes-bytes st (error t) g f = bytes-cons 0x1f _ (omega arith) (traverse-bytes toLe32 le32-bytes t)
 
 closing-bytes : (style : ℕ) → All (closing style)

@@ -74,7 +74,7 @@ abbrev pub standsAt : Position → Point → Bool
 standsAt Unset p = false
 standsAt (Stands q) p = samePoint q p
 
--- ---- the parts of a leg's codes, in their order
+-- ---- the parts of a leg's codes, in their order; a section has its date before it too
 
 -- "style code if it differs from the current style"
 unfoldable pub styleIf : ℕ → ℕ → List ℕ
@@ -126,14 +126,15 @@ codes st (leg g label) =
     styleIf (st .setting .style) (g .style)
     ++ (dateIf (st .setting .date) (g .date) ++ (moveIf (st .setting .position) (g .from) ++ lineCodes (st .label) (g .flags) (g .to) label))
 codes st (station s label) = stationCodes (st .label) s label
-codes st (section s label) = sectionCodes (st .label) s label
+-- "Writing puts a date item before a section where it differs" (#106)
+codes st (section s label) = dateIf (st .setting .date) (s .date) ++ sectionCodes (st .label) s label
 codes st (error t) = errorCodes t
 
 -- the style, date and position that they leave
 abbrev pub settingAfter : Setting → Record → Setting
 settingAfter setting (leg g label) = record { style = g .style; date = g .date; position = Stands (g .to) }
 settingAfter setting (station s label) = setting
-settingAfter setting (section s label) = setting
+settingAfter setting (section s label) = record { style = setting .style; date = s .date; position = setting .position }
 settingAfter setting (error t) = setting
 
 -- the label that they leave

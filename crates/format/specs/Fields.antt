@@ -15,12 +15,12 @@ stateOf setting l = record { label = l; setting = setting }
 abbrev pub recordOf : Fields → List ℕ → Record
 recordOf (Leg flags style date from to) label = leg (record { flags = flags; style = style; date = date; from = from; to = to }) label
 recordOf (Station s) label = station s label
-recordOf (Section s) label = section s label
+recordOf (Section last unused date size) label = section (record { last = last; date = date; size = size }) label
 recordOf (Error traverse) label = error traverse
 
--- the size of a record with a label of so many bytes in a sheet, its two length bytes included
+-- the size of a record with a label of so many bytes in a sheet that reading gives, its two length bytes included
 abbrev pub recordSize : Fields → ℕ → ℕ
 recordSize (Leg flags style date from to) len = 2 + legSize + len
 recordSize (Station s) len = 2 + stationSize + len
-recordSize (Section s) len = 2 + sectionSize + len
+recordSize (Section last unused date size) len = 2 + sectionSize + len
 recordSize (Error traverse) len = 2 + errorSize

@@ -35,10 +35,14 @@ traverseBytes bytes t = bytes (t .legs) ++ (bytes (t .total) ++ (bytes (t .e) ++
 
 -- ---- the layout: "a big-endian u16 length, then that many bytes"
 
--- "A sheet is one version byte, 01". Layout and taking apart have the sheet's version as a parameter; so far there is one, and a section
--- is where another may differ
+-- "Sheet version 2 adds date kind, day and last day to section records"; "Reading gives version 2" (#106). Layout and taking apart have the
+-- sheet's version as a parameter
 abbrev pub sheetVersion : ℕ
-sheetVersion = 1
+sheetVersion = 2
+
+-- "A sheet is one version byte, 01": version 1, which every call that is given a sheet takes too
+abbrev pub undatedVersion : ℕ
+undatedVersion = 1
 
 abbrev pub prefixed : List ℕ → List ℕ
 prefixed body = toBe16 (length body) ++ body
@@ -62,7 +66,7 @@ dateLast (Range d e) = e
 abbrev pub dateBytes : Dated → List ℕ
 dateBytes date = dateKind date ∷ (toBe16 (dateDay date) ++ toBe16 (dateLast date))
 
--- the bytes of each record's body but for its label: "(32 + label)", "(14 + label)", "(18 + label)", "(21)"
+-- the bytes of each record's body but for its label: "(32 + label)", "(14 + label)", "(23 + label)" and in version 1 "(18 + label)", "(21)"
 abbrev pub legSize : ℕ
 legSize = 32
 
@@ -70,7 +74,10 @@ abbrev pub stationSize : ℕ
 stationSize = 14
 
 abbrev pub sectionSize : ℕ
-sectionSize = 18
+sectionSize = 23
+
+abbrev pub undatedSectionSize : ℕ
+undatedSectionSize = 18
 
 abbrev pub errorSize : ℕ
 errorSize = 21
@@ -87,9 +94,13 @@ legBody g label = 1 ∷ g .flags ∷ g .style ∷ (dateBytes (g .date) ++ (point
 abbrev pub stationBody : Station → List ℕ → List ℕ
 stationBody s label = 2 ∷ s .flags ∷ (pointBytes toBe32 (s .place) ++ label)
 
--- "3 section: kind, last 0/1, L R U D as i32, label (18 + label)"
-abbrev pub sectionBody : ℕ → Section → List ℕ → List ℕ
-sectionBody version s label = 3 ∷ s .last ∷ (dimensionBytes toBe32 (s .size) ++ label)
+-- version 2: "date kind, day and last day .. straight after the last-in-passage byte (23 + label)"
+abbrev pub sectionBody : Section → List ℕ → List ℕ
+sectionBody s label = 3 ∷ s .last ∷ (dateBytes (s .date) ++ (dimensionBytes toBe32 (s .size) ++ label))
+
+-- version 1: "3 section: kind, last 0/1, L R U D as i32, label (18 + label)"; it has no place for a date
+abbrev pub undatedSectionBody : Section → List ℕ → List ℕ
+undatedSectionBody s label = 3 ∷ s .last ∷ (dimensionBytes toBe32 (s .size) ++ label)
 
 -- "4 error: kind, five i32 (21)"
 abbrev pub errorBody : Traverse → List ℕ
@@ -98,7 +109,7 @@ errorBody t = 4 ∷ traverseBytes toBe32 t
 abbrev pub recordBody : ℕ → Record → List ℕ
 recordBody version (leg g label) = legBody g label
 recordBody version (station s label) = stationBody s label
-recordBody version (section s label) = sectionBody version s label
+recordBody version (section s label) = pick (eqb version undatedVersion) (undatedSectionBody s label) (sectionBody s label)
 recordBody version (error t) = errorBody t
 
 unfoldable pub layout : ℕ → Record → List ℕ
@@ -112,7 +123,7 @@ layoutAll version (r ∷ rs) = layout version r ++ layoutAll version rs
 unfoldable pub headerLayout : Header → List ℕ
 headerLayout h = prefixed (0 ∷ h .extended ∷ (toBe16 (length (h .title)) ++ (h .title ++ h .time)))
 
--- "A sheet is one version byte, 01, then records"
+-- "A sheet is one version byte .., then records"
 unfoldable pub sheetOf : ℕ → Header → List Record → List ℕ
 sheetOf version h rs = version ∷ (headerLayout h ++ layoutAll version rs)
 
@@ -156,7 +167,11 @@ abbrev pub stationFields : List ℕ → Station
 stationFields t = record { flags = getD t 1 0; place = pointOf be32 (drop 2 t) }
 
 abbrev pub sectionFields : List ℕ → Section
-sectionFields t = record { last = getD t 1 0; size = dimensionsOf 4 be32 (drop 2 t) }
+sectionFields t = record { last = getD t 1 0; date = dateFrom (getD t 2 0) (be16 (drop 3 t)) (be16 (drop 5 t)); size = dimensionsOf 4 be32 (drop 7 t) }
+
+-- "a version 1 section having no date"
+abbrev pub undatedSectionFields : List ℕ → Section
+undatedSectionFields t = record { last = getD t 1 0; date = Undated; size = dimensionsOf 4 be32 (drop 2 t) }
 
 -- "Flags are at most 07 on a leg and 7f on a station"; "style 0-5"
 unfoldable pub legEntry : ℕ → List ℕ → Entry
@@ -168,19 +183,30 @@ legEntry n t =
 unfoldable pub stationEntry : ℕ → List ℕ → Entry
 stationEntry n t = pick (labelFits n stationSize && leb (getD t 1 0) 0x7f) (entry (2 + n) (station (stationFields t) (labelFrom n stationSize t))) flawed
 
--- "last 0/1"
-unfoldable pub sectionEntry : ℕ → ℕ → List ℕ → Entry
-sectionEntry version n t = pick (labelFits n sectionSize && leb (getD t 1 0) 1) (entry (2 + n) (section (sectionFields t) (labelFrom n sectionSize t))) flawed
+-- "last 0/1"; a date as on a leg
+unfoldable pub sectionEntry : ℕ → List ℕ → Entry
+sectionEntry n t =
+    pick (labelFits n sectionSize && (leb (getD t 1 0) 1 && goodDate (getD t 2 0) (be16 (drop 3 t)) (be16 (drop 5 t))))
+    (entry (2 + n) (section (sectionFields t) (labelFrom n sectionSize t)))
+    flawed
+
+unfoldable pub undatedSectionEntry : ℕ → List ℕ → Entry
+undatedSectionEntry n t =
+    pick (labelFits n undatedSectionSize && leb (getD t 1 0) 1) (entry (2 + n) (section (undatedSectionFields t) (labelFrom n undatedSectionSize t))) flawed
 
 unfoldable pub errorEntry : ℕ → List ℕ → Entry
 errorEntry n t = pick (eqb n errorSize) (entry (2 + n) (error (traverseOf be32 (drop 1 t)))) flawed
+
+-- by the sheet's version
+abbrev pub sectionIn : ℕ → ℕ → List ℕ → Entry
+sectionIn version n t = pick (eqb version undatedVersion) (undatedSectionEntry n t) (sectionEntry n t)
 
 -- by its kind; "A well-formed record keeps the sheet's layout and is no header"
 unfoldable pub bodyEntry : ℕ → ℕ → List ℕ → Entry
 bodyEntry version n t =
     pick (eqb (getD t 0 0) 1) (legEntry n t)
     (pick (eqb (getD t 0 0) 2) (stationEntry n t)
-    (pick (eqb (getD t 0 0) 3) (sectionEntry version n t)
+    (pick (eqb (getD t 0 0) 3) (sectionIn version n t)
     (pick (eqb (getD t 0 0) 4) (errorEntry n t)
     flawed)))
 
@@ -223,9 +249,10 @@ unfoldable pub goodHeader : ℕ → List ℕ → Bool
 goodHeader n t =
     (eqb (getD t 0 0) 0 && leb (getD t 1 0) 1) && (leb (4 + be16 (drop 2 t)) n && (goodText titleLimit (headerFrom n t .title) && goodText timeLimit (headerFrom n t .time)))
 
--- whether a sheet's version byte and header record are good: else "0 for version byte or header"
-unfoldable pub goodFront : List ℕ → Bool
-goodFront sheet = eqb (getD sheet 0 0) sheetVersion && (framed (drop 1 sheet) && (leb 4 (be16 (drop 1 sheet)) && goodHeader (be16 (drop 1 sheet)) (drop 3 sheet)))
+-- whether a sheet's version byte is the one given and its header record is good: else "0 for version byte or header"
+unfoldable pub goodFront : ℕ → List ℕ → Bool
+goodFront version sheet =
+    eqb (getD sheet 0 0) version && (framed (drop 1 sheet) && (leb 4 (be16 (drop 1 sheet)) && goodHeader (be16 (drop 1 sheet)) (drop 3 sheet)))
 
 unfoldable pub frontHeader : List ℕ → Header
 frontHeader sheet = headerFrom (be16 (drop 1 sheet)) (drop 3 sheet)
@@ -234,6 +261,13 @@ frontHeader sheet = headerFrom (be16 (drop 1 sheet)) (drop 3 sheet)
 unfoldable pub behindFront : List ℕ → List ℕ
 behindFront sheet = drop (3 + be16 (drop 1 sheet)) sheet
 
--- 12: "sheet breaks the layout"
+-- 12: "sheet breaks the layout", here the one of the version given
+unfoldable pub versionResult : ℕ → List ℕ → Result
+versionResult version sheet = pick (goodFront version sheet) (recordsOf version (behindFront sheet)) (stop (Refusal 12 0))
+
+-- "takes both versions": 01 is judged by version 1's layout, all else by version 2's, which refuses every byte but 02
+unfoldable pub versionOf : List ℕ → ℕ
+versionOf sheet = pick (eqb (getD sheet 0 0) undatedVersion) undatedVersion sheetVersion
+
 unfoldable pub sheetResult : List ℕ → Result
-sheetResult sheet = pick (goodFront sheet) (recordsOf sheetVersion (behindFront sheet)) (stop (Refusal 12 0))
+sheetResult sheet = versionResult (versionOf sheet) sheet

@@ -95,7 +95,9 @@ apply st n (Move p) = on n (moved p st)
 apply st n NoDate = on n (datedBy Undated st)
 apply st n (Date first last) = pick (badDates first last) (bad 9) (on n (datedBy (dateOf first last) st))
 apply st n (Error t) = made n (error t) st
-apply st n (Xsect last dims d added) = onLabel (labelStep (st .label) (Back d) added) (λ l. made n (section (record { last = last; size = dims }) l) (named l st))
+-- #106: "Survex puts the date in force on sections as well"
+apply st n (Xsect last dims d added) =
+    onLabel (labelStep (st .label) (Back d) added) (λ l. made n (section (record { last = last; date = st .setting .date; size = dims }) l) (named l st))
 apply st n (Label flags p d added) = onLabel (labelStep (st .label) (Back d) added) (λ l. made n (station (record { flags = flags; place = p }) l) (named l st))
 apply st n (Line flags p d added) = onLabel (labelStep (st .label) (Back d) added) (λ l. legFrom (st .setting .position) n st flags p l)
 

@@ -56,6 +56,7 @@ pub record GoodStation (s : Station) (label : List ℕ) : Type 0 where
 
 pub record GoodSection (s : Section) (label : List ℕ) : Type 0 where
   pub last-fits : s .last ≤ 1
+  pub date-fits : GoodDated (s .date)
   pub dimensions-fit : GoodDimensions (s .size)
   pub label-fits : length label ≤ labelLimit
 

@@ -9,7 +9,7 @@ use Rattle.format.specs.Bytes.{pick}
 use Rattle.format.specs.Header.{Header, fileLimit}
 use Rattle.format.specs.State.{State, start, Record}
 use Rattle.format.specs.Refusals.{Result, orElse, Outcome, outcomeOf, bufferOf}
-use Rattle.format.specs.Sheet.{frontHeader, sheetResult}
+use Rattle.format.specs.Sheet.{sheetVersion, sheetOf, frontHeader, sheetResult}
 use Rattle.format.specs.Codes.{headerCodes, codesLimit, codes, after, closing, unsayable}
 use Rattle.format.specs.declared.Verdict.{Verdict}
 use Rattle.format.specs.declared.Verdict.the-variants.{Good, Refusal}
@@ -94,3 +94,7 @@ writeOutcome w sheet room = writtenOutcome w (frontHeader sheet) (sheetResult sh
 
 unfoldable pub writeBuffer : Writer → List ℕ → List ℕ → List ℕ
 writeBuffer w sheet old = bufferOf (writeOutcome w sheet (length old)) (fileOf w (frontHeader sheet) (sheetResult sheet .records)) old
+
+-- "A version 1 sheet, once written, reads back as its version 2 twin": the version 2 sheet of the same header and records
+unfoldable pub twin : List ℕ → List ℕ
+twin sheet = sheetOf sheetVersion (frontHeader sheet) (sheetResult sheet .records)

@@ -15,6 +15,12 @@ pub const TIME_LIMIT: usize = 64;
 
 pub const FILE_LIMIT: usize = 16777216;
 
+// The version byte of the sheets that reading gives, and of the older ones, whose
+// cross-sections have no date.
+pub const SHEET_VERSION: u8 = 2;
+
+pub const UNDATED_VERSION: u8 = 1;
+
 // The style that is not said.
 pub const NOT_SAID: u8 = 5;
 
@@ -143,15 +149,18 @@ pub struct Station {
     pub place: Point,
 }
 
-// A cross-section but for its label: whether it is the last in its passage, and
-// the passage's dimensions.
+// A cross-section but for its label: whether it is the last in its passage, when it
+// was measured, and the passage's dimensions.
 pub struct Section {
     pub last: u8,
+    pub date: Dated,
     pub size: Dimensions,
 }
 
-// A record's fields but for its label, which the code keeps beside them. A leg's
-// stand by themselves: as a struct they would be copied once more in reading.
+// A record's fields but for its label, which the code keeps beside them. A leg's and a
+// cross-section's stand by themselves: as structs, with a date in them, they would be
+// copied once more in reading. For the same end the unused byte puts the date of a
+// cross-section where a leg has its own.
 pub enum Fields {
     Leg {
         flags: u8,
@@ -164,7 +173,10 @@ pub enum Fields {
         station: Station,
     },
     Section {
-        section: Section,
+        last: u8,
+        unused: u8,
+        date: Dated,
+        size: Dimensions,
     },
     Error {
         traverse: Traverse,

@@ -35,7 +35,7 @@ pub record Tells (r : Step) (b : List ℕ) (x : Next) : Type 0 where
 -- what an item of n bytes comes to once it has the label l
 abbrev pub madeOf : Body → State → ℕ → List ℕ → Next
 madeOf Only st n l = on n (named l st)
-madeOf (SectionBody last size) st n l = made n (section (record { last = last; size = size }) l) (named l st)
+madeOf (SectionBody last size) st n l = made n (section (record { last = last; date = st .setting .date; size = size }) l) (named l st)
 madeOf (StationBody flags place) st n l = made n (station (record { flags = flags; place = place }) l) (named l st)
 madeOf (LineBody flags place) st n l = legFrom (st .setting .position) n st flags place l
 

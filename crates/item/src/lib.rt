@@ -9,7 +9,6 @@ use format::Fields;
 use format::LABEL_LIMIT;
 use format::Point;
 use format::Position;
-use format::Section;
 use format::Setting;
 use format::Station;
 use label::Relabelled;
@@ -164,6 +163,7 @@ fn leg_step(size: usize, len: usize, setting: Setting, flags: u8, place: Point) 
 fn made_step(size: usize, len: usize, setting: Setting, body: Body) -> Step
     ensures { λ r. ⌜ Does r (λ b. madeOf body (stateOf setting []) size (take len b)) len ⌝ }
 {
+    let in_force = setting.date;
     match body {
         Body::Only => Step::On { size, len, setting },
         Body::Section { last, size: dims } => Step::Made {
@@ -171,7 +171,10 @@ fn made_step(size: usize, len: usize, setting: Setting, body: Body) -> Step
             len,
             setting,
             fields: Fields::Section {
-                section: Section { last, size: dims },
+                last,
+                unused: 0,
+                date: in_force,
+                size: dims,
             },
         },
         Body::Station { flags, place } => Step::Made {

@@ -5,7 +5,7 @@ use Prim.Native.Nat.{ℕ, _+_, _-_, _*_, _≤_, _<_}
 use native.Mathlib.Omega.{arith}
 use lib.ListN.{length, length-append}
 use Rattle.format.specs.State.{Record, leg, station, section, error}
-use Rattle.format.specs.Sheet.{sheetVersion, layout}
+use Rattle.format.specs.Sheet.{layout}
 use Rattle.format.specs.WellFormed.{GoodPoint, GoodDimensions, GoodTraverse, GoodDated, WellFormed}
 use Rattle.format.specs.declared.Point.{Point}
 use Rattle.format.specs.declared.Dimensions.{Dimensions}
@@ -13,7 +13,7 @@ use Rattle.format.specs.declared.Traverse.{Traverse}
 use Rattle.format.specs.declared.Dated.{Dated}
 use Rattle.format.specs.declared.Dated.the-variants.{Undated, Day, Range}
 use Rattle.format.proofs.Basics.{pick-case}
-use Rattle.format.proofs.SheetLaws.{layout-leg, layout-station, layout-section, layout-error}
+use Rattle.format.proofs.SheetLaws.{layout-leg, layout-station, section-least, layout-error}
 use Rattle.listing.specs.Text.{decimalText, signedText, escapedByte, escaped, textOf, spaced, line}
 use Rattle.listing.specs.Lines.{noneWord, legWord, stationWord, sectionWord, errorWord, dateText, pointWords, dimensionWords, traverseWords, legLine, stationLine, sectionLine, errorLine, recordLine}
 use Rattle.listing.proofs.Digits.{digits-few}
@@ -94,24 +94,25 @@ leg-few flags style date hf hs g =
     let c = date-few date g in
     simp length-append (omega arith)
 
-pub record-short : (r : Record) → WellFormed r → length (recordLine r) ≤ 4 * length (layout sheetVersion r)
+pub record-short : (version : ℕ) (r : Record) → WellFormed r → length (recordLine r) ≤ 4 * length (layout version r)
 unfolding legWord stationWord sectionWord errorWord
-record-short (leg g label) w =
+record-short version (leg g label) w =
     let a = leg-few (g .flags) (g .style) (g .date) (w .flags-fit) (w .style-fits) (w .date-fits) in
     let b = point-few (g .from) (w .from-fits) in
     let c = point-few (g .to) (w .to-fits) in
     let d = text-few label in
-    rw (← leg-parts g label) (simp length-append (omega (arith, layout-leg g label)))
-record-short (station s label) w =
+    rw (← leg-parts g label) (simp length-append (omega (arith, layout-leg version g label)))
+record-short version (station s label) w =
     let a = digits-few 2 (s .flags) (omega (arith, w .flags-fit)) in
     let b = point-few (s .place) (w .place-fits) in
     let c = text-few label in
-    rw (← station-parts s label {n = s .flags} refl) (simp length-append (omega (arith, layout-station s label)))
-record-short (section s label) w =
+    rw (← station-parts s label {n = s .flags} refl) (simp length-append (omega (arith, layout-station version s label)))
+record-short version (section s label) w =
     let a = digits-few 0 (s .last) (omega (arith, w .last-fits)) in
     let b = dimensions-few (s .size) (w .dimensions-fit) in
     let c = text-few label in
-    rw (← section-parts s label {n = s .last} refl) (simp length-append (omega (arith, layout-section s label)))
-record-short (error t) g =
+    let d = date-few (s .date) (w .date-fits) in
+    rw (← section-parts s label {n = s .last} refl) (simp length-append (omega (arith, section-least version s label)))
+record-short version (error t) g =
     let a = traverse-few t g in
-    rw (← error-parts t) (simp length-append (omega (arith, layout-error t)))
+    rw (← error-parts t) (simp length-append (omega (arith, layout-error version t)))

@@ -58,7 +58,7 @@ unfolding stationLine line spaced
 station-parts s label e = simp (e, append-assoc, append-nil)
 
 pub section-parts : (s : Section) (label : List ℕ) {n : ℕ} → n ≡ s .last
-    → sectionWord ++ number n ++ spaced (dimensionWords (s .size)) ++ lastName label ≡ sectionLine s label
+    → sectionWord ++ number n ++ word (dateText (s .date)) ++ spaced (dimensionWords (s .size)) ++ lastName label ≡ sectionLine s label
 unfolding sectionLine line spaced
 section-parts s label e = simp (e, append-assoc, append-nil)
 

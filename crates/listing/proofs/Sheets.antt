@@ -11,7 +11,7 @@ use lib.Seq.{drop-drop}
 use borrow.Rule.Slice.PartAt.{part-to-end}
 use Rattle.format.specs.Bytes.{pick, over, Bytes}
 use Rattle.format.specs.State.{Record}
-use Rattle.format.specs.Sheet.{sheetVersion, Entry, flawed, entry, entryOf, framed, recordsFrom, recordsOf, goodFront, frontHeader, behindFront, sheetResult}
+use Rattle.format.specs.Sheet.{Entry, flawed, entry, entryOf, framed, recordsFrom, recordsOf, goodFront, frontHeader, behindFront, versionResult, versionOf, sheetResult}
 use Rattle.format.specs.Refusals.{Result}
 use Rattle.format.specs.declared.Verdict.the-variants.{Good, Refusal}
 use Rattle.format.specs.Label.{labelLimit}
@@ -28,8 +28,8 @@ use Rattle.listing.proofs.Lengths.{record-short}
 
 -- ---- the record at a place, as `read_entry` tells it of the part from there on
 
-abbrev pub EntryAt : List ℕ → ℕ → Found → Type 0
-EntryAt sheet at r = EntryTold r (take (length sheet - at) (drop at sheet))
+abbrev pub EntryAt : ℕ → List ℕ → ℕ → Found → Type 0
+EntryAt v sheet at r = EntryTold r v (take (length sheet - at) (drop at sheet))
 
 -- where it stands, and how long its label is
 pub record EntryPlace (sheet : List ℕ) (at n k : ℕ) : Type 0 where
@@ -38,31 +38,31 @@ pub record EntryPlace (sheet : List ℕ) (at n k : ℕ) : Type 0 where
   pub behind : at + n ≤ length sheet
   pub label-short : length (take (n - k) (drop k (take (length sheet - at) (drop at sheet)))) ≤ labelLimit
 
-module _ (sheet : List ℕ) (at : ℕ) where
-  pub entry-none : EntryAt sheet at Flawed → entryOf sheetVersion (drop at sheet) ≡ flawed
+module _ (v : ℕ) (sheet : List ℕ) (at : ℕ) where
+  pub entry-none : EntryAt v sheet at Flawed → entryOf v (drop at sheet) ≡ flawed
   entry-none T = sym (simp part-to-end at (T .same))
 
-  module _ (n k : ℕ) (f : Fields) (T : EntryAt sheet at (Whole n f k)) where
-    pub entry-at : entryOf sheetVersion (drop at sheet) ≡ entry n (recordOf f (labelOf n k (take (length sheet - at) (drop at sheet))))
+  module _ (n k : ℕ) (f : Fields) (T : EntryAt v sheet at (Whole n f k)) where
+    pub entry-at : entryOf v (drop at sheet) ≡ entry n (recordOf f (labelOf n k (take (length sheet - at) (drop at sheet))))
     entry-at = rw part-to-end (sym (simp part-to-end at (T .same)))
 
     pub entry-place : at ≤ length sheet → EntryPlace sheet at n k
     entry-place h =
         let i = T .inside in
         let e : length (take (length sheet - at) (drop at sheet)) ≡ length sheet - at = ap length (part-to-end sheet at) ∙ length-drop at sheet in
-        record { least = entry-sized (drop at sheet) entry-at .least; label-from = i .from-within; behind = omega (arith, i .within); label-short = simp length-take (omega (arith, i .short)) }
+        record { least = entry-sized v (drop at sheet) entry-at .least; label-from = i .from-within; behind = omega (arith, i .within); label-short = simp length-take (omega (arith, i .short)) }
 
 -- ---- the records from a place on
 
-left-none : (at : ℕ) (s : List ℕ) (n : ℕ) → entryOf sheetVersion s ≡ flawed → recordsFrom sheetVersion at s n .records ≡ []
-left-none at [] n e = ap (λ (x : Result). x .records) (records-none at n)
-left-none at (b ∷ s) n e = ap (λ (x : Result). x .records) (records-more at (b ∷ s) n (omega arith)) ∙ rw e
+left-none : (v at : ℕ) (s : List ℕ) (n : ℕ) → entryOf v s ≡ flawed → recordsFrom v at s n .records ≡ []
+left-none v at [] n e = ap (λ (x : Result). x .records) (records-none v at n)
+left-none v at (b ∷ s) n e = ap (λ (x : Result). x .records) (records-more v at (b ∷ s) n (omega arith)) ∙ rw e
 
-left-more : (at : ℕ) (s : List ℕ) (n : ℕ) {k : ℕ} {r : Record} → entryOf sheetVersion s ≡ entry k r
-    → recordsFrom sheetVersion at s n .records ≡ r ∷ recordsFrom sheetVersion (at + k) (drop k s) (n + 1) .records
-left-more at s n e =
-    let z = entry-sized s e in
-    ap (λ (x : Result). x .records) (records-more at s n (omega (arith, z .least, z .inside))) ∙ rw e
+left-more : (v at : ℕ) (s : List ℕ) (n : ℕ) {k : ℕ} {r : Record} → entryOf v s ≡ entry k r
+    → recordsFrom v at s n .records ≡ r ∷ recordsFrom v (at + k) (drop k s) (n + 1) .records
+left-more v at s n e =
+    let z = entry-sized v s e in
+    ap (λ (x : Result). x .records) (records-more v at s n (omega (arith, z .least, z .inside))) ∙ rw e
 
 rest-none : (n : ℕ) → restOf n [] ≡ endLine n
 unfolding restOf recordLines
@@ -76,30 +76,30 @@ rest-more n r rs =
 
 -- ---- so far, records lines have been put, from a place of the sheet to another; with those that are left they are all
 
-pub record Listed (sheet : List ℕ) (from : ℕ) (old : List ℕ) (begin : ℕ) (new : List ℕ) (at k records : ℕ) : Type 0 where
+pub record Listed (v : ℕ) (sheet : List ℕ) (from : ℕ) (old : List ℕ) (begin : ℕ) (new : List ℕ) (at k records : ℕ) : Type 0 where
   pub so-far : List ℕ
   pub place : ℕ
   pub inside : at ≤ length sheet
   pub few : records ≤ at
   pub put : Put (4 * at) so-far old begin k new
-  pub same : so-far ++ restOf records (recordsFrom sheetVersion place (drop at sheet) records .records) ≡ restOf 0 (recordsOf sheetVersion (drop from sheet) .records)
+  pub same : so-far ++ restOf records (recordsFrom v place (drop at sheet) records .records) ≡ restOf 0 (recordsOf v (drop from sheet) .records)
 
-pub listed-none : (sheet : List ℕ) (from : ℕ) (old : List ℕ) (begin : ℕ) → from ≤ length sheet → Listed sheet from old begin old from begin 0
+pub listed-none : (v : ℕ) (sheet : List ℕ) (from : ℕ) (old : List ℕ) (begin : ℕ) → from ≤ length sheet → Listed v sheet from old begin old from begin 0
 unfolding recordsOf
-listed-none sheet from old begin h =
+listed-none v sheet from old begin h =
     record { so-far = []; place = 0; inside = h; few = omega arith; put = put-as (put-none old begin) (omega arith) refl; same = refl }
 
-module _ {sheet old new : List ℕ} {from begin at k records : ℕ} (L : Listed sheet from old begin new at k records) where
-  pub listed-more : Bytes sheet → {size k′ : ℕ} {r : Record} {new′ : List ℕ} → entryOf sheetVersion (drop at sheet) ≡ entry size r → Put lineLimit (recordLine r) new k k′ new′
-      → Listed sheet from old begin new′ (at + size) k′ (records + 1)
+module _ {v : ℕ} {sheet old new : List ℕ} {from begin at k records : ℕ} (L : Listed v sheet from old begin new at k records) where
+  pub listed-more : Bytes sheet → {size k′ : ℕ} {r : Record} {new′ : List ℕ} → entryOf v (drop at sheet) ≡ entry size r → Put lineLimit (recordLine r) new k k′ new′
+      → Listed v sheet from old begin new′ (at + size) k′ (records + 1)
   listed-more b {size} {k′} {r} {new′} e q =
-      let z = entry-sized (drop at sheet) e in
-      let w = entry-read (drop at sheet) (bytes-drop sheet b at) e in
-      let f : length (recordLine r) ≤ 4 * size = (let g = record-short r (w .2) in omega (arith, w .1)) in
+      let z = entry-sized v (drop at sheet) e in
+      let w = entry-read v (drop at sheet) (bytes-drop sheet b at) e in
+      let f : length (recordLine r) ≤ 4 * size = (let g = record-short v r (w .2) in omega (arith, w .1)) in
       let l = length-drop at sheet in
-      let rs = recordsFrom sheetVersion (L .place + size) (drop (at + size) sheet) (records + 1) .records in
+      let rs = recordsFrom v (L .place + size) (drop (at + size) sheet) (records + 1) .records in
       let d : drop size (drop at sheet) ≡ drop (at + size) sheet = drop-drop size at sheet in
-      let m : recordsFrom sheetVersion (L .place) (drop at sheet) records .records ≡ r ∷ rs = rw d at (left-more (L .place) (drop at sheet) records e) in
+      let m : recordsFrom v (L .place) (drop at sheet) records .records ≡ r ∷ rs = rw d at (left-more v (L .place) (drop at sheet) records e) in
       record {
         so-far = L .so-far ++ recordLine r;
         place = L .place + size;
@@ -109,31 +109,31 @@ module _ {sheet old new : List ℕ} {from begin at k records : ℕ} (L : Listed 
         same = append-assoc (L .so-far) (recordLine r) (restOf (records + 1) rs) ∙ rw (← rest-more records r rs, ← m) (L .same);
       }
 
-  pub listed-all : {r : ℕ} {new′ : List ℕ} → entryOf sheetVersion (drop at sheet) ≡ flawed → Put lineLimit (endLine records) new k r new′
-      → Put (4 * length sheet + lineLimit) (restOf 0 (recordsOf sheetVersion (drop from sheet) .records)) old begin r new′
+  pub listed-all : {r : ℕ} {new′ : List ℕ} → entryOf v (drop at sheet) ≡ flawed → Put lineLimit (endLine records) new k r new′
+      → Put (4 * length sheet + lineLimit) (restOf 0 (recordsOf v (drop from sheet) .records)) old begin r new′
   listed-all e q =
       put-as (put-then (L .put) q) (omega (arith, L .inside))
-      (rw (← rest-none records, ← left-none (L .place) (drop at sheet) records e) (L .same))
+      (rw (← rest-none records, ← left-none v (L .place) (drop at sheet) records e) (L .same))
 
 -- ---- the verdict on a sheet
 
 -- so far the records from a place of the sheet to another are good; the verdict on those that are left is that on all
-pub record JudgedTo (sheet : List ℕ) (from at records : ℕ) : Type 0 where
+pub record JudgedTo (v : ℕ) (sheet : List ℕ) (from at records : ℕ) : Type 0 where
   pub place : ℕ
   pub inside : at ≤ length sheet
   pub few : records ≤ at
-  pub same : recordsFrom sheetVersion place (drop at sheet) records .verdict ≡ recordsOf sheetVersion (drop from sheet) .verdict
+  pub same : recordsFrom v place (drop at sheet) records .verdict ≡ recordsOf v (drop from sheet) .verdict
 
-pub judged-none : (sheet : List ℕ) (from : ℕ) → from ≤ length sheet → JudgedTo sheet from from 0
+pub judged-none : (v : ℕ) (sheet : List ℕ) (from : ℕ) → from ≤ length sheet → JudgedTo v sheet from from 0
 unfolding recordsOf
-judged-none sheet from h = record { place = 0; inside = h; few = omega arith; same = refl }
+judged-none v sheet from h = record { place = 0; inside = h; few = omega arith; same = refl }
 
-module _ {sheet : List ℕ} {from at records : ℕ} (J : JudgedTo sheet from at records) where
-  pub judged-more : {size : ℕ} {r : Record} → entryOf sheetVersion (drop at sheet) ≡ entry size r → JudgedTo sheet from (at + size) (records + 1)
+module _ {v : ℕ} {sheet : List ℕ} {from at records : ℕ} (J : JudgedTo v sheet from at records) where
+  pub judged-more : {size : ℕ} {r : Record} → entryOf v (drop at sheet) ≡ entry size r → JudgedTo v sheet from (at + size) (records + 1)
   judged-more {size} e =
-      let z = entry-sized (drop at sheet) e in
+      let z = entry-sized v (drop at sheet) e in
       let l = length-drop at sheet in
-      let m = ap (λ (x : Result). x .verdict) (records-more (J .place) (drop at sheet) records (omega (arith, z .least, z .inside))) in
+      let m = ap (λ (x : Result). x .verdict) (records-more v (J .place) (drop at sheet) records (omega (arith, z .least, z .inside))) in
       record {
         place = J .place + size;
         inside = omega (arith, z .inside, J .inside);
@@ -141,34 +141,35 @@ module _ {sheet : List ℕ} {from at records : ℕ} (J : JudgedTo sheet from at 
         same = rw (← drop-drop size at sheet) (sym (rw e at m)) ∙ J .same;
       }
 
-  pub judged-good : at ≡ length sheet → Good ≡ recordsOf sheetVersion (drop from sheet) .verdict
+  pub judged-good : at ≡ length sheet → Good ≡ recordsOf v (drop from sheet) .verdict
   judged-good h =
       let d : drop at sheet ≡ [] = drop-of-length-le sheet {i = at} (omega arith) in
-      sym (ap (λ (x : List ℕ). recordsFrom sheetVersion (J .place) x records .verdict) d ∙ ap (λ (x : Result). x .verdict) (records-none (J .place) records)) ∙ J .same
+      sym (ap (λ (x : List ℕ). recordsFrom v (J .place) x records .verdict) d ∙ ap (λ (x : Result). x .verdict) (records-none v (J .place) records)) ∙ J .same
 
-  pub judged-bad : (at ≡ length sheet → ⊥) → entryOf sheetVersion (drop at sheet) ≡ flawed → Refusal 12 records ≡ recordsOf sheetVersion (drop from sheet) .verdict
+  pub judged-bad : (at ≡ length sheet → ⊥) → entryOf v (drop at sheet) ≡ flawed → Refusal 12 records ≡ recordsOf v (drop from sheet) .verdict
   judged-bad h e =
       let l = length-drop at sheet in
-      let m = ap (λ (x : Result). x .verdict) (records-more (J .place) (drop at sheet) records (omega (arith, J .inside, h))) in
+      let m = ap (λ (x : Result). x .verdict) (records-more v (J .place) (drop at sheet) records (omega (arith, J .inside, h))) in
       sym (rw e at m) ∙ J .same
 
-module _ (sheet : List ℕ) where
-  pub verdict-none : goodFront sheet ≡ false → Refusal 12 0 ≡ sheetResult sheet .verdict
-  unfolding sheetResult pick
-  verdict-none e = simp e
+-- v is the version that the sheet is judged by
+module _ (v : ℕ) (sheet : List ℕ) (q : v ≡ versionOf sheet) where
+  pub verdict-none : goodFront v sheet ≡ false → Refusal 12 0 ≡ sheetResult sheet .verdict
+  unfolding sheetResult versionResult pick
+  verdict-none e = rw (← q) (simp e)
 
-  pub verdict-some : {extended k m : ℕ} → Fronted sheet extended k m → recordsOf sheetVersion (drop (7 + k + m) sheet) .verdict ≡ sheetResult sheet .verdict
-  unfolding sheetResult pick
-  verdict-some F = simp (F .good, F .behind)
+  pub verdict-some : {extended k m : ℕ} → Fronted v sheet extended k m → recordsOf v (drop (7 + k + m) sheet) .verdict ≡ sheetResult sheet .verdict
+  unfolding sheetResult versionResult pick
+  verdict-some F = rw (← q) (simp (F .good, F .behind))
 
 -- ---- the whole listing
 
-module _ (sheet : List ℕ) (version : ℕ) where
-  pub whole-never : goodFront sheet ≡ false → sheetResult sheet .verdict ≡ Good → ⊥
-  whole-never e g = let q : Refusal 12 0 ≡ Good = verdict-none sheet e ∙ g in let z : _≡_ {A = ℕ} 0 1 = cc in omega arith
+module _ (v : ℕ) (sheet : List ℕ) (q : v ≡ versionOf sheet) (version : ℕ) where
+  pub whole-never : goodFront v sheet ≡ false → sheetResult sheet .verdict ≡ Good → ⊥
+  whole-never e g = let p : Refusal 12 0 ≡ Good = verdict-none v sheet q e ∙ g in let z : _≡_ {A = ℕ} 0 1 = cc in omega arith
 
   -- the parts of the sheet as the code cuts them
-  module _ {extended k m : ℕ} (F : Fronted sheet extended k m) where
+  module _ {extended k m : ℕ} (F : Fronted v sheet extended k m) where
     abbrev titlePart : List ℕ
     titlePart = take (7 + k - 7) (drop 7 sheet)
 
@@ -187,6 +188,6 @@ module _ (sheet : List ℕ) (version : ℕ) where
     pub time-short : length timePart ≤ 64
     time-short = rw time-size (simp length-take (omega (arith, F .time-short)))
 
-    pub whole-some : headerLine version (record { extended = extended; title = titlePart; time = timePart }) ++ restOf 0 (recordsOf sheetVersion (drop (7 + k + m) sheet) .records) ≡ listingOf version (frontHeader sheet) (sheetResult sheet .records)
-    unfolding sheetResult listingOf pick
-    whole-some = rw (title-size, time-size) (simp (F .good, F .header, F .behind))
+    pub whole-some : headerLine version (record { extended = extended; title = titlePart; time = timePart }) ++ restOf 0 (recordsOf v (drop (7 + k + m) sheet) .records) ≡ listingOf version (frontHeader sheet) (sheetResult sheet .records)
+    unfolding sheetResult versionResult listingOf pick
+    whole-some = rw (title-size, time-size, ← q) (simp (F .good, F .header, F .behind))

@@ -90,9 +90,9 @@ legLine g label =
 unfoldable pub stationLine : Station → List ℕ → List ℕ
 stationLine s label = line stationWord (decimalText (s .flags) ∷ (pointWords (s .place) ++ textOf label ∷ []))
 
--- "`xsect` last, L R U D, name"
+-- "`xsect` last, L R U D, name"; "The lister prints the date after the last-in-passage number" (#106)
 unfoldable pub sectionLine : Section → List ℕ → List ℕ
-sectionLine s label = line sectionWord (decimalText (s .last) ∷ (dimensionWords (s .size) ++ textOf label ∷ []))
+sectionLine s label = line sectionWord (decimalText (s .last) ∷ dateText (s .date) ∷ (dimensionWords (s .size) ++ textOf label ∷ []))
 
 -- "`error` and five numbers"
 unfoldable pub errorLine : Traverse → List ℕ

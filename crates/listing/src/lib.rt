@@ -15,6 +15,7 @@ use sheet::Entry;
 use sheet::Front;
 use sheet::read_entry;
 use sheet::read_front;
+use sheet::version_of;
 use wire::same_bytes;
 ghost use mathlib.Core.Path.{_≡_};
 ghost use mathlib.Core.List.{[], _∷_, _++_};
@@ -25,7 +26,7 @@ ghost use Rattle.listing.specs.Lines.{legWord, versionWord, titleWord, d
 ghost use Rattle.listing.specs.Puts.{Put, Wrote, lineLimit};
 ghost use Rattle.listing.specs.Printed.{printedText, printedLimit};
 ghost use Rattle.format.specs.Fields.{recordOf};
-ghost use Rattle.format.specs.Sheet.{sheetVersion, recordsOf, frontHeader, sheetResult};
+ghost use Rattle.format.specs.Sheet.{recordsOf, frontHeader, sheetResult};
 ghost use Rattle.format.specs.declared.Verdict.the-variants.{Good};
 ghost use Rattle.format.specs.Label.{labelLimit};
 ghost use Rattle.format.specs.Header.{titleLimit, timeLimit};
@@ -293,8 +294,10 @@ fn section_line(out: &mut [u8], at: usize, section: Section, label: &[u8]) -> us
     requires { ⌜ (at < 2 ^ 58) × (length (now label) ≤ labelLimit) ⌝ }
     ensures { λ r. ⌜ Put lineLimit (sectionLine section (now (label .entry))) (now (out .entry)) at r (now (out .exit)) ⌝ }
 {
+    let day = section.date;
     let k = word(out, at, b"xsect");
     let k = number(out, k, index(section.last));
+    let k = date(out, k, day);
     let k = dimensions(out, k, section.size);
     last_name(out, k, label)
 }
@@ -332,7 +335,19 @@ fn record_line(out: &mut [u8], at: usize, fields: Fields, label: &[u8]) -> usize
             leg_line(out, at, leg, label)
         }
         Fields::Station { station } => station_line(out, at, station, label),
-        Fields::Section { section } => section_line(out, at, section, label),
+        Fields::Section {
+            last,
+            unused: _,
+            date: day,
+            size,
+        } => {
+            let section = Section {
+                last,
+                date: day,
+                size,
+            };
+            section_line(out, at, section, label)
+        }
         Fields::Error { traverse: t } => error_line(out, at, t),
     }
 }
@@ -387,17 +402,18 @@ fn refusal_line(out: &mut [u8], at: usize, refused: u8, place: usize) -> usize
     last_number(out, k, place)
 }
 
-// Puts the lines of the records from a place of the sheet on, and the last line.
-fn rest_lines(sheet: &[u8], from: usize, out: &mut [u8], begin: usize) -> usize
+// Puts the lines of the records from a place of the sheet on, whose version is given, and
+// the last line.
+fn rest_lines(sheet: &[u8], layout: u8, from: usize, out: &mut [u8], begin: usize) -> usize
     requires { ⌜ (from ≤ length (now sheet)) × (length (now sheet) < listingLimit) × (begin ≤ lineLimit) ⌝ }
-    ensures { λ r. ⌜ Put (4 * length (now (sheet .entry)) + lineLimit) (restOf 0 (recordsOf sheetVersion (drop from (now (sheet .entry))) .records)) (now (out .entry)) begin r (now (out .exit)) ⌝ }
+    ensures { λ r. ⌜ Put (4 * length (now (sheet .entry)) + lineLimit) (restOf 0 (recordsOf layout (drop from (now (sheet .entry))) .records)) (now (out .entry)) begin r (now (out .exit)) ⌝ }
 {
     let mut at = from;
     let mut k = begin;
     let mut records: usize = 0;
     loop {
         let rest = &sheet[at..];
-        let found = read_entry(rest);
+        let found = read_entry(rest, layout);
         match found {
             Entry::Flawed => {
                 return end_line(out, k, records);
@@ -416,9 +432,9 @@ fn rest_lines(sheet: &[u8], from: usize, out: &mut [u8], begin: usize) -> usize
 }
 
 // What the writer says of the records from a place of the sheet on.
-fn records_verdict(sheet: &[u8], from: usize) -> Verdict
+fn records_verdict(sheet: &[u8], layout: u8, from: usize) -> Verdict
     requires { ⌜ from ≤ length (now sheet) ⌝ }
-    ensures { λ r. ⌜ r ≡ recordsOf sheetVersion (drop from (now (sheet .entry))) .verdict ⌝ }
+    ensures { λ r. ⌜ r ≡ recordsOf layout (drop from (now (sheet .entry))) .verdict ⌝ }
 {
     let mut at = from;
     let mut record: usize = 0;
@@ -426,7 +442,7 @@ fn records_verdict(sheet: &[u8], from: usize) -> Verdict
         if at == sheet.len() {
             return Verdict::Good;
         }
-        let found = read_entry(&sheet[at..]);
+        let found = read_entry(&sheet[at..], layout);
         match found {
             Entry::Flawed => {
                 return Verdict::Refusal {
@@ -450,7 +466,8 @@ fn records_verdict(sheet: &[u8], from: usize) -> Verdict
 fn sheet_verdict(sheet: &[u8]) -> Verdict
     ensures { λ r. ⌜ r ≡ sheetResult (now (sheet .entry)) .verdict ⌝ }
 {
-    let front = read_front(sheet);
+    let layout = version_of(sheet);
+    let front = read_front(sheet, layout);
     match front {
         Front::Flawed => Verdict::Refusal {
             number: LAYOUT_BROKEN,
@@ -460,7 +477,7 @@ fn sheet_verdict(sheet: &[u8]) -> Verdict
             extended: _,
             title,
             time,
-        } => records_verdict(sheet, 7 + title + time),
+        } => records_verdict(sheet, layout, 7 + title + time),
     }
 }
 
@@ -469,7 +486,8 @@ fn sheet_lines(sheet: &[u8], version: u8, out: &mut [u8]) -> usize
     requires { ⌜ (length (now sheet) < listingLimit) × (sheetResult (now sheet) .verdict ≡ Good) ⌝ }
     ensures { λ r. ⌜ Put (4 * length (now (sheet .entry)) + 2 * lineLimit) (listingOf version (frontHeader (now (sheet .entry))) (sheetResult (now (sheet .entry)) .records)) (now (out .entry)) 0 r (now (out .exit)) ⌝ }
 {
-    let front = read_front(sheet);
+    let layout = version_of(sheet);
+    let front = read_front(sheet, layout);
     match front {
         Front::Flawed => 0,
         Front::Whole {
@@ -487,7 +505,7 @@ fn sheet_lines(sheet: &[u8], version: u8, out: &mut [u8]) -> usize
                 &sheet[7..behind],
                 &sheet[behind..from],
             );
-            rest_lines(sheet, from, out, k)
+            rest_lines(sheet, layout, from, out, k)
         }
     }
 }

@@ -21,6 +21,7 @@ use Rattle.format.specs.declared.Position.{Position}
 use Rattle.format.specs.declared.Position.the-variants.{Unset, Stands}
 use Rattle.format.proofs.LabelLaws.{step-short, step-long, step-fits, back-lacks, back-keeps}
 use Rattle.format.proofs.ApplyLaws.{style-other as style-others, style-first as style-firsts, style-end as style-ends, date-before as dates-before, date-late as dates-late, date-on as dates-on}
+use Rattle.format.specs.Sheet.{sheetVersion}
 use Rattle.format.proofs.SheetLaws.{layout-leg, layout-station, layout-section, layout-error}
 use Rattle.kind.specs.Kinds.{tailOf, makeOf, labelledBy, partThere, newItem}
 use Rattle.kind.specs.declared.Tail.{Tail}
@@ -69,7 +70,7 @@ pub comes-undated : Comes (Passes 1) (λ st. apply st 1 noDateItem)
 comes-undated len style placed st K = record { after = datedBy Undated st; same = refl; keeps = record { label-is = K .label-is; style-is = K .style-is; position-is = K .position-is } }
 
 pub comes-error : (t : Traverse) (len style : ℕ) (placed : Bool) → ComesIn (Made 21 len 23) len style placed (λ st. apply st 21 (errorOf t))
-comes-error t len style placed st K = record { after = st; gives = error t; same = refl; size = layout-error t; keeps = K }
+comes-error t len style placed st K = record { after = st; gives = error t; same = refl; size = layout-error sheetVersion t; keeps = K }
 
 -- ---- a date
 
@@ -97,14 +98,14 @@ module _ (placed : Bool) (n m : ℕ) where
   renamed : (st : State) (len style : ℕ) (l : List ℕ) → Keeps st len style placed → length l ≡ m → Keeps (named l st) m style placed
   renamed st len style l K h = record { label-is = h; style-is = K .style-is; position-is = K .position-is }
 
-  pub tail-short : (last : ℕ) → Tailed (Made n m (20 + m)) (Short last) placed n m
+  pub tail-short : (last : ℕ) → Tailed (Made n m (25 + m)) (Short last) placed n m
   tail-short last st len style K rest l h = record { after = named l st; gives = _; same = refl; size = layout-section _ l ∙ omega arith; keeps = renamed st len style l K h }
 
-  pub tail-long : (last : ℕ) → Tailed (Made n m (20 + m)) (Long last) placed n m
+  pub tail-long : (last : ℕ) → Tailed (Made n m (25 + m)) (Long last) placed n m
   tail-long last st len style K rest l h = record { after = named l st; gives = _; same = refl; size = layout-section _ l ∙ omega arith; keeps = renamed st len style l K h }
 
   pub tail-station : (flags : ℕ) → Tailed (Made n m (16 + m)) (Station flags) placed n m
-  tail-station flags st len style K rest l h = record { after = named l st; gives = _; same = refl; size = layout-station _ l ∙ omega arith; keeps = renamed st len style l K h }
+  tail-station flags st len style K rest l h = record { after = named l st; gives = _; same = refl; size = layout-station sheetVersion _ l ∙ omega arith; keeps = renamed st len style l K h }
 
   pub tail-unset : (flags : ℕ) → placed ≡ false → Tailed (Bad 8) (Line flags) placed n m
   tail-unset flags e st len style K rest l h = go (st .setting .position) (K .position-is ∙ e)
@@ -123,7 +124,7 @@ module _ (placed : Bool) (n m : ℕ) where
             after = moved (pointOf le32 rest) (named l st);
             gives = leg (record { flags = flags; style = st .setting .style; date = st .setting .date; from = from; to = pointOf le32 rest }) l;
             same = refl;
-            size = layout-leg _ l ∙ omega arith;
+            size = layout-leg sheetVersion _ l ∙ omega arith;
             keeps = record { label-is = h; style-is = K .style-is; position-is = sym e };
           }
 

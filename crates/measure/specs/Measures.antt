@@ -72,8 +72,8 @@ Comes r f = (len style : ℕ) (placed : Bool) → ComesIn r len style placed f
 -- ---- an item with a label, once it has the label l; `rest` is what follows the label in the file
 
 abbrev pub tailNext : Tail → State → ℕ → List ℕ → List ℕ → Next
-tailNext (Short last) st n rest l = made n (section (record { last = last; size = dimensionsOf 2 (λ s. widened (le16 s)) rest }) l) (named l st)
-tailNext (Long last) st n rest l = made n (section (record { last = last; size = dimensionsOf 4 le32 rest }) l) (named l st)
+tailNext (Short last) st n rest l = made n (section (record { last = last; date = st .setting .date; size = dimensionsOf 2 (λ s. widened (le16 s)) rest }) l) (named l st)
+tailNext (Long last) st n rest l = made n (section (record { last = last; date = st .setting .date; size = dimensionsOf 4 le32 rest }) l) (named l st)
 tailNext (Station flags) st n rest l = made n (station (record { flags = flags; place = pointOf le32 rest }) l) (named l st)
 tailNext (Line flags) st n rest l = legFrom (st .setting .position) n st flags (pointOf le32 rest) l
 

@@ -145,12 +145,12 @@ fn tailed(tail: Tail, placed: bool, size: usize, len: usize) -> Measured
         Tail::Short { last: _ } => Measured::Made {
             size,
             len,
-            bytes: 20 + len,
+            bytes: 25 + len,
         },
         Tail::Long { last: _ } => Measured::Made {
             size,
             len,
-            bytes: 20 + len,
+            bytes: 25 + len,
         },
         Tail::Station { flags: _ } => Measured::Made {
             size,

@@ -237,7 +237,7 @@ module _ (file old : List ℕ) (v p e t m : ℕ) (O : Opens file v p e t m) wher
   pub time-length : length (h .time) ≡ m
   time-length = let r = O .room in length-take-le m (drop (25 + t) file) (simp length-drop (omega (arith, r .place-least, r .inside)))
 
-  front-length : length (1 ∷ headerLayout h) ≡ front
+  front-length : length (sheetVersion ∷ headerLayout h) ≡ front
   front-length = let a = title-length in let b = time-length in let q = header-length h in omega arith
 
   bytes-are : length (sheetOf sheetVersion h (x .records)) ≡ front + length (layoutAll sheetVersion (x .records))
@@ -261,17 +261,17 @@ module _ (file old : List ℕ) (v p e t m : ℕ) (O : Opens file v p e t m) wher
     front-fits l = let w = done-bytes b n front x d .1 in omega arith
 
     -- the second pass is lent just the bytes that are needed
-    pub read-done : b ≤ length old → (s y : List ℕ) → s ≡ over (1 ∷ headerLayout h) old → y ≡ lay (take b s) front (x .records) → ReadsTo file old (AnswerDone b n v) (y ++ drop b s)
+    pub read-done : b ≤ length old → (s y : List ℕ) → s ≡ over (sheetVersion ∷ headerLayout h) old → y ≡ lay (take b s) front (x .records) → ReadsTo file old (AnswerDone b n v) (y ++ drop b s)
     unfolding readOutcome readBuffer pick sheetOf
     read-done l s y p q =
         let w = done-bytes b n front x d in
         let k : front + length (layoutAll sheetVersion (x .records)) ≤ length old = (let z = w .1 in omega arith) in
-        let m : length s ≡ length old = ap length p ∙ length-over (1 ∷ headerLayout h) old (omega (arith, front-length)) in
-        let r : y ++ drop b s ≡ lay (over (1 ∷ headerLayout h) old) front (x .records) =
+        let m : length s ≡ length old = ap length p ∙ length-over (sheetVersion ∷ headerLayout h) old (omega (arith, front-length)) in
+        let r : y ++ drop b s ≡ lay (over (sheetVersion ∷ headerLayout h) old) front (x .records) =
         ap (λ (z : List ℕ). z ++ drop b s) q ∙ lay-within (x .records) s front b (omega (arith, w .1)) (omega arith) ∙ ap (λ (z : List ℕ). lay z front (x .records)) p in
         record {
           answer = simp (O .due, w .0, sheet-bytes, le-ltb _ _ l, w .2);
-          buffer = r ∙ lay-behind (1 ∷ headerLayout h) (layoutAll sheetVersion (x .records)) old (x .records) front refl front-length k ∙ simp (O .due, w .0, sheet-bytes, le-ltb _ _ l);
+          buffer = r ∙ lay-behind (sheetVersion ∷ headerLayout h) (layoutAll sheetVersion (x .records)) old (x .records) front refl front-length k ∙ simp (O .due, w .0, sheet-bytes, le-ltb _ _ l);
         }
 
 -- a refused opening

@@ -4,11 +4,12 @@ use mathlib.Core.Path.{_≡_, refl, sym, ap, _∙_}
 use mathlib.Core.List.{List, [], _∷_, _++_, append-assoc}
 use native.Mathlib.Omega.{arith}
 use lib.ListN.{length, take, drop, length-append}
-use Rattle.format.specs.Bytes.{over, toBe16, toBe32}
-use Rattle.format.specs.Sheet.{sheetVersion, pointBytes, dimensionBytes, traverseBytes, dateKind, dateDay, dateLast, legSize, stationSize, sectionSize, errorSize, legBody, stationBody, sectionBody, layout, headerLayout}
+use Rattle.format.specs.Bytes.{pick, over, toBe16, toBe32}
+use Rattle.format.specs.Sheet.{sheetVersion, pointBytes, dimensionBytes, traverseBytes, dateBytes, legSize, stationSize, sectionSize, errorSize, legBody, stationBody, sectionBody, layout, headerLayout}
 use Rattle.format.specs.State.{leg, station, section, error}
 use Rattle.format.specs.Fields.{recordSize}
 use Rattle.format.specs.declared.Point.{Point}
+use Rattle.format.specs.declared.Dimensions.{Dimensions}
 use Rattle.format.specs.declared.Traverse.{Traverse}
 use Rattle.format.specs.declared.Leg.{Leg as LegFields}
 use Rattle.format.specs.declared.Station.{Station as StationFields}
@@ -22,7 +23,7 @@ use Rattle.wire.proofs.Laws.{length-over, laid-zero, laid-part, laid-next, laid
 pub size-some : (f : Fields) (n : ℕ) → 0 < recordSize f n
 size-some (Leg flags style date from to) n = omega arith
 size-some (Station s) n = omega arith
-size-some (Section s) n = omega arith
+size-some (Section last unused date size) n = omega arith
 size-some (Error traverse) n = omega arith
 
 -- ---- a layout is a head and the label
@@ -33,34 +34,22 @@ unfolding toBe16
 body-length body k e = omega arith
 
 pub leg-parts : (g : LegFields) (l : List ℕ)
-    → (toBe16 (legSize + length l) ++ (1 ∷ g .flags ∷ g .style ∷ dateKind (g .date) ∷ (toBe16 (dateDay (g .date)) ++ toBe16 (dateLast (g .date))))) ++ (pointBytes toBe32 (g .from) ++ (pointBytes toBe32 (g .to) ++ l)) ≡ layout sheetVersion (leg g l)
+    → (toBe16 (legSize + length l) ++ (1 ∷ g .flags ∷ g .style ∷ dateBytes (g .date))) ++ (pointBytes toBe32 (g .from) ++ (pointBytes toBe32 (g .to) ++ l)) ≡ layout sheetVersion (leg g l)
 unfolding layout
-leg-parts g l = rw (← body-length (legBody g l) (legSize + length l) (layout-leg g l)) (simp append-assoc)
+leg-parts g l = rw (← body-length (legBody g l) (legSize + length l) (layout-leg sheetVersion g l)) (simp append-assoc)
 
 pub station-parts : (s : StationFields) (l : List ℕ) → (toBe16 (stationSize + length l) ++ (2 ∷ s .flags ∷ [])) ++ (pointBytes toBe32 (s .place) ++ l) ≡ layout sheetVersion (station s l)
 unfolding layout
-station-parts s l = rw (← body-length (stationBody s l) (stationSize + length l) (layout-station s l)) (simp append-assoc)
+station-parts s l = rw (← body-length (stationBody s l) (stationSize + length l) (layout-station sheetVersion s l)) (simp append-assoc)
 
-pub section-parts : (s : SectionFields) (l : List ℕ) → (toBe16 (sectionSize + length l) ++ (3 ∷ s .last ∷ dimensionBytes toBe32 (s .size))) ++ l ≡ layout sheetVersion (section s l)
-unfolding layout
-section-parts s l = rw (← body-length (sectionBody sheetVersion s l) (sectionSize + length l) (layout-section s l)) (simp append-assoc)
+pub section-parts : (s : SectionFields) (l : List ℕ)
+    → (toBe16 (sectionSize + length l) ++ (3 ∷ s .last ∷ dateBytes (s .date))) ++ (dimensionBytes toBe32 (s .size) ++ l) ≡ layout sheetVersion (section s l)
+unfolding layout pick
+section-parts s l = rw (← body-length (sectionBody s l) (sectionSize + length l) (layout-section s l)) (simp append-assoc)
 
 pub error-parts : (t : Traverse) → toBe16 errorSize ++ (4 ∷ traverseBytes toBe32 t) ≡ layout sheetVersion (error t)
 unfolding layout toBe16 toBe32
 error-parts t = refl
-
--- ---- a head laid over the front, and a label after it
-
-pub parts-laid : (S Y Z head name : List ℕ) (k : ℕ) → length head ≡ k → k + length name ≤ length S → Y ≡ over head S → Z ≡ over name (take (length Y - k) (drop k Y))
-    → take k Y ++ (Z ++ drop (length Y - k) (drop k Y)) ≡ over (head ++ name) S
-parts-laid S Y Z head name k hk hr eY eZ =
-    let ly : length Y ≡ length S = ap length eY ∙ length-over head S (omega arith) in
-    let z : k ≡ 0 + length head = omega arith in
-    rw eZ (laid-part Y name k (omega arith) (length Y) refl)
-    ∙ ap (λ (y : List ℕ). laid y k name) (eY ∙ sym (laid-zero S head))
-    ∙ ap (λ (n : ℕ). laid (laid S 0 head) n name) z
-    ∙ laid-next S head name 0 (omega arith)
-    ∙ laid-zero S (head ++ name)
 
 -- ---- one part after another
 
@@ -95,6 +84,22 @@ point-laid d k p h =
     ∙ laid-next d (X ++ Y) Z k (omega arith)
     ∙ simp append-assoc
 
+pub dimensions-length : (d : Dimensions) → length (dimensionBytes toBe32 d) ≡ 16
+unfolding toBe32
+dimensions-length d = refl
+
+-- four words in a row are dimensions
+pub dimensions-laid : (s : List ℕ) (k : ℕ) (d : Dimensions) → k + 16 ≤ length s
+    → laid (laid (laid (laid s k (toBe32 (d .left))) (k + 4) (toBe32 (d .right))) (k + 8) (toBe32 (d .up))) (k + 12) (toBe32 (d .down)) ≡ laid s k (dimensionBytes toBe32 d)
+dimensions-laid s k d h =
+    let p : Point = record { x = d .left; y = d .right; z = d .up } in
+    let W = toBe32 (d .down) in
+    let e : k + 12 ≡ k + length (pointBytes toBe32 p) = rw (point-length p) in
+    ap (λ (y : List ℕ). laid y (k + 12) W) (point-laid s k p (omega arith))
+    ∙ ap (λ (n : ℕ). laid (laid s k (pointBytes toBe32 p)) n W) e
+    ∙ laid-next s (pointBytes toBe32 p) W k (omega (arith, point-length p))
+    ∙ simp append-assoc
+
 pub leg-laid : (S head l : List ℕ) (from to : Point) → length head ≡ 10 → 34 + length l ≤ length S
     → laid (laid (laid (over head S) 10 (pointBytes toBe32 from)) 22 (pointBytes toBe32 to)) 34 l ≡ over (head ++ (pointBytes toBe32 from ++ (pointBytes toBe32 to ++ l))) S
 leg-laid S head l from to e h =
@@ -109,14 +114,20 @@ leg-laid S head l from to e h =
     ∙ over-then S ((head ++ A) ++ B) l 34 e2 h
     ∙ ap (λ (y : List ℕ). over y S) (append-assoc (head ++ A) B l ∙ append-assoc head A (B ++ l))
 
-pub station-laid : (S head l : List ℕ) (p : Point) → length head ≡ 4 → 16 + length l ≤ length S → laid (laid (over head S) 4 (pointBytes toBe32 p)) 16 l ≡ over (head ++ (pointBytes toBe32 p ++ l)) S
-station-laid S head l p e h =
-    let A = pointBytes toBe32 p in
-    let a = point-length p in
-    let e1 : length (head ++ A) ≡ 16 = length-append head A ∙ omega arith in
-    ap (λ (y : List ℕ). laid y 16 l) (over-then S head A 4 e (omega arith))
-    ∙ over-then S (head ++ A) l 16 e1 h
+-- a head of k bytes, numbers up to j and a label
+pub head-laid : (S head A l : List ℕ) (k j : ℕ) → length head ≡ k → j ≡ k + length A → j + length l ≤ length S → laid (laid (over head S) k A) j l ≡ over (head ++ (A ++ l)) S
+head-laid S head A l k j e z h =
+    let e1 : length (head ++ A) ≡ j = length-append head A ∙ omega arith in
+    ap (λ (y : List ℕ). laid y j l) (over-then S head A k e (omega arith))
+    ∙ over-then S (head ++ A) l j e1 h
     ∙ ap (λ (y : List ℕ). over y S) (append-assoc head A l)
+
+pub station-laid : (S head l : List ℕ) (p : Point) → length head ≡ 4 → 16 + length l ≤ length S → laid (laid (over head S) 4 (pointBytes toBe32 p)) 16 l ≡ over (head ++ (pointBytes toBe32 p ++ l)) S
+station-laid S head l p e h = head-laid S head (pointBytes toBe32 p) l 4 16 e (omega (arith, point-length p)) h
+
+pub section-laid : (S head l : List ℕ) (d : Dimensions) → length head ≡ 9 → 25 + length l ≤ length S
+    → laid (laid (over head S) 9 (dimensionBytes toBe32 d)) 25 l ≡ over (head ++ (dimensionBytes toBe32 d ++ l)) S
+section-laid S head l d e h = head-laid S head (dimensionBytes toBe32 d) l 9 25 e (omega (arith, dimensions-length d)) h
 
 -- ---- a record laid in where it fits
 
@@ -143,7 +154,7 @@ front-laid S head title time h =
     ∙ laid-zero S ((head ++ title) ++ time)
     ∙ ap (λ (x : List ℕ). over x S) (append-assoc head title time)
 
-pub front-parts : (extended : ℕ) (title time : List ℕ) → (1 ∷ (toBe16 (4 + length title + length time) ++ (0 ∷ extended ∷ toBe16 (length title)))) ++ (title ++ time) ≡ 1 ∷ headerLayout (record { extended = extended; title = title; time = time })
+pub front-parts : (extended : ℕ) (title time : List ℕ) → (sheetVersion ∷ (toBe16 (4 + length title + length time) ++ (0 ∷ extended ∷ toBe16 (length title)))) ++ (title ++ time) ≡ sheetVersion ∷ headerLayout (record { extended = extended; title = title; time = time })
 unfolding headerLayout toBe16
 front-parts extended title time =
     let n : suc (suc (suc (suc (length (title ++ time))))) ≡ 4 + length title + length time = simp length-append (omega arith) in

@@ -14,6 +14,7 @@ use format::Dimensions;
 use format::Fields;
 use format::LABEL_LIMIT;
 use format::Point;
+use format::SHEET_VERSION;
 use format::Traverse;
 
 // A date as a sheet has it: kind, day and last day.
@@ -74,33 +75,23 @@ fn station_head(len: usize, flags: u8) -> [u8; 4]
     [(n / 256 % 256) as u8, (n % 256) as u8, 2, flags]
 }
 
-// The length bytes and the fields of a cross-section whose label has len bytes.
-fn section_head(len: usize, last: u8, d: Dimensions) -> [u8; 20]
+// The length bytes of a cross-section whose label has len bytes, and its fields up to
+// the date.
+fn section_head(len: usize, last: u8, days: Days) -> [u8; 9]
     requires { ⌜ len ≤ labelLimit ⌝ }
-    ensures { λ r. ⌜ r ≡ toBe16 (sectionSize + len) ++ (3 ∷ last ∷ dimensionBytes toBe32 d) ⌝ }
+    ensures { λ r. ⌜ r ≡ toBe16 (sectionSize + len) ++ (3 ∷ last ∷ days .kind ∷ (toBe16 (days .day) ++ toBe16 (days .last))) ⌝ }
 {
-    let n = 18 + len;
+    let n = 23 + len;
     [
         (n / 256 % 256) as u8,
         (n % 256) as u8,
         3,
         last,
-        (d.left / 16777216 % 256) as u8,
-        (d.left / 65536 % 256) as u8,
-        (d.left / 256 % 256) as u8,
-        (d.left % 256) as u8,
-        (d.right / 16777216 % 256) as u8,
-        (d.right / 65536 % 256) as u8,
-        (d.right / 256 % 256) as u8,
-        (d.right % 256) as u8,
-        (d.up / 16777216 % 256) as u8,
-        (d.up / 65536 % 256) as u8,
-        (d.up / 256 % 256) as u8,
-        (d.up % 256) as u8,
-        (d.down / 16777216 % 256) as u8,
-        (d.down / 65536 % 256) as u8,
-        (d.down / 256 % 256) as u8,
-        (d.down % 256) as u8,
+        days.kind,
+        (days.day / 256 % 256) as u8,
+        (days.day % 256) as u8,
+        (days.last / 256 % 256) as u8,
+        (days.last % 256) as u8,
     ]
 }
 
@@ -163,6 +154,17 @@ fn put_point(out: &mut [u8], k: usize, p: Point)
     put_word(out, k + 8, p.z);
 }
 
+// Writes dimensions into out from index k on.
+fn put_dimensions(out: &mut [u8], k: usize, d: Dimensions)
+    requires { ⌜ k + 16 ≤ length (now out) ⌝ }
+    ensures { λ _. ⌜ now (out .exit) ≡ laid (now (out .entry)) k (dimensionBytes toBe32 d) ⌝ }
+{
+    put_word(out, k, d.left);
+    put_word(out, k + 4, d.right);
+    put_word(out, k + 8, d.up);
+    put_word(out, k + 12, d.down);
+}
+
 // Copies the first len bytes of a label into out from index k on.
 fn put_label(out: &mut [u8], k: usize, bytes: &[u8; LABEL_LIMIT], len: usize)
     requires { ⌜ (len ≤ labelLimit) × (k + len ≤ length (now out)) × (length (now bytes) ≡ labelLimit) ⌝ }
@@ -170,17 +172,6 @@ fn put_label(out: &mut [u8], k: usize, bytes: &[u8; LABEL_LIMIT], len: usize)
 {
     let whole = &bytes[..];
     put_at(out, k, &whole[..len]);
-}
-
-// Copies a record's head and then the first len bytes of its label to the front of out.
-fn put_parts(out: &mut [u8], head: &[u8], bytes: &[u8; LABEL_LIMIT], len: usize)
-    requires { ⌜ (len ≤ labelLimit) × (length (now head) + len ≤ length (now out)) × (length (now bytes) ≡ labelLimit) ⌝ }
-    ensures { λ _. ⌜ now (out .exit) ≡ over (now (head .entry) ++ take len (now (bytes .entry))) (now (out .entry)) ⌝ }
-{
-    let k = head.len();
-    let whole = &bytes[..];
-    wire::copy(head, out);
-    wire::copy(&whole[..len], &mut out[k..]);
 }
 
 // How many bytes a record takes in a sheet, with its length bytes.
@@ -197,7 +188,12 @@ pub fn record_size(fields: Fields, len: usize) -> usize
             to: _,
         } => 34 + len,
         Fields::Station { station: _ } => 16 + len,
-        Fields::Section { section: _ } => 20 + len,
+        Fields::Section {
+            last: _,
+            unused: _,
+            date: _,
+            size: _,
+        } => 25 + len,
         Fields::Error { traverse: _ } => 23,
     }
 }
@@ -230,6 +226,22 @@ fn put_station(out: &mut [u8], head: [u8; 4], place: Point, bytes: &[u8; LABEL_L
     put_label(out, 16, bytes, len);
 }
 
+// Lays a cross-section over the front of out, after its head of nine bytes.
+fn put_section(
+    out: &mut [u8],
+    head: [u8; 9],
+    size: Dimensions,
+    bytes: &[u8; LABEL_LIMIT],
+    len: usize,
+)
+    requires { ⌜ (len ≤ labelLimit) × (25 + len ≤ length (now out)) × (length (now bytes) ≡ labelLimit) ⌝ }
+    ensures { λ _. ⌜ now (out .exit) ≡ over (head ++ (dimensionBytes toBe32 size ++ take len (now (bytes .entry)))) (now (out .entry)) ⌝ }
+{
+    wire::copy(&head, out);
+    put_dimensions(out, 9, size);
+    put_label(out, 25, bytes, len);
+}
+
 // Lays a record over the front of out.
 fn put_record(out: &mut [u8], fields: Fields, bytes: &[u8; LABEL_LIMIT], len: usize)
     requires { ⌜ (len ≤ labelLimit) × (recordSize fields len ≤ length (now out)) × (length (now bytes) ≡ labelLimit) ⌝ }
@@ -251,10 +263,14 @@ fn put_record(out: &mut [u8], fields: Fields, bytes: &[u8; LABEL_LIMIT], len: us
             let head = station_head(len, station.flags);
             put_station(out, head, place, bytes, len);
         }
-        Fields::Section { section } => {
-            let size = section.size;
-            let head = section_head(len, section.last, size);
-            put_parts(out, &head, bytes, len);
+        Fields::Section {
+            last,
+            unused: _,
+            date,
+            size,
+        } => {
+            let head = section_head(len, last, days_of(date));
+            put_section(out, head, size, bytes, len);
         }
         Fields::Error { traverse } => {
             let whole = error_bytes(traverse);
@@ -289,11 +305,11 @@ pub fn lay_record(
 // time line has m.
 fn front_head(extended: u8, t: usize, m: usize) -> [u8; 7]
     requires { ⌜ (t ≤ titleLimit) × (m ≤ timeLimit) ⌝ }
-    ensures { λ r. ⌜ r ≡ 1 ∷ (toBe16 (4 + t + m) ++ (0 ∷ extended ∷ toBe16 t)) ⌝ }
+    ensures { λ r. ⌜ r ≡ sheetVersion ∷ (toBe16 (4 + t + m) ++ (0 ∷ extended ∷ toBe16 t)) ⌝ }
 {
     let n = 4 + t + m;
     [
-        1,
+        SHEET_VERSION,
         (n / 256 % 256) as u8,
         (n % 256) as u8,
         0,
@@ -306,7 +322,7 @@ fn front_head(extended: u8, t: usize, m: usize) -> [u8; 7]
 // Lays the version byte and the header record over the front of a sheet.
 pub fn put_front(sheet: &mut [u8], extended: u8, title: &[u8], time: &[u8])
     requires { ⌜ (length (now title) ≤ titleLimit) × (length (now time) ≤ timeLimit) × (7 + length (now title) + length (now time) ≤ length (now sheet)) ⌝ }
-    ensures { λ _. ⌜ now (sheet .exit) ≡ over (1 ∷ headerLayout (record { extended = extended; title = now (title .entry); time = now (time .entry) })) (now (sheet .entry)) ⌝ }
+    ensures { λ _. ⌜ now (sheet .exit) ≡ over (sheetVersion ∷ headerLayout (record { extended = extended; title = now (title .entry); time = now (time .entry) })) (now (sheet .entry)) ⌝ }
 {
     let t = title.len();
     let head = front_head(extended, t, time.len());

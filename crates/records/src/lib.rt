@@ -120,7 +120,12 @@ pub fn keep_label(bytes: &mut [u8; LABEL_LIMIT], len: usize, name: &[u8], fields
             to: _,
         } => swap_label(bytes, len, name),
         Fields::Station { station: _ } => swap_label(bytes, len, name),
-        Fields::Section { section: _ } => swap_label(bytes, len, name),
+        Fields::Section {
+            last: _,
+            unused: _,
+            date: _,
+            size: _,
+        } => swap_label(bytes, len, name),
         Fields::Error { traverse: _ } => len,
     }
 }

@@ -11,9 +11,10 @@ use borrow.Author.Tests.{leb-true, le-leb, lt-leb, eq-eqb, ne-eqb}
 use Rattle.format.specs.Bytes.{pick, be16, be32, Bytes}
 use Rattle.format.specs.Items.{pointOf, dimensionsOf, traverseOf}
 use Rattle.format.specs.State.{Record, leg, station, section, error}
-use Rattle.format.specs.Sheet.{sheetVersion, Entry, flawed, entry, legSize, stationSize, sectionSize, errorSize, labelFits, goodDate, dateFrom, legEntry, stationEntry, sectionEntry, errorEntry, bodyEntry, framed, entryOf}
+use Rattle.format.specs.Sheet.{Entry, flawed, entry, legSize, stationSize, sectionSize, undatedSectionSize, errorSize, labelFits, goodDate, dateFrom, legEntry, stationEntry, sectionEntry, undatedSectionEntry, sectionIn, errorEntry, bodyEntry, framed, entryOf}
 use Rattle.format.specs.Fields.{recordOf}
 use Rattle.format.specs.declared.Dated.{Dated}
+use Rattle.format.specs.declared.Dated.the-variants.{Undated}
 use Rattle.format.specs.declared.Fields.the-variants.{Leg, Station, Section, Error}
 use Rattle.format.proofs.SheetLaws.{Fits, entry-read}
 use Rattle.sheet.specs.declared.Entry.{Entry as Found}
@@ -68,17 +69,38 @@ module _ (s : List ℕ) (n : ℕ) where
 
   -- ---- cross-sections
 
-  pub section-long : labelFits n sectionSize ≡ false → flawed ≡ sectionEntry sheetVersion n (drop 2 s)
+  pub section-long : labelFits n sectionSize ≡ false → flawed ≡ sectionEntry n (drop 2 s)
   unfolding sectionEntry pick
   section-long e = simp e
 
-  pub section-last : labelFits n sectionSize ≡ true → 1 < getD s 3 0 → flawed ≡ sectionEntry sheetVersion n (drop 2 s)
+  pub section-last : labelFits n sectionSize ≡ true → 1 < getD s 3 0 → flawed ≡ sectionEntry n (drop 2 s)
   unfolding sectionEntry pick
   section-last e h = simp (e, getD-drop, lt-leb _ _ h)
 
-  pub section-whole : labelFits n sectionSize ≡ true → getD s 3 0 ≤ 1 → entry (2 + n) (section (record { last = getD s 3 0; size = dimensionsOf 4 be32 (drop 4 s) }) (labelOf (2 + n) 20 s)) ≡ sectionEntry sheetVersion n (drop 2 s)
-  unfolding sectionEntry pick
-  section-whole e h = let z : 2 + n - 20 ≡ n - sectionSize = omega arith in simp (e, getD-drop, drop-drop, le-leb _ _ h, z)
+  module _ (e : labelFits n sectionSize ≡ true) (hl : getD s 3 0 ≤ 1) where
+    pub section-date : goodDate (getD s 4 0) (be16 (drop 5 s)) (be16 (drop 7 s)) ≡ false → flawed ≡ sectionEntry n (drop 2 s)
+    unfolding sectionEntry pick
+    section-date h = simp (e, getD-drop, drop-drop, le-leb _ _ hl, h)
+
+    pub section-whole : goodDate (getD s 4 0) (be16 (drop 5 s)) (be16 (drop 7 s)) ≡ true
+        → entry (2 + n) (section (record { last = getD s 3 0; date = dateFrom (getD s 4 0) (be16 (drop 5 s)) (be16 (drop 7 s)); size = dimensionsOf 4 be32 (drop 9 s) }) (labelOf (2 + n) 25 s)) ≡ sectionEntry n (drop 2 s)
+    unfolding sectionEntry pick
+    section-whole h = let z : 2 + n - 25 ≡ n - sectionSize = omega arith in simp (e, getD-drop, drop-drop, le-leb _ _ hl, h, z)
+
+  -- without a date
+
+  pub undated-long : labelFits n undatedSectionSize ≡ false → flawed ≡ undatedSectionEntry n (drop 2 s)
+  unfolding undatedSectionEntry pick
+  undated-long e = simp e
+
+  pub undated-last : labelFits n undatedSectionSize ≡ true → 1 < getD s 3 0 → flawed ≡ undatedSectionEntry n (drop 2 s)
+  unfolding undatedSectionEntry pick
+  undated-last e h = simp (e, getD-drop, lt-leb _ _ h)
+
+  pub undated-whole : labelFits n undatedSectionSize ≡ true → getD s 3 0 ≤ 1
+      → entry (2 + n) (section (record { last = getD s 3 0; date = Undated; size = dimensionsOf 4 be32 (drop 4 s) }) (labelOf (2 + n) 20 s)) ≡ undatedSectionEntry n (drop 2 s)
+  unfolding undatedSectionEntry pick
+  undated-whole e h = let z : 2 + n - 20 ≡ n - undatedSectionSize = omega arith in simp (e, getD-drop, drop-drop, le-leb _ _ h, z)
 
   -- ---- traverse errors
 
@@ -92,36 +114,36 @@ module _ (s : List ℕ) (n : ℕ) where
 
 -- ---- the record by its kind
 
-pub unframed : (s : List ℕ) → framed s ≡ false → flawed ≡ entryOf sheetVersion s
+pub unframed : (version : ℕ) (s : List ℕ) → framed s ≡ false → flawed ≡ entryOf version s
 unfolding entryOf pick
-unframed s e = simp e
+unframed version s e = simp e
 
-module _ (s : List ℕ) (e : framed s ≡ true) where
-  pub kind-leg : getD s 2 0 ≡ 1 → legEntry (be16 s) (drop 2 s) ≡ entryOf sheetVersion s
+module _ (version : ℕ) (s : List ℕ) (e : framed s ≡ true) where
+  pub kind-leg : getD s 2 0 ≡ 1 → legEntry (be16 s) (drop 2 s) ≡ entryOf version s
   unfolding entryOf bodyEntry pick
   kind-leg k = simp (e, getD-drop, eq-eqb _ _ k)
 
-  pub kind-station : getD s 2 0 ≡ 2 → stationEntry (be16 s) (drop 2 s) ≡ entryOf sheetVersion s
+  pub kind-station : getD s 2 0 ≡ 2 → stationEntry (be16 s) (drop 2 s) ≡ entryOf version s
   unfolding entryOf bodyEntry pick
   kind-station k = simp (e, getD-drop, k)
 
-  pub kind-section : getD s 2 0 ≡ 3 → sectionEntry sheetVersion (be16 s) (drop 2 s) ≡ entryOf sheetVersion s
+  pub kind-section : getD s 2 0 ≡ 3 → sectionIn version (be16 s) (drop 2 s) ≡ entryOf version s
   unfolding entryOf bodyEntry pick
   kind-section k = simp (e, getD-drop, k)
 
-  pub kind-error : getD s 2 0 ≡ 4 → errorEntry (be16 s) (drop 2 s) ≡ entryOf sheetVersion s
+  pub kind-error : getD s 2 0 ≡ 4 → errorEntry (be16 s) (drop 2 s) ≡ entryOf version s
   unfolding entryOf bodyEntry pick
   kind-error k = simp (e, getD-drop, k)
 
-  pub kind-other : (getD s 2 0 ≡ 1 → ⊥) → (getD s 2 0 ≡ 2 → ⊥) → (getD s 2 0 ≡ 3 → ⊥) → (getD s 2 0 ≡ 4 → ⊥) → flawed ≡ entryOf sheetVersion s
+  pub kind-other : (getD s 2 0 ≡ 1 → ⊥) → (getD s 2 0 ≡ 2 → ⊥) → (getD s 2 0 ≡ 3 → ⊥) → (getD s 2 0 ≡ 4 → ⊥) → flawed ≡ entryOf version s
   unfolding entryOf bodyEntry pick
   kind-other a b c d = simp (e, getD-drop, ne-eqb _ _ a, ne-eqb _ _ b, ne-eqb _ _ c, ne-eqb _ _ d)
 
 -- ---- what is told of bytes is well-formed
 
-formed : (s : List ℕ) → Bytes s → (r : Found) → Told r s (entryOf sheetVersion s) → FormedOf r s
-formed s b Flawed t = tt
-formed s b (Whole n f k) t = entry-read s b (sym (t .same)) .2
+formed : (version : ℕ) (s : List ℕ) → Bytes s → (r : Found) → Told r s (entryOf version s) → FormedOf r s
+formed version s b Flawed t = tt
+formed version s b (Whole n f k) t = entry-read version s b (sym (t .same)) .2
 
-pub entry-told : (s : List ℕ) → Bytes s → (r : Found) → Told r s (entryOf sheetVersion s) → EntryTold r s
-entry-told s b r t = record { same = t .same; inside = t .inside; formed = formed s b r t }
+pub entry-told : (version : ℕ) (s : List ℕ) → Bytes s → (r : Found) → Told r s (entryOf version s) → EntryTold r version s
+entry-told version s b r t = record { same = t .same; inside = t .inside; formed = formed version s b r t }

@@ -2,7 +2,7 @@
 use Prim.Native.Nat.{ℕ, _+_, _-_, _≤_, _<_}
 use mathlib.Core.Path.{_≡_, refl, sym, ap, _∙_}
 use mathlib.Core.List.{List}
-use mathlib.Core.Bool.{Bool, true, false, _&&_}
+use mathlib.Core.Bool.{Bool, true, false, _&&_, and-false}
 use native.Mathlib.Omega.{arith}
 use lib.ListN.{length, getD, take, drop, length-drop}
 use lib.Seq.{getD-drop, drop-drop, length-take-le}
@@ -59,32 +59,39 @@ module _ (n : ℕ) (t : List ℕ) where
 
 -- ---- the sheet
 
-module _ (sheet : List ℕ) where
-  pub front-version : (getD sheet 0 0 ≡ 1 → ⊥) → goodFront sheet ≡ false
+module _ (version : ℕ) (sheet : List ℕ) where
+  pub front-version : (getD sheet 0 0 ≡ version → ⊥) → goodFront version sheet ≡ false
   unfolding goodFront
   front-version h = simp (ne-eqb _ _ h)
 
-  pub front-unframed : getD sheet 0 0 ≡ 1 → framed (drop 1 sheet) ≡ false → goodFront sheet ≡ false
-  unfolding goodFront
-  front-unframed v h = simp (v, h)
+  pub front-empty : length sheet ≡ 0 → goodFront version sheet ≡ false
+  unfolding goodFront framed
+  front-empty e =
+      let l = length-drop 1 sheet in
+      let f : leb 3 (length (drop 1 sheet)) ≡ false = lt-leb 3 (length (drop 1 sheet)) (omega arith) in
+      rw f (and-false (eqb (getD sheet 0 0) version))
 
-  module _ (v : getD sheet 0 0 ≡ 1) (f : framed (drop 1 sheet) ≡ true) where
-    pub front-short : be16 (drop 1 sheet) < 4 → goodFront sheet ≡ false
+  pub front-unframed : getD sheet 0 0 ≡ version → framed (drop 1 sheet) ≡ false → goodFront version sheet ≡ false
+  unfolding goodFront
+  front-unframed v h = simp (eq-eqb _ _ v, h)
+
+  module _ (v : getD sheet 0 0 ≡ version) (f : framed (drop 1 sheet) ≡ true) where
+    pub front-short : be16 (drop 1 sheet) < 4 → goodFront version sheet ≡ false
     unfolding goodFront
-    front-short h = simp (v, f, lt-leb _ _ h)
+    front-short h = simp (eq-eqb _ _ v, f, lt-leb _ _ h)
 
     module _ (l : 4 ≤ be16 (drop 1 sheet)) where
-      pub front-header : goodHeader (be16 (drop 1 sheet)) (drop 3 sheet) ≡ false → goodFront sheet ≡ false
+      pub front-header : goodHeader (be16 (drop 1 sheet)) (drop 3 sheet) ≡ false → goodFront version sheet ≡ false
       unfolding goodFront
-      front-header h = simp (v, f, le-leb _ _ l, h)
+      front-header h = simp (eq-eqb _ _ v, f, le-leb _ _ l, h)
 
-      pub front-whole : 3 + be16 (drop 1 sheet) ≤ length sheet → (x k m : ℕ) → Headed (be16 (drop 1 sheet)) (drop 3 sheet) x k m → Fronted sheet x k m
+      pub front-whole : 3 + be16 (drop 1 sheet) ≤ length sheet → (x k m : ℕ) → Headed (be16 (drop 1 sheet)) (drop 3 sheet) x k m → Fronted version sheet x k m
       unfolding goodFront frontHeader behindFront
       front-whole hl x k m h =
           let z : 3 + (4 + k) ≡ 7 + k = omega arith in
           let y : 3 + be16 (drop 1 sheet) ≡ 7 + k + m = omega (arith, h .size) in
           record {
-            good = simp (v, f, le-leb _ _ l, h .good);
+            good = simp (eq-eqb _ _ v, f, le-leb _ _ l, h .good);
             header = h .header ∙ simp (drop-drop, z);
             behind = ap (λ (i : ℕ). drop i sheet) y;
             inside = omega arith;
@@ -93,6 +100,6 @@ module _ (sheet : List ℕ) where
             time-short = h .time-short;
           }
 
-      pub front-told : 3 + be16 (drop 1 sheet) ≤ length sheet → (r : Front) → HeaderTold r (be16 (drop 1 sheet)) (drop 3 sheet) → FrontTold r sheet
+      pub front-told : 3 + be16 (drop 1 sheet) ≤ length sheet → (r : Front) → HeaderTold r (be16 (drop 1 sheet)) (drop 3 sheet) → FrontTold r version sheet
       front-told hl Flawed h = front-header h
       front-told hl (Whole x k m) h = front-whole hl x k m h

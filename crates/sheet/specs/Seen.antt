@@ -6,7 +6,7 @@ use mathlib.Core.Bool.{true, false}
 use lib.ListN.{length, getD, take, drop}
 use Rattle.format.specs.Bytes.{be32}
 use Rattle.format.specs.Items.{pointOf}
-use Rattle.format.specs.Sheet.{sheetVersion, Entry, flawed, entry, entryOf, headerFrom, goodHeader, goodFront, frontHeader, behindFront}
+use Rattle.format.specs.Sheet.{Entry, flawed, entry, entryOf, headerFrom, goodHeader, goodFront, frontHeader, behindFront}
 use Rattle.format.specs.WellFormed.{WellFormed}
 use Rattle.format.specs.Fields.{recordOf}
 use Rattle.format.specs.declared.Dated.{Dated}
@@ -51,8 +51,8 @@ FormedOf Flawed s = Unit
 FormedOf (Whole n f k) s = WellFormed (recordOf f (labelOf n k s))
 
 -- the same of the record at the front of s, which is well-formed
-pub record EntryTold (r : Found) (s : List ℕ) : Type 0 where
-  pub same : entrySeen r s ≡ entryOf sheetVersion s
+pub record EntryTold (r : Found) (version : ℕ) (s : List ℕ) : Type 0 where
+  pub same : entrySeen r s ≡ entryOf version s
   pub inside : InsideOf r s
   pub formed : FormedOf r s
 
@@ -72,8 +72,8 @@ HeaderTold NoFront n t = goodHeader n t ≡ false
 HeaderTold (WholeFront extended k m) n t = Headed n t extended k m
 
 -- the front of a sheet: the title starts at 7, the time line behind it, and behind that the records
-pub record Fronted (sheet : List ℕ) (extended k m : ℕ) : Type 0 where
-  pub good : goodFront sheet ≡ true
+pub record Fronted (version : ℕ) (sheet : List ℕ) (extended k m : ℕ) : Type 0 where
+  pub good : goodFront version sheet ≡ true
   pub header : frontHeader sheet ≡ record { extended = extended; title = take k (drop 7 sheet); time = take m (drop (7 + k) sheet) }
   pub behind : behindFront sheet ≡ drop (7 + k + m) sheet
   pub inside : 7 + k + m ≤ length sheet
@@ -81,6 +81,6 @@ pub record Fronted (sheet : List ℕ) (extended k m : ℕ) : Type 0 where
   pub title-short : k ≤ 4096
   pub time-short : m ≤ 64
 
-abbrev pub FrontTold : Front → List ℕ → Type 0
-FrontTold NoFront sheet = goodFront sheet ≡ false
-FrontTold (WholeFront extended k m) sheet = Fronted sheet extended k m
+abbrev pub FrontTold : Front → ℕ → List ℕ → Type 0
+FrontTold NoFront version sheet = goodFront version sheet ≡ false
+FrontTold (WholeFront extended k m) version sheet = Fronted version sheet extended k m

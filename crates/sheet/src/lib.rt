@@ -1,15 +1,17 @@
 // The sheet read back: its front, and the record at the front of the bytes that
 // follow one another behind it. Labels and texts stay where they stand.
 use format::LABEL_LIMIT;
+use format::SHEET_VERSION;
 use format::TIME_LIMIT;
 use format::TITLE_LIMIT;
+use format::UNDATED_VERSION;
 ghost use mathlib.Core.Path.{_≡_};
 ghost use Prim.Native.Nat.{ℕ, _+_, _≤_};
 ghost use lib.ListN.{length, drop};
 ghost use Rattle.format.specs.Bytes.{be32};
 ghost use Rattle.format.specs.Header.{endsInReturn};
 ghost use Rattle.format.specs.Items.{pointOf, dimensionsOf, traverseOf};
-ghost use Rattle.format.specs.Sheet.{sheetVersion, labelFits, goodDate, dateFrom, legEntry, stationEntry, sectionEntry, errorEntry, framed, goodText};
+ghost use Rattle.format.specs.Sheet.{labelFits, goodDate, dateFrom, legEntry, stationEntry, sectionEntry, undatedSectionEntry, sectionIn, errorEntry, framed, goodText, versionOf};
 ghost use Rattle.sheet.specs.Seen.{legOf, Told, EntryTold, HeaderTold, FrontTold};
 
 // The record at the front: none that is well-formed; or its size with the length
@@ -185,10 +187,41 @@ fn station_entry(s: &[u8], n: usize) -> Entry
     }
 }
 
-// The cross-section of the record s, whose body has n bytes.
-fn section_entry(s: &[u8], n: usize) -> Entry
+// The cross-section of the record s of a version 2 sheet, whose body has n bytes.
+fn dated_entry(s: &[u8], n: usize) -> Entry
     requires { ⌜ 2 + n ≤ length (now s) ⌝ }
-    ensures { λ r. ⌜ Told r (now (s .entry)) (sectionEntry sheetVersion n (drop 2 (now (s .entry)))) ⌝ }
+    ensures { λ r. ⌜ Told r (now (s .entry)) (sectionEntry n (drop 2 (now (s .entry)))) ⌝ }
+{
+    if !label_fits(n, 23) {
+        return Entry::Flawed;
+    }
+    let last = s[3];
+    if 1 < last {
+        return Entry::Flawed;
+    }
+    let day = day_of(number::get_be16(&s[5..]));
+    let end = day_of(number::get_be16(&s[7..]));
+    if !good_date(s[4], day, end) {
+        return Entry::Flawed;
+    }
+    let date = date_from(s[4], day, end);
+    let size = dimensions(&s[9..]);
+    Entry::Whole {
+        size: 2 + n,
+        fields: format::Fields::Section {
+            last,
+            unused: 0,
+            date,
+            size,
+        },
+        from: 25,
+    }
+}
+
+// The same of a version 1 sheet, where it has no date.
+fn undated_entry(s: &[u8], n: usize) -> Entry
+    requires { ⌜ 2 + n ≤ length (now s) ⌝ }
+    ensures { λ r. ⌜ Told r (now (s .entry)) (undatedSectionEntry n (drop 2 (now (s .entry)))) ⌝ }
 {
     if !label_fits(n, 18) {
         return Entry::Flawed;
@@ -198,12 +231,28 @@ fn section_entry(s: &[u8], n: usize) -> Entry
         return Entry::Flawed;
     }
     let size = dimensions(&s[4..]);
-    let section = format::Section { last, size };
+    let date = format::Dated::Undated;
     Entry::Whole {
         size: 2 + n,
-        fields: format::Fields::Section { section },
+        fields: format::Fields::Section {
+            last,
+            unused: 0,
+            date,
+            size,
+        },
         from: 20,
     }
+}
+
+// The cross-section of the record s, by the sheet's version.
+fn section_entry(s: &[u8], n: usize, version: u8) -> Entry
+    requires { ⌜ 2 + n ≤ length (now s) ⌝ }
+    ensures { λ r. ⌜ Told r (now (s .entry)) (sectionIn version n (drop 2 (now (s .entry)))) ⌝ }
+{
+    if version == UNDATED_VERSION {
+        return undated_entry(s, n);
+    }
+    dated_entry(s, n)
 }
 
 // The traverse error of the record s, whose body has n bytes. It has no label.
@@ -234,9 +283,9 @@ fn is_framed(s: &[u8]) -> bool
     1 <= n && 2 + n <= s.len()
 }
 
-// The record at the front of s.
-pub fn read_entry(s: &[u8]) -> Entry
-    ensures { λ r. ⌜ EntryTold r (now (s .entry)) ⌝ }
+// The record at the front of s, in a sheet of the version.
+pub fn read_entry(s: &[u8], version: u8) -> Entry
+    ensures { λ r. ⌜ EntryTold r version (now (s .entry)) ⌝ }
 {
     if !is_framed(s) {
         return Entry::Flawed;
@@ -250,7 +299,7 @@ pub fn read_entry(s: &[u8]) -> Entry
         return station_entry(s, n);
     }
     if kind == 3 {
-        return section_entry(s, n);
+        return section_entry(s, n, version);
     }
     if kind == 4 {
         return error_entry(s, n);
@@ -311,14 +360,27 @@ fn header(t: &[u8], n: usize) -> Front
     }
 }
 
-// The version byte and the header record of a sheet.
-pub fn read_front(sheet: &[u8]) -> Front
-    ensures { λ r. ⌜ FrontTold r (now (sheet .entry)) ⌝ }
+// The version by whose layout a sheet is judged: 1 where its first byte says so, else 2.
+pub fn version_of(sheet: &[u8]) -> u8
+    ensures { λ r. ⌜ r ≡ versionOf (now (sheet .entry)) ⌝ }
+{
+    if sheet.len() == 0 {
+        return SHEET_VERSION;
+    }
+    if sheet[0] == UNDATED_VERSION {
+        return UNDATED_VERSION;
+    }
+    SHEET_VERSION
+}
+
+// The version byte and the header record of a sheet that is to be of the version.
+pub fn read_front(sheet: &[u8], version: u8) -> Front
+    ensures { λ r. ⌜ FrontTold r version (now (sheet .entry)) ⌝ }
 {
     if sheet.len() == 0 {
         return Front::Flawed;
     }
-    if sheet[0] != 1 {
+    if sheet[0] != version {
         return Front::Flawed;
     }
     let s = &sheet[1..];

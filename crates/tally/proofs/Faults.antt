@@ -10,7 +10,7 @@ use Rattle.format.specs.declared.Dated.{Dated}
 use Rattle.format.specs.declared.Point.{Point}
 use Rattle.format.specs.declared.Traverse.{Traverse}
 use Rattle.format.specs.declared.Station.{Station as StationFields}
-use Rattle.format.specs.declared.Section.{Section as SectionFields}
+use Rattle.format.specs.declared.Dimensions.{Dimensions}
 use Rattle.format.specs.declared.Verdict.{Verdict}
 use Rattle.format.specs.declared.Verdict.the-variants.{Good, Refusal}
 use Rattle.format.specs.declared.Fields.{Fields}
@@ -37,9 +37,9 @@ module _ (old n : ℕ) (f : Fields) where
   unfolding pick
   no-style-station s e = rw e
 
-  pub no-style-section : (s : SectionFields) → f ≡ Section s → Good ≡ here
+  pub no-style-section : (last unused : ℕ) (date : Dated) (size : Dimensions) → f ≡ Section last unused date size → Good ≡ here
   unfolding pick
-  no-style-section s e = rw e
+  no-style-section last unused date size e = rw e
 
   pub no-style-error : (t : Traverse) → f ≡ Error t → Good ≡ here
   unfolding pick

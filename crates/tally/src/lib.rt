@@ -53,7 +53,12 @@ pub fn first_fault(fault: usize, old: u8, fields: Fields, number: usize) -> usiz
             number + 1
         }
         Fields::Station { station: _ } => 0,
-        Fields::Section { section: _ } => 0,
+        Fields::Section {
+            last: _,
+            unused: _,
+            date: _,
+            size: _,
+        } => 0,
         Fields::Error { traverse: _ } => 0,
     }
 }
@@ -131,7 +136,7 @@ pub fn finish(out: &mut [u8], style: u8, total: usize, number: usize, fault: usi
 
 // ---- what a record leaves
 
-// Only a leg changes style, date and position.
+// A leg changes style, date and position, a cross-section the date.
 pub fn setting_after(setting: Setting, fields: Fields) -> Setting
     ensures { λ r. ⌜ r ≡ settingAfter setting (recordOf fields []) ⌝ }
 {
@@ -148,7 +153,19 @@ pub fn setting_after(setting: Setting, fields: Fields) -> Setting
             position: Position::Stands { point },
         },
         Fields::Station { station: _ } => setting,
-        Fields::Section { section: _ } => setting,
+        Fields::Section {
+            last: _,
+            unused: _,
+            date,
+            size: _,
+        } => {
+            let position = setting.position;
+            Setting {
+                style: setting.style,
+                date,
+                position,
+            }
+        }
         Fields::Error { traverse: _ } => setting,
     }
 }

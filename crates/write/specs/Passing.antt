@@ -11,5 +11,5 @@ use Rattle.write.specs.declared.Hand.{Hand}
 abbrev pub handAfter : Hand → Fields → ℕ → ℕ → Hand
 handAfter hand (Leg flags style date from to) a b = record { setting = settingAfter (hand .setting) (recordOf (Leg flags style date from to) []); from = a; to = b }
 handAfter hand (Station s) a b = record { setting = hand .setting; from = a; to = b }
-handAfter hand (Section s) a b = record { setting = hand .setting; from = a; to = b }
+handAfter hand (Section last unused date size) a b = record { setting = settingAfter (hand .setting) (recordOf (Section last unused date size) []); from = a; to = b }
 handAfter hand (Error traverse) a b = hand

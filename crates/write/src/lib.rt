@@ -4,7 +4,7 @@ use format::Setting;
 ghost use mathlib.Core.Path.{_≡_};
 ghost use Prim.Native.Nat.{_≤_};
 ghost use lib.ListN.{length, drop};
-ghost use Rattle.format.specs.Sheet.{sheetVersion, recordsOf, frontHeader, sheetResult};
+ghost use Rattle.format.specs.Sheet.{recordsOf, frontHeader, sheetResult};
 ghost use Rattle.format.specs.Answers.{answerOf};
 ghost use Rattle.format.specs.Writing.{v8, writeOutcome, writeBuffer};
 ghost use Rattle.tally.specs.Tallies.{Rest, Passed};
@@ -55,19 +55,36 @@ fn hand_after(hand: Hand, fields: format::Fields, from: usize, to: usize) -> Han
             let setting = hand.setting;
             Hand { setting, from, to }
         }
-        format::Fields::Section { section: _ } => {
-            let setting = hand.setting;
+        format::Fields::Section {
+            last: _,
+            unused: _,
+            date,
+            size: _,
+        } => {
+            let old = hand.setting;
+            let position = old.position;
+            let setting = Setting {
+                style: old.style,
+                date,
+                position,
+            };
             Hand { setting, from, to }
         }
         format::Fields::Error { traverse: _ } => hand,
     }
 }
 
-// The records of the sheet from `begin` on and the closing codes, written where they
-// fit into out from `head` on: the answer, for room enough.
-fn put_records(sheet: &[u8], begin: usize, out: &mut [u8], head: usize) -> format::Answer
+// The records of a sheet of the version from `begin` on and the closing codes, written
+// where they fit into out from `head` on: the answer, for room enough.
+fn put_records(
+    sheet: &[u8],
+    version: u8,
+    begin: usize,
+    out: &mut [u8],
+    head: usize,
+) -> format::Answer
     requires { ⌜ (begin ≤ length (now sheet)) × (head ≤ 8192) ⌝ }
-    ensures { λ r. ⌜ Rest v8 (recordsOf sheetVersion (drop begin (now (sheet .entry)))) head (now (out .entry)) (now (out .exit)) r ⌝ }
+    ensures { λ r. ⌜ Rest v8 (recordsOf version (drop begin (now (sheet .entry)))) head (now (out .entry)) (now (out .exit)) r ⌝ }
 {
     let mut at = begin;
     let mut total = head;
@@ -75,7 +92,7 @@ fn put_records(sheet: &[u8], begin: usize, out: &mut [u8], head: usize) -> forma
     let mut fault: usize = 0;
     let mut hand = fresh();
     while at < sheet.len() {
-        let entry = sheet::read_entry(&sheet[at..]);
+        let entry = sheet::read_entry(&sheet[at..], version);
         let sheet::Entry::Whole { size, fields, from } = entry else {
             return format::Answer::Refused {
                 number: 12,
@@ -110,7 +127,8 @@ fn put_records(sheet: &[u8], begin: usize, out: &mut [u8], head: usize) -> forma
 fn pass(sheet: &[u8], out: &mut [u8]) -> format::Answer
     ensures { λ r. ⌜ Passed v8 (frontHeader (now (sheet .entry))) (sheetResult (now (sheet .entry))) (now (out .entry)) (now (out .exit)) r ⌝ }
 {
-    let front = sheet::read_front(sheet);
+    let version = sheet::version_of(sheet);
+    let front = sheet::read_front(sheet, version);
     match front {
         sheet::Front::Flawed => format::Answer::Refused {
             number: 12,
@@ -124,7 +142,7 @@ fn pass(sheet: &[u8], out: &mut [u8]) -> format::Answer
             let middle = 7 + title;
             let begin = middle + time;
             let head = ends::put_header(out, extended, &sheet[7..middle], &sheet[middle..begin]);
-            put_records(sheet, begin, out, head)
+            put_records(sheet, version, begin, out, head)
         }
     }
 }

@@ -2,7 +2,7 @@
 
 use compare::{disagree, hex};
 use generate::coder::{Coder, Form, Head};
-use generate::record::{section, station, with_short_header};
+use generate::record::{section, station, with_short_header, UNDATED};
 use second::{Answer, Later};
 
 const ZERO: [i32; 3] = [0; 3];
@@ -48,7 +48,7 @@ fn case_1() {
     let file = v8(&[0, 0]);
     assert_eq!(file.len(), 32);
     let sheet = read(&file).unwrap();
-    assert_eq!(hex(&sheet), "01000700000001414030");
+    assert_eq!(hex(&sheet), "02000700000001414030");
     assert_eq!(write(&sheet), file);
 }
 
@@ -62,7 +62,7 @@ fn case_2() {
 fn case_3() {
     let file = old(3, &[0]);
     assert_eq!(file.len(), 29);
-    assert_eq!(hex(&read(&file).unwrap()), "010006000000014154");
+    assert_eq!(hex(&read(&file).unwrap()), "020006000000014154");
 }
 
 /// The label after a station with this label and then one code, or 6.
@@ -147,7 +147,7 @@ fn case_9() {
 #[test]
 fn case_10() {
     let codes = |sides| {
-        let file = write(&with_short_header(&[section(0, sides, b"")]));
+        let file = write(&with_short_header(&[section(0, UNDATED, sides, b"")]));
         hex(&file[30..file.len() - 2])
     };
     assert_eq!(codes([32767; 4]), "30000000ff7fff7fff7fff7f");

@@ -79,10 +79,12 @@ fn past(rng: &mut Rng, records: usize) -> Edit {
 /// A replacement with damage, a header in it, or a whole sheet's bytes.
 fn flawed(rng: &mut Rng, records: usize) -> Edit {
     let Edit { first, count, mut new } = within(rng, records);
-    match rng.below(6) {
+    match rng.below(7) {
         0 => damage::flip(rng, &mut new),
         1 => damage::insert(rng, &mut new),
         2 if !new.is_empty() => new.truncate(rng.below(new.len())),
+        // version 1 sections, read as version 2
+        5 => new = laid(&without_dates(&records_of(rng))),
         3 => new.extend(laid(&[header(0, b"A", b"@0")])),
         4 => new = sheet_edges::all().nth(rng.below(300)).expect("an edge"),
         _ => new.push(rng.byte()),

@@ -3,11 +3,27 @@
 /// A record's bytes after its two length bytes.
 pub type Body = Vec<u8>;
 
-/// Kind, first day, last day: as a leg holds them, right or wrong.
+/// Kind, first day, last day: as a leg or a section holds them, right or wrong.
 #[derive(Clone, Copy, PartialEq, Eq, Debug)]
 pub struct Date(pub u8, pub u16, pub u16);
 
 pub const UNDATED: Date = Date(0, 0, 0);
+
+impl Date {
+    fn bytes(self) -> [u8; DATE_SIZE] {
+        let [day, last] = [self.1, self.2].map(u16::to_be_bytes);
+        [self.0, day[0], day[1], last[0], last[1]]
+    }
+}
+
+/// A date takes so many bytes, and stands here in a section of version 2.
+pub const DATE_SIZE: usize = 5;
+const DATE_PLACE: usize = 2;
+
+/// The version byte of a sheet whose sections have no date, and of one whose
+/// sections have one.
+pub const VERSION_1: u8 = 1;
+pub const VERSION_2: u8 = 2;
 
 /// A leg's parts.
 #[derive(Clone)]
@@ -28,10 +44,8 @@ impl Leg {
     }
 
     pub fn body(&self) -> Body {
-        let Date(kind, day, last) = self.date;
-        let start = [1, self.flags, self.style, kind];
-        let days = [day.to_be_bytes(), last.to_be_bytes()].concat();
-        [&start, &days[..], &big(&self.from), &big(&self.to), &self.label].concat()
+        let start = [1, self.flags, self.style];
+        [&start, &self.date.bytes()[..], &big(&self.from), &big(&self.to), &self.label].concat()
     }
 }
 
@@ -39,8 +53,17 @@ pub fn station(flags: u8, at: [i32; 3], label: &[u8]) -> Body {
     [&[2, flags], &big(&at)[..], label].concat()
 }
 
-pub fn section(last: u8, sides: [i32; 4], label: &[u8]) -> Body {
-    [&[3, last], &big(&sides)[..], label].concat()
+pub fn section(last: u8, date: Date, sides: [i32; 4], label: &[u8]) -> Body {
+    [&[3, last], &date.bytes()[..], &big(&sides), label].concat()
+}
+
+/// The records as version 1 has them: sections lose their dates.
+pub fn without_dates(records: &[Body]) -> Vec<Body> {
+    let cut = |body: &Body| match body[..] {
+        [3, ..] => [&body[..DATE_PLACE], &body[DATE_PLACE + DATE_SIZE..]].concat(),
+        _ => body.clone(),
+    };
+    records.iter().map(cut).collect()
 }
 
 pub fn error(five: [i32; 5]) -> Body {
@@ -57,7 +80,11 @@ fn big(numbers: &[i32]) -> Vec<u8> {
 
 /// The version byte, then the bodies with their lengths.
 pub fn sheet(bodies: &[Body]) -> Vec<u8> {
-    let mut sheet = vec![1];
+    sheet_of(VERSION_2, bodies)
+}
+
+pub fn sheet_of(version: u8, bodies: &[Body]) -> Vec<u8> {
+    let mut sheet = vec![version];
     for body in bodies {
         sheet.extend_from_slice(&(body.len() as u16).to_be_bytes());
         sheet.extend_from_slice(body);
@@ -67,5 +94,27 @@ pub fn sheet(bodies: &[Body]) -> Vec<u8> {
 
 /// A sheet with the header of case 1.
 pub fn with_short_header(records: &[Body]) -> Vec<u8> {
-    sheet(&[&[header(0, b"A", b"@0")], records].concat())
+    short_sheet(VERSION_2, records)
+}
+
+pub fn short_sheet(version: u8, records: &[Body]) -> Vec<u8> {
+    sheet_of(version, &[&[header(0, b"A", b"@0")], records].concat())
+}
+
+/// The version 2 sheet of a good sheet's header and records.
+pub fn twin(sheet: &[u8]) -> Vec<u8> {
+    if sheet[0] == VERSION_2 {
+        return sheet.to_vec();
+    }
+    let mut twin = vec![VERSION_2];
+    let mut rest = &sheet[1..];
+    while let Some((length, behind)) = rest.split_first_chunk() {
+        let (body, behind) = behind.split_at(usize::from(u16::from_be_bytes(*length)));
+        let (start, end) = body.split_at(DATE_PLACE.min(body.len()));
+        let date = if body[0] == 3 { &UNDATED.bytes()[..] } else { &[] };
+        twin.extend(((body.len() + date.len()) as u16).to_be_bytes());
+        twin.extend([start, date, end].concat());
+        rest = behind;
+    }
+    twin
 }

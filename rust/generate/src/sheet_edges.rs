@@ -3,13 +3,19 @@
 use crate::record::*;
 
 pub fn all() -> impl Iterator<Item = Vec<u8>> {
-    headers().chain(fields()).chain(lengths()).chain(pairs()).chain(runs())
+    headers()
+        .chain(fields())
+        .chain(versions())
+        .chain(lengths())
+        .chain(pairs())
+        .chain(runs())
+        .chain(dates())
 }
 
 /// Headers: extended, title and time line at and past their limits, title
 /// lengths that lie, other kinds, no header and no version byte.
 fn headers() -> impl Iterator<Item = Vec<u8>> {
-    let mut sheets = vec![vec![], vec![0], vec![1], vec![2], vec![1, 0], vec![1, 0, 0]];
+    let mut sheets = vec![vec![], vec![0], vec![1], vec![2], vec![3], vec![2, 0], vec![2, 0, 0]];
     for extended in [0, 1, 2, 0x80, 255] {
         sheets.push(sheet(&[header(extended, b"A", b"@0")]));
     }
@@ -50,24 +56,55 @@ fn fields() -> Vec<Vec<u8>> {
         bodies.push(Leg { flags: value, ..Leg::plain(b"a") }.body());
         bodies.push(Leg { style: value, ..Leg::plain(b"a") }.body());
         bodies.push(station(value, [1, 2, 3], b"a"));
-        bodies.push(section(value, [1, 2, 3, 4], b"a"));
+        bodies.push(section(value, UNDATED, [1, 2, 3, 4], b"a"));
         for (day, last) in [(0, 0), (1, 0), (0, 1), (1, 1)] {
-            bodies.push(Leg { date: Date(value, day, last), ..Leg::plain(b"a") }.body());
+            bodies.extend(dated(Date(value, day, last)));
         }
     }
     let days = [0, 1, 2, 254, 255, 256, 257, 32768, 65279, 65280, 65534, 65535];
     for (day, last) in days.iter().flat_map(|&day| days.map(|last| (day, last))) {
-        bodies.push(Leg { date: Date(2, day, last), ..Leg::plain(b"a") }.body());
+        bodies.extend(dated(Date(2, day, last)));
     }
     for side in [-1, 0, 32767, 32768, -32768, -32769, 65535, i32::MIN, i32::MAX] {
         for place in 0..4 {
             let mut sides = [7; 4];
             sides[place] = side;
-            bodies.push(section(1, sides, b"a"));
+            bodies.push(section(1, UNDATED, sides, b"a"));
         }
-        bodies.push(section(0, [side; 4], b"a"));
+        bodies.push(section(0, UNDATED, [side; 4], b"a"));
     }
     bodies.into_iter().map(|body| with_short_header(&[body])).collect()
+}
+
+/// A leg and a section of the date.
+fn dated(date: Date) -> [Body; 2] {
+    [Leg { date, ..Leg::plain(b"a") }.body(), section(0, date, [1, 2, 3, 4], b"a")]
+}
+
+/// Sections of each version in a sheet of each version, with labels around the
+/// date's five bytes, and lengths of labels and bodies in version 1.
+fn versions() -> impl Iterator<Item = Vec<u8>> {
+    let sides = [[0; 4], [1, 2, 3, 4], [-1; 4], [0x0100_0200, 0x0300_0400, 5, 6]];
+    let sections = sides.into_iter().flat_map(|sides| {
+        [0, 1, 4, 5, 6, 4091, 4092, 4096, 4097]
+            .map(|length| vec![b'x'; length])
+            .into_iter()
+            .flat_map(move |label| {
+                let new = section(1, UNDATED, sides, &label);
+                let old = without_dates(std::slice::from_ref(&new)).remove(0);
+                [new, old].into_iter().flat_map(|body| {
+                    (0..4).map(move |version| short_sheet(version, std::slice::from_ref(&body)))
+                })
+            })
+    });
+    let last = (0..=255).map(|value| {
+        short_sheet(VERSION_1, &without_dates(&[section(value, UNDATED, [1, 2, 3, 4], b"a")]))
+    });
+    let short = (0..18).map(|end| {
+        let old = without_dates(&[section(0, UNDATED, [1, 2, 3, 4], b"")]).remove(0);
+        short_sheet(VERSION_1, &[old[..end].to_vec()])
+    });
+    sections.chain(last).chain(short)
 }
 
 /// Each kind with each length of label, and bodies cut short.
@@ -92,7 +129,7 @@ fn named(kind: usize, label: &[u8]) -> Body {
     match kind {
         0 => Leg { style: 0, ..Leg::plain(label) }.body(),
         1 => station(0, [1, 2, 3], label),
-        _ => section(0, [1, 2, 3, 4], label),
+        _ => section(0, UNDATED, [1, 2, 3, 4], label),
     }
 }
 
@@ -132,5 +169,20 @@ fn runs() -> impl Iterator<Item = Vec<u8>> {
                 .collect();
             with_short_header(&legs)
         })
+    })
+}
+
+/// Every run of four records, each a leg or a section of one of three dates,
+/// in both versions.
+fn dates() -> impl Iterator<Item = Vec<u8>> {
+    const DATES: [Date; 3] = [UNDATED, Date(1, 9, 0), Date(2, 9, 265)];
+    (0..6usize.pow(4)).flat_map(|ways| {
+        let records: Vec<_> = (0..4)
+            .map(|place| {
+                let way = ways / 6usize.pow(place) % 6;
+                dated(DATES[way / 2])[way % 2].clone()
+            })
+            .collect();
+        [with_short_header(&records), short_sheet(VERSION_1, &without_dates(&records))]
     })
 }

@@ -34,7 +34,8 @@ use SheetKind as Kind;
 /// The fixed sheets, the same in every run.
 pub fn fixed() -> impl Iterator<Item = (Kind, Vec<u8>)> {
     let tour = tour();
-    let mut damaged = vec![(Kind::Good, tour.clone())];
+    let mut damaged = vec![(Kind::Good, tour.clone()), (Kind::Good, old_tour())];
+    damaged.extend(damage::changes(&old_tour()).map(|new| (Kind::Changed, new)));
     damaged.extend(damage::cuts(&tour).map(|cut| (Kind::Cut, cut)));
     damaged.extend(damage::changes(&tour).map(|new| (Kind::Changed, new)));
     damaged.extend(damage::inserts(&tour).map(|new| (Kind::Inserted, new)));
@@ -44,9 +45,18 @@ pub fn fixed() -> impl Iterator<Item = (Kind, Vec<u8>)> {
 
 /// A sheet with every record kind and every kind of date.
 pub fn tour() -> Vec<u8> {
+    sheet(&tour_records())
+}
+
+/// The same in version 1.
+pub fn old_tour() -> Vec<u8> {
+    sheet_of(VERSION_1, &without_dates(&tour_records()))
+}
+
+fn tour_records() -> Vec<Body> {
     let leg = |style, date, label: &[u8]| Leg { style, date, ..Leg::plain(label) };
     let far = Leg { from: [1, 2, 3], to: [-1, -2, i32::MIN], ..leg(4, Date(2, 5, 900), b"a.c") };
-    sheet(&[
+    vec![
         header(1, b"A tour", b"@1016373667"),
         leg(5, UNDATED, b"").body(),
         station(0x7f, [1, -2, 3], b"a.b"),
@@ -55,11 +65,16 @@ pub fn tour() -> Vec<u8> {
         leg(2, Date(2, 0, 255), b"a").body(),
         far.body(),
         leg(0, UNDATED, b"a.c").body(),
-        section(1, [-1, 0, 32767, -32768], b"p.1"),
-        section(0, [-1, 0, 32768, 9], b"p.1"),
+        section(1, UNDATED, [-1, 0, 32767, -32768], b"p.1"),
+        section(0, Date(1, 7, 0), [-1, 0, 32768, 9], b"p.1"),
+        section(0, Date(2, 7, 262), [1, 2, 3, 4], b"p.1"),
+        section(0, Date(2, 7, 263), [1, 2, 3, 4], b"p.2"),
+        section(0, Date(2, 7, 263), [1, 2, 3, 5], b"p.3"),
+        section(1, UNDATED, [5, 6, 7, 8], b"p.3"),
         error([1, 2, 3, 4, -5]),
         leg(3, Date(1, 0, 0), b"p.1").body(),
-    ])
+        section(1, Date(1, 0, 0), [5, 6, 7, 8], b"p"),
+    ]
 }
 
 /// One round: a good sheet and what damage makes of it.
@@ -86,8 +101,9 @@ pub fn round(seed: u64, round: u64) -> Vec<(Kind, Vec<u8>)> {
     sheets.push((Kind::SecondHeader, put_in(&mut rng, &records, header(0, b"A", b"@0"))));
     sheets.push((Kind::StyleLost, style_lost(&mut rng, &records)));
     let date = bad_date(&mut rng);
-    let wrong = Leg { date, ..Leg::plain(b"a") }.body();
-    sheets.push((Kind::Date, put_in(&mut rng, &records, wrong)));
+    for wrong in [Leg { date, ..Leg::plain(b"a") }.body(), section(0, date, [1, 2, 3, 4], b"a")] {
+        sheets.push((Kind::Date, put_in(&mut rng, &records, wrong)));
+    }
     sheets.push((Kind::Noise, damage::noise(&mut rng, &with_short_header(&[]))));
     sheets
 }
@@ -112,12 +128,16 @@ fn with_head(rng: &mut Rng, records: &[Body]) -> Vec<u8> {
     let length = if rng.one_in(300) { 4096 } else { rng.below(5) };
     let title: Vec<u8> = (0..length).map(|_| rng.pick(b"ab \0\xff")).collect();
     let time = rng.pick(&[&b"@0"[..], b"", b"T", &[b'x'; 64]]);
-    sheet(&[&[header(rng.below(2) as u8, &title, time)], records].concat())
+    let head = header(rng.below(2) as u8, &title, time);
+    if rng.one_in(3) {
+        return sheet_of(VERSION_1, &[&[head], &without_dates(records)[..]].concat());
+    }
+    sheet(&[&[head], records].concat())
 }
 
 /// Good records, each label near the one before.
 pub fn records_of(rng: &mut Rng) -> Vec<Body> {
-    let (mut label, mut leg) = (Vec::new(), Leg::plain(b""));
+    let (mut label, mut date, mut leg) = (Vec::new(), UNDATED, Leg::plain(b""));
     (0..rng.below(12))
         .map(|_| {
             if !rng.one_in(4) {
@@ -125,10 +145,16 @@ pub fn records_of(rng: &mut Rng) -> Vec<Body> {
             }
             match rng.below(8) {
                 0 => error(rng.numbers()),
-                1 | 2 => section(rng.below(2) as u8, rng.sides(), &label),
+                1 | 2 => {
+                    if rng.one_in(3) {
+                        date = good_date(rng);
+                    }
+                    section(rng.below(2) as u8, date, rng.sides(), &label)
+                }
                 3 | 4 => station(rng.below(128) as u8, rng.numbers(), &label),
                 _ => {
-                    leg = next_leg(rng, &leg, &label);
+                    leg = next_leg(rng, &Leg { date, ..leg.clone() }, &label);
+                    date = leg.date;
                     leg.body()
                 }
             }
@@ -151,7 +177,7 @@ fn label_near(rng: &mut Rng, before: &[u8]) -> Vec<u8> {
     [&before[..keep], &rng.name(add.min(4096 - keep))].concat()
 }
 
-/// A leg that may keep style, date and place of the one before.
+/// A leg that may keep style, date and place of the record before.
 fn next_leg(rng: &mut Rng, before: &Leg, label: &[u8]) -> Leg {
     let mut leg = Leg { flags: rng.below(8) as u8, label: label.to_vec(), ..before.clone() };
     if rng.one_in(3) {
@@ -219,14 +245,14 @@ fn relengthened(rng: &mut Rng, records: &[Body]) -> Vec<u8> {
     let place = rng.below(records.len());
     let mut records = records.to_vec();
     if rng.one_in(2) {
-        let fixed = [0, 32, 14, 18, 21][usize::from(records[place][0])];
+        let fixed = [0, 32, 14, 23, 21][usize::from(records[place][0])];
         let length = rng.pick(&[0, 1, 2, fixed - 1, fixed, fixed + 1, 4128, 4129, 4130]);
         records[place].resize(length, b'l');
         return with_short_header(&records);
     }
     let start = with_short_header(&records[..place]).len();
     let mut bytes = with_short_header(&records);
-    let length = rng.pick(&[0, 1, 13, 14, 18, 21, 22, 32, 255, 256, 4128, 4129, 65535_u16]);
+    let length = rng.pick(&[0, 1, 13, 14, 18, 21, 22, 23, 32, 255, 256, 4128, 4129, 65535_u16]);
     bytes[start..start + 2].copy_from_slice(&length.to_be_bytes());
     bytes
 }

@@ -1,8 +1,9 @@
 //! Editing a v8 file: its sheet with a run of records replaced, written anew.
 
-use crate::{no, read, sheet, write, Answer, Refusal};
+use crate::sheet::{self, Layout};
+use crate::{no, read, write, Answer, Refusal};
 
-/// Replaces the `count` records from `first` on by the records in
+/// Replaces the `count` records from `first` on by the version 2 records in
 /// `replacement` (with their length bytes, no version byte, no header) and
 /// writes the new file to the front of `out`.
 ///
@@ -61,7 +62,7 @@ fn judge_replacement(replacement: &[u8]) -> Result<(), Refusal> {
     let mut rest = replacement;
     let mut number = 0;
     while !rest.is_empty() {
-        (_, rest) = sheet::record(rest).ok_or(no(12, number))?;
+        (_, rest) = sheet::record(Layout::Version2, rest).ok_or(no(12, number))?;
         number += 1;
     }
     Ok(())

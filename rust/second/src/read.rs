@@ -4,10 +4,11 @@
 use crate::header::{header, Header};
 use crate::item::{next, Item};
 use crate::record;
+use crate::sheet::Layout;
 use crate::state::State;
 use crate::{no, Answer, Refusal};
 
-/// Reads `file` (v3 to v8) to the front of `sheet`.
+/// Reads `file` (v3 to v8) to the front of `sheet`, as a version 2 sheet.
 ///
 /// Refusals come as "16, 1, 2, 3, the v8 byte, then items in order; in an item
 /// 4, 5, 6, 7, 9, 8; then 10, then 11" and leave `sheet` untouched.
@@ -117,7 +118,7 @@ fn header_size(head: &Header) -> usize {
 fn put_header(head: &Header, sheet: &mut [u8]) -> usize {
     let size = header_size(head);
     let title_end = 7 + head.title.len();
-    sheet[0] = 1;
+    sheet[0] = Layout::Version2 as u8;
     // At most 4,164 and 4,096, so the casts keep them.
     sheet[1..3].copy_from_slice(&((size - 3) as u16).to_be_bytes());
     sheet[3] = 0;

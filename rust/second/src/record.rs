@@ -1,4 +1,5 @@
-//! The record an item makes, as it stands in the sheet with its length bytes.
+//! The record an item makes, as it stands in a version 2 sheet with its length
+//! bytes.
 
 use crate::item::{Item, What};
 use crate::state::State;
@@ -11,7 +12,7 @@ pub(crate) fn size(item: &Item, length: usize) -> Option<usize> {
     match item.what {
         What::Leg { .. } => Some(2 + 32 + length),
         What::Station { .. } => Some(2 + 14 + length),
-        What::Narrow { .. } | What::Wide { .. } => Some(2 + 18 + length),
+        What::Narrow { .. } | What::Wide { .. } => Some(2 + 23 + length),
         What::Error(_) => Some(2 + 21),
         _ => None,
     }
@@ -60,11 +61,12 @@ fn put_station(flags: u8, at: &[u8; 12], state: &State, out: &mut [u8]) -> usize
 #[inline]
 fn put_section(last: u8, sides: &[u8; 16], state: &State, out: &mut [u8]) -> usize {
     let label = state.label();
-    let (start, rest) = begin::<4>(18 + label.len(), out);
+    let (start, rest) = begin::<9>(23 + label.len(), out);
     start[2] = 3;
     start[3] = last;
+    start[4..].copy_from_slice(&state.date);
     put_numbers(sides, rest).copy_from_slice(label);
-    2 + 18 + label.len()
+    2 + 23 + label.len()
 }
 
 fn put_error(five: &[u8; 20], out: &mut [u8]) -> usize {

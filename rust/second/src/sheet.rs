@@ -1,9 +1,28 @@
 //! The sheet's layout: its header and records taken apart and judged.
 
-use crate::state::Date;
+use crate::state::{Date, UNDATED};
 use crate::{LONGEST_LABEL, LONGEST_TIME, LONGEST_TITLE, NOT_SAID};
 
+/// The two sheet versions. They differ in their section records alone.
+#[derive(Clone, Copy)]
+pub(crate) enum Layout {
+    Version1 = 1,
+    Version2 = 2,
+}
+
+impl Layout {
+    fn of(byte: u8) -> Option<Layout> {
+        match byte {
+            1 => Some(Layout::Version1),
+            2 => Some(Layout::Version2),
+            _ => None,
+        }
+    }
+}
+
 pub(crate) struct SheetHeader<'a> {
+    /// How the sheet's records are to be judged.
+    pub layout: Layout,
     pub extended: bool,
     pub title: &'a [u8],
     pub time: &'a [u8],
@@ -14,24 +33,22 @@ pub(crate) struct SheetHeader<'a> {
 pub(crate) enum Record<'a> {
     Leg { flags: u8, style: u8, date: Date, from: &'a [u8; 12], to: &'a [u8; 12], label: &'a [u8] },
     Station { flags: u8, at: &'a [u8; 12], label: &'a [u8] },
-    Section { last: u8, sides: &'a [u8; 16], label: &'a [u8] },
+    Section { last: u8, date: Date, sides: &'a [u8; 16], label: &'a [u8] },
     Error(&'a [u8; 20]),
 }
 
 /// The header and what follows it, or nothing if the version byte or the
 /// header breaks the layout.
 pub(crate) fn header(sheet: &[u8]) -> Option<(SheetHeader<'_>, &[u8])> {
-    let (&[version], rest) = sheet.split_first_chunk()?;
+    let (&version_byte, rest) = sheet.split_first()?;
+    let layout = Layout::of(version_byte)?;
     let (body, rest) = body(rest)?;
     let (&[kind, extended, high, low], text) = body.split_first_chunk()?;
     let length = u16::from_be_bytes([high, low]);
     let (title, time) = text.split_at_checked(usize::from(length))?;
-    let good = version == 1
-        && kind == 0
-        && extended <= 1
-        && is_line(title, LONGEST_TITLE)
-        && is_line(time, LONGEST_TIME);
-    good.then_some((SheetHeader { extended: extended == 1, title, time }, rest))
+    let good =
+        kind == 0 && extended <= 1 && is_line(title, LONGEST_TITLE) && is_line(time, LONGEST_TIME);
+    good.then_some((SheetHeader { layout, extended: extended == 1, title, time }, rest))
 }
 
 /// "Title and time line keep the header's rules and hold no linefeed."
@@ -46,15 +63,15 @@ fn body(rest: &[u8]) -> Option<(&[u8], &[u8])> {
     rest.split_at_checked(usize::from(u16::from_be_bytes(*length)))
 }
 
-/// Takes the first record, or nothing if it is not well-formed. A header is
-/// none here: it stands "first and once".
+/// Takes the first record, or nothing if it is not well-formed by the layout.
+/// A header is none here: it stands "first and once".
 #[inline(always)]
-pub(crate) fn record(rest: &[u8]) -> Option<(Record<'_>, &[u8])> {
+pub(crate) fn record(layout: Layout, rest: &[u8]) -> Option<(Record<'_>, &[u8])> {
     let (body, rest) = body(rest)?;
     let record = match *body.first()? {
         1 => leg(body)?,
         2 => station(body)?,
-        3 => section(body)?,
+        3 => section(layout, body)?,
         4 => error(body)?,
         _ => return None,
     };
@@ -93,11 +110,21 @@ fn station(body: &[u8]) -> Option<Record<'_>> {
 }
 
 #[inline(always)]
-fn section(body: &[u8]) -> Option<Record<'_>> {
+fn section(layout: Layout, body: &[u8]) -> Option<Record<'_>> {
     let (&[_, last], rest) = body.split_first_chunk()?;
+    let (date, rest) = section_date(layout, rest)?;
     let (sides, label) = rest.split_first_chunk()?;
-    let good = last <= 1 && label.len() <= LONGEST_LABEL;
-    good.then_some(Record::Section { last, sides, label })
+    let good = last <= 1 && is_date(date) && label.len() <= LONGEST_LABEL;
+    good.then_some(Record::Section { last, date, sides, label })
+}
+
+/// The date and what follows it: "a version 1 section having no date".
+#[inline(always)]
+fn section_date(layout: Layout, rest: &[u8]) -> Option<(Date, &[u8])> {
+    match layout {
+        Layout::Version1 => Some((UNDATED, rest)),
+        Layout::Version2 => rest.split_first_chunk().map(|(&date, rest)| (date, rest)),
+    }
 }
 
 #[inline(always)]

@@ -3,7 +3,7 @@
 use crate::item::{Change, Item, What};
 use crate::{Number, LONGEST_LABEL, NORMAL, NOT_SAID};
 
-/// A date as a leg record holds it: kind, u16 day, u16 last day.
+/// A date as leg and section records hold it: kind, u16 day, u16 last day.
 pub(crate) type Date = [u8; 5];
 pub(crate) const UNDATED: Date = [0; 5];
 
@@ -108,8 +108,8 @@ impl<'a> State<'a> {
         self.length = length;
     }
 
-    /// What the item leaves for later legs. "MOVE and LINE set the position.
-    /// Dates and styles touch only later legs."
+    /// What the item leaves for later records. "MOVE and LINE set the
+    /// position"; styles touch only later legs, dates later sections too.
     #[inline(always)]
     pub fn apply(&mut self, item: &Item<'a>) {
         match item.what {

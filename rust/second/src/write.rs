@@ -6,7 +6,7 @@ use crate::sheet::{self, Record, SheetHeader};
 use crate::state::{Date, UNDATED};
 use crate::{no, turn, Answer, Refusal, LONGEST_FILE, NORMAL, NOT_SAID};
 
-/// Writes `sheet` as a v8 file to the front of `file`.
+/// Writes `sheet`, of version 1 or 2, as a v8 file to the front of `file`.
 ///
 /// Refusals come as "12 (first bad record), 13, 16, 11" and leave `file`
 /// untouched.
@@ -38,7 +38,7 @@ fn measure(sheet: &[u8]) -> Result<(usize, usize), Refusal> {
     let mut style_lost = None;
     put_header(&head, &mut count);
     while !rest.is_empty() {
-        let (record, after) = sheet::record(rest).ok_or(no(12, records))?;
+        let (record, after) = sheet::record(head.layout, rest).ok_or(no(12, records))?;
         // A later 12 goes before this 13, so it is only kept in mind.
         if style_lost.is_none() && codes.loses_style(&record) {
             style_lost = Some(no(13, records));
@@ -60,7 +60,7 @@ fn fill(sheet: &[u8], part: &mut [u8]) {
     let mut codes = Codes::new();
     let Some((head, mut rest)) = sheet::header(sheet) else { return };
     put_header(&head, &mut file);
-    while let Some((record, after)) = sheet::record(rest) {
+    while let Some((record, after)) = sheet::record(head.layout, rest) {
         codes.put(&record, &mut file);
         rest = after;
     }
@@ -142,7 +142,10 @@ impl<'a> Codes<'a> {
                 self.put_name(label, sink);
                 sink.put(&little_endian(at));
             }
-            Record::Section { last, sides, label } => self.put_section(last, sides, label, sink),
+            Record::Section { last, date, sides, label } => {
+                self.put_date(date, sink);
+                self.put_section(last, sides, label, sink);
+            }
             Record::Error(five) => {
                 sink.put(&[0x1f]);
                 sink.put(&little_endian(five));

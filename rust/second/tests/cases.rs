@@ -28,7 +28,7 @@ fn named(label: &[u8]) -> Vec<u8> {
 fn case_1_least_v8_file() {
     let file = v8(&[0, 0]);
     assert_eq!(file.len(), 32);
-    let sheet = vec![0x01, 0x00, 0x07, 0x00, 0x00, 0x00, 0x01, 0x41, 0x40, 0x30];
+    let sheet = vec![0x02, 0x00, 0x07, 0x00, 0x00, 0x00, 0x01, 0x41, 0x40, 0x30];
     assert_eq!(read_all(&file), Ok((sheet.clone(), 0, 8)));
     assert_eq!(write_all(&sheet), Ok(file));
 }
@@ -43,7 +43,7 @@ fn case_2_one_byte_less_or_more() {
 fn case_3_least_v3_file() {
     let file = old(3, &[0]);
     assert_eq!(file.len(), 29);
-    let sheet = vec![0x01, 0x00, 0x06, 0x00, 0x00, 0x00, 0x01, 0x41, 0x54];
+    let sheet = vec![0x02, 0x00, 0x06, 0x00, 0x00, 0x00, 0x01, 0x41, 0x54];
     assert_eq!(read_all(&file), Ok((sheet, 0, 3)));
 }
 

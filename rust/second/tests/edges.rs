@@ -33,10 +33,10 @@ fn no_3_lines() {
     assert_eq!(all(&[b"A\n", &long[..65], b"\n\0\0\0"].concat()), Err((3, 26)));
     assert_eq!(all(b"A\n@0\n"), Err((3, 29)));
     assert_eq!(all(b"\n\n"), Err((3, 26)));
-    assert_eq!(all(b"\n\n\0\0\0").map(|read| read.0), Ok(vec![1, 0, 4, 0, 0, 0, 0]));
+    assert_eq!(all(b"\n\n\0\0\0").map(|read| read.0), Ok(vec![2, 0, 4, 0, 0, 0, 0]));
     // A title may hold zero bytes and carriage returns not at its end.
     let kept = all(b"\0\rA\n\rT\n\0\0\0").map(|read| read.0);
-    assert_eq!(kept, Ok(vec![1, 0, 9, 0, 0, 0, 3, 0, 13, b'A', 13, b'T']));
+    assert_eq!(kept, Ok(vec![2, 0, 9, 0, 0, 0, 3, 0, 13, b'A', 13, b'T']));
     let longest = all(&[&long[..4096], b"\n", &long[..64], b"\n\x80\0\0"].concat()).unwrap();
     assert_eq!(longest.0.len(), 1 + 4166);
     assert_eq!(longest.0[4], 1);
@@ -239,7 +239,7 @@ fn no_12_version_byte_and_header() {
         assert_eq!(write_all(bad), Err((12, 0)));
     }
     // Version, kind, extended, and a title longer than the record.
-    for (place, byte) in [(0, 0), (0, 2), (3, 1), (3, 5), (4, 2), (5, 1), (6, 4)] {
+    for (place, byte) in [(0, 0), (0, 3), (0, 255), (3, 1), (3, 5), (4, 2), (5, 1), (6, 4)] {
         let mut bad = good.clone();
         bad[place] = byte;
         assert_eq!(write_all(&bad), Err((12, 0)), "{place}");
@@ -252,17 +252,42 @@ fn no_12_version_byte_and_header() {
     assert_eq!(write_all(&sheet_with(0, b"", b"\n", &[])), Err((12, 0)));
     assert!(write_all(&sheet_with(0, &long[..4096], &long[..64], &[])).is_ok());
     assert!(write_all(&sheet_with(0, b"\ra", b"\ra", &[])).is_ok());
-    assert_eq!(write_all(&[&[1][..], &framed(&[0, 0, 0])].concat()), Err((12, 0)));
-    assert!(write_all(&[&[1][..], &framed(&[0, 0, 0, 0])].concat()).is_ok());
+    for version in [1, 2] {
+        assert_eq!(write_all(&[&[version][..], &framed(&[0, 0, 0])].concat()), Err((12, 0)));
+        assert!(write_all(&[&[version][..], &framed(&[0, 0, 0, 0])].concat()).is_ok());
+    }
+}
+
+/// The record's bytes with one of them changed.
+fn set(record: &Rec, place: usize, byte: u8) -> Vec<u8> {
+    let mut bytes = record.bytes();
+    bytes[place] = byte;
+    bytes
+}
+
+fn bad_sections() -> Vec<Vec<u8>> {
+    let good = section([0; 4], b"");
+    let dated = |date| dated_section(date, b"");
+    vec![
+        set(&good, 3, 2),
+        set(&good, 4, 3),
+        set(&good, 4, 255),
+        set(&good, 5, 1),
+        set(&good, 6, 1),
+        set(&good, 8, 1),
+        set(&dated(Date::Day(7)), 7, 1),
+        set(&dated(Date::Day(7)), 8, 1),
+        dated(Date::Range(0, 0)).bytes(),
+        dated(Date::Range(5, 5)).bytes(),
+        dated(Date::Range(6, 5)).bytes(),
+        dated(Date::Range(256, 255)).bytes(),
+        framed(&good.bytes()[2..24]),
+        section([0; 4], &[b'x'; 4097]).bytes(),
+    ]
 }
 
 fn bad_records() -> Vec<Vec<u8>> {
     let good_leg = leg(0, Date::None, [0; 3], [1; 3], b"");
-    let set = |record: &Rec, place: usize, byte: u8| {
-        let mut bytes = record.bytes();
-        bytes[place] = byte;
-        bytes
-    };
     let dated = |date| leg(0, date, [0; 3], [1; 3], b"");
     let long = vec![b'x'; 4097];
     vec![
@@ -282,13 +307,10 @@ fn bad_records() -> Vec<Vec<u8>> {
         framed(&good_leg.bytes()[2..33]),
         set(&station(b""), 3, 0x80),
         framed(&station(b"").bytes()[2..15]),
-        set(&section([0; 4], b""), 3, 2),
-        framed(&section([0; 4], b"").bytes()[2..19]),
         framed(&Rec::Error([0; 5]).bytes()[2..22]),
         framed(&[&Rec::Error([0; 5]).bytes()[2..], &[0]].concat()),
         leg(0, Date::None, [0; 3], [1; 3], &long).bytes(),
         station(&long).bytes(),
-        section([0; 4], &long).bytes(),
     ]
 }
 
@@ -296,7 +318,7 @@ fn bad_records() -> Vec<Vec<u8>> {
 fn no_12_records() {
     let before = [station(b"a"), Rec::Error([1; 5])];
     let old_file = write_all(&sheet(&before)).unwrap();
-    for bad in bad_records() {
+    for bad in [bad_records(), bad_sections()].concat() {
         let sheet_of = |after: &[u8]| [&sheet(&before)[..], &bad, after].concat();
         assert_eq!(write_all(&sheet_of(&[])), Err((12, 2)), "{bad:?}");
         let replacement = [&station(b"c").bytes()[..], &bad].concat();
@@ -305,6 +327,7 @@ fn no_12_records() {
     }
     // A day of 0 is a day like any other.
     assert!(write_all(&sheet(&[leg(0, Date::Day(0), [0; 3], [1; 3], b"")])).is_ok());
+    assert!(write_all(&sheet(&[dated_section(Date::Day(0), b"")])).is_ok());
     let long = vec![0; 4096];
     let longest =
         [leg(0, Date::None, [0; 3], [1; 3], &long), station(&long), section([0; 4], &long)];
@@ -361,7 +384,12 @@ fn written_codes() {
         leg(0, Date::Range(1, 256), a, b, b"cave.low"),
         station(b"cave.low"),
         station(b"cave.low.1"),
-        Rec::Section { last: 1, sides: [-1, 2, 3, 4], label: b"cave.low.1".to_vec() },
+        Rec::Section {
+            last: 1,
+            date: Date::Range(1, 256),
+            sides: [-1, 2, 3, 4],
+            label: b"cave.low.1".to_vec(),
+        },
         leg(0, Date::Range(1, 257), b, a, b""),
         Rec::Station { flags: 0x7f, at: a, label: vec![] },
         Rec::Error([1, 2, 3, 4, -5]),
@@ -451,7 +479,7 @@ fn conversion_that_grows_past_16() {
     assert!(file.len() < 16_777_216);
     let mut lent = vec![FILLER; 9 + 17 * (count + 1)];
     assert_eq!(convert(&file, &mut lent, &mut []), refused(16, 0));
-    assert_eq!(lent[..4], [1, 0, 6, 0]);
+    assert_eq!(lent[..4], [2, 0, 6, 0]);
     assert!(!lent.ends_with(&[FILLER]));
 }
 

@@ -85,14 +85,15 @@ fn records(rng: &mut Rng, version: u8) -> Vec<Rec> {
                 name = label(rng, &name);
             }
             let name = name.clone();
-            if kind == 3 {
-                return Rec::Section { last: rng.below(2) as u8, sides: sides(rng), label: name };
-            }
             if kind == 2 {
                 let flags = rng.below(if version == 8 { 128 } else { 32 }) as u8;
                 return Rec::Station { flags, at: point(rng), label: name };
             }
             day = date(rng, version, day);
+            if kind == 3 {
+                let (last, sides) = (rng.below(2) as u8, sides(rng));
+                return Rec::Section { last, date: day, sides, label: name };
+            }
             if version == 8 && rng.chance(3) {
                 style = rng.below(5) as u8;
             }
@@ -137,7 +138,10 @@ impl Coder<'_> {
                 self.label(if legacy { 0x40 } else { 0x80 } | flags, label);
                 self.items.extend(le(at));
             }
-            Rec::Section { last, sides, label } => self.section(*last, sides, label),
+            Rec::Section { last, date, sides, label } => {
+                self.date(*date);
+                self.section(*last, sides, label);
+            }
             Rec::Error(five) => {
                 self.items.push(if legacy { 0x22 } else { 0x1f });
                 self.items.extend(le(five));
@@ -330,6 +334,34 @@ fn any_coding_reads_to_its_sheet() {
     }
 }
 
+/// The records as a version 1 sheet gives them: no section has a date.
+fn undated_sections(mut records: Vec<Rec>) -> Vec<Rec> {
+    for record in &mut records {
+        if let Rec::Section { date, .. } = record {
+            *date = Date::None;
+        }
+    }
+    records
+}
+
+#[test]
+fn version_1_sheets_read_back_as_their_twins() {
+    let mut rng = Rng(0x7717_0106);
+    let mut taken_back = 0;
+    for round in 0..4000 {
+        let dated = records(&mut rng, 8);
+        let undated = undated_sections(dated.clone());
+        let (old, new) = (sheet_v1(&dated), sheet(&undated));
+        assert_eq!(twin(&old), new);
+        let file = write_all(&old).unwrap();
+        assert_eq!(write_all(&new).as_ref(), Ok(&file), "{round}");
+        assert_eq!(read_all(&file), Ok((new, undated.len(), 8)), "{round}");
+        taken_back += usize::from(dated != undated);
+    }
+    // Many sheets must have had a dated section to lose its date.
+    assert!(taken_back > 500, "{taken_back}");
+}
+
 #[test]
 fn edits_write_the_spliced_sheet() {
     let mut rng = Rng(0x5eed_0e17);
@@ -396,7 +428,7 @@ fn spoiled_sheets_are_written_only_if_good() {
     let (mut good, mut bad) = (0, 0);
     for _ in 0..40_000 {
         let records = records(&mut rng, 8);
-        let mut spoiled = sheet(&records);
+        let mut spoiled = if rng.chance(3) { sheet_v1(&records) } else { sheet(&records) };
         for _ in 0..1 + rng.below(2) {
             let place = rng.below(spoiled.len());
             match rng.below(4) {
@@ -410,7 +442,7 @@ fn spoiled_sheets_are_written_only_if_good() {
         }
         match write_all(&spoiled) {
             Ok(file) => {
-                assert_eq!(read_all(&file).unwrap().0, spoiled);
+                assert_eq!(read_all(&file).unwrap().0, twin(&spoiled));
                 good += 1;
             }
             Err((number, place)) => {

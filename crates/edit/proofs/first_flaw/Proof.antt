@@ -18,7 +18,7 @@ abbrev μ-loop : tie.MeasureT-loop
 sizes : (y : tie.After-entry Inv-loop μ-loop) → (3 ≤ y .entry .given .0 .0) × (y .before .before .before .before .before .loop .at + y .entry .given .0 .0 ≤ length (y .before .before .before .before .before .before .before .args .new .now))
 sizes y =
     let T = rw (y .entry .given .1) at (y .before .before .read-entry .ensures) in
-    found-size (y .before .before .before .before .before .before .before .args .new .now) (y .before .before .before .before .before .loop .at) (y .before .before .before .before .loop-test .taken) _ _ _ T
+    found-size _ (y .before .before .before .before .before .before .before .args .new .now) (y .before .before .before .before .before .loop .at) (y .before .before .before .before .loop-test .taken) _ _ _ T
 
 loop-holds : tie.Need-loop-holds Inv-loop μ-loop
 loop-holds c = judging-first _

@@ -18,7 +18,7 @@ abbrev μ-loop : tie.MeasureT-loop
 sizes : (y : tie.After-entry Inv-loop μ-loop) → (3 ≤ y .entry .given .0 .0) × (y .before .before .before .before .before .loop .at + y .entry .given .0 .0 ≤ length (y .before .before .before .before .before .before .before .before .args .new .now)) × (y .entry .given .0 .1 .1 .0 ≤ y .entry .given .0 .0)
 sizes y =
     let T = rw (y .entry .given .1) at (y .before .before .read-entry .ensures) in
-    let w = found-size (y .before .before .before .before .before .before .before .before .args .new .now) (y .before .before .before .before .before .loop .at) (y .before .before .before .before .loop-test .taken) _ _ _ T in
+    let w = found-size _ (y .before .before .before .before .before .before .before .before .args .new .now) (y .before .before .before .before .before .loop .at) (y .before .before .before .before .loop-test .taken) _ _ _ T in
     (w .0, w .1, T .inside .from-within)
 
 loop-holds : tie.Need-loop-holds Inv-loop μ-loop
@@ -70,7 +70,7 @@ put-one-requires c κs =
     let G = c .before .before .before .before .before .before .before .before .before .loop .inv in
     let h = c .before .before .before .before .before .before .before .before .loop-test .taken in
     let T = rw (c .before .before .before .before .entry .given .1) at (c .before .before .before .before .before .before .read-entry .ensures) in
-    (G .fits, putting-fits _ _ _ _ _ _ _ _ G (omega (arith, c .before .before .before .before .before .before .before .before .before .before .before .before .good)) (c .before .before .before .before .before .before .before .before .before .before .before .before .pre .2), found-formed _ _ h _ _ _ T, found-short _ _ h _ _ _ T)
+    (G .fits, putting-fits _ _ _ _ _ _ _ _ G (omega (arith, c .before .before .before .before .before .before .before .before .before .before .before .before .good)) (c .before .before .before .before .before .before .before .before .before .before .before .before .pre .2), found-formed _ _ _ h _ _ _ T, found-short _ _ _ h _ _ _ T)
 
 loop-less : tie.Need-loop-less Inv-loop μ-loop
 loop-less c =

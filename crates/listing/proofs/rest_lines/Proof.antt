@@ -10,13 +10,13 @@ use Rattle.listing.proofs.rest_lines.Statement.{statement}
 use Rattle.listing.proofs.rest_lines.Tie as tie
 
 abbrev Inv-loop : tie.InvT-loop
-Inv-loop sheet from out₀ begin at₀ k₀ records₀ out at k records = Listed sheet from out₀ begin out at k records
+Inv-loop sheet layout from out₀ begin at₀ k₀ records₀ out at k records = Listed layout sheet from out₀ begin out at k records
 
 abbrev μ-loop : tie.MeasureT-loop
-μ-loop sheet from out₀ begin at₀ k₀ records₀ out at k records = length sheet - at
+μ-loop sheet layout from out₀ begin at₀ k₀ records₀ out at k records = length sheet - at
 
 loop-holds : tie.Need-loop-holds Inv-loop μ-loop
-loop-holds c = listed-none _ _ _ _ (c .before .before .pre .0)
+loop-holds c = listed-none _ _ _ _ _ (c .before .before .pre .0)
 
 sub-rest : tie.Need-sub-rest Inv-loop μ-loop
 sub-rest c =
@@ -50,7 +50,7 @@ same-length c =
 returns : tie.Need-returns Inv-loop μ-loop
 returns c =
     let T = rw (c .before .before .before .before .enum-told .given .1) at (c .before .before .before .before .before .before .read-entry .ensures) in
-    listed-all (c .before .before .before .before .before .before .before .before .loop .inv) (entry-none (c .before .before .before .before .before .before .before .before .before .before .before .args .sheet .now) (c .before .before .before .before .before .before .before .before .loop .at) T) (c .before .before .end-line .ensures)
+    listed-all (c .before .before .before .before .before .before .before .before .loop .inv) (entry-none _ (c .before .before .before .before .before .before .before .before .before .before .before .args .sheet .now) (c .before .before .before .before .before .before .before .before .loop .at) T) (c .before .before .end-line .ensures)
 
 enum-known-found : tie.Need-enum-known-found Inv-loop μ-loop
 enum-known-found c = search needs
@@ -76,7 +76,7 @@ part-record-line-end c =
 record-line-requires : tie.Need-record-line-requires Inv-loop μ-loop
 record-line-requires c κs =
     let T = rw (c .before .before .before .found .given .1) at (c .before .before .before .before .before .read-entry .ensures) in
-    (omega (arith, c .before .before .before .before .before .before .before .loop .inv .put .few, c .before .before .before .before .before .before .before .loop .inv .inside, c .before .before .before .before .before .before .before .before .before .before .pre), entry-place (c .before .before .before .before .before .before .before .before .before .before .args .sheet .now) (c .before .before .before .before .before .before .before .loop .at) _ _ _ T (c .before .before .before .before .before .before .before .loop .inv .inside) .label-short)
+    (omega (arith, c .before .before .before .before .before .before .before .loop .inv .put .few, c .before .before .before .before .before .before .before .loop .inv .inside, c .before .before .before .before .before .before .before .before .before .before .pre), entry-place _ (c .before .before .before .before .before .before .before .before .before .before .args .sheet .now) (c .before .before .before .before .before .before .before .loop .at) _ _ _ T (c .before .before .before .before .before .before .before .loop .inv .inside) .label-short)
 
 add-records : tie.Need-add-records Inv-loop μ-loop
 add-records c =
@@ -85,17 +85,17 @@ add-records c =
 add-at : tie.Need-add-at Inv-loop μ-loop
 add-at c =
     let T = rw (c .before .before .before .before .before .before .found .given .1) at (c .before .before .before .before .before .before .before .before .read-entry .ensures) in
-    omega (arith, entry-place (c .before .before .before .before .before .before .before .before .before .before .before .before .before .args .sheet .now) (c .before .before .before .before .before .before .before .before .before .before .loop .at) _ _ _ T (c .before .before .before .before .before .before .before .before .before .before .loop .inv .inside) .behind, c .before .before .before .before .before .before .before .before .before .before .before .before .before .pre)
+    omega (arith, entry-place _ (c .before .before .before .before .before .before .before .before .before .before .before .before .before .args .sheet .now) (c .before .before .before .before .before .before .before .before .before .before .loop .at) _ _ _ T (c .before .before .before .before .before .before .before .before .before .before .loop .inv .inside) .behind, c .before .before .before .before .before .before .before .before .before .before .before .before .before .pre)
 
 loop-less : tie.Need-loop-less Inv-loop μ-loop
 loop-less c =
     let T = rw (c .before .before .before .before .before .before .found .given .1) at (c .before .before .before .before .before .before .before .before .read-entry .ensures) in
-    omega (arith, entry-place (c .before .before .before .before .before .before .before .before .before .before .before .before .before .args .sheet .now) (c .before .before .before .before .before .before .before .before .before .before .loop .at) _ _ _ T (c .before .before .before .before .before .before .before .before .before .before .loop .inv .inside) .behind, entry-place (c .before .before .before .before .before .before .before .before .before .before .before .before .before .args .sheet .now) (c .before .before .before .before .before .before .before .before .before .before .loop .at) _ _ _ T (c .before .before .before .before .before .before .before .before .before .before .loop .inv .inside) .least)
+    omega (arith, entry-place _ (c .before .before .before .before .before .before .before .before .before .before .before .before .before .args .sheet .now) (c .before .before .before .before .before .before .before .before .before .before .loop .at) _ _ _ T (c .before .before .before .before .before .before .before .before .before .before .loop .inv .inside) .behind, entry-place _ (c .before .before .before .before .before .before .before .before .before .before .before .before .before .args .sheet .now) (c .before .before .before .before .before .before .before .before .before .before .loop .at) _ _ _ T (c .before .before .before .before .before .before .before .before .before .before .loop .inv .inside) .least)
 
 loop-again : tie.Need-loop-again Inv-loop μ-loop
 loop-again c =
     let T = rw (c .before .before .before .before .before .before .found .given .1) at (c .before .before .before .before .before .before .before .before .read-entry .ensures) in
-    listed-more (c .before .before .before .before .before .before .before .before .before .before .loop .inv) (λ i. c .before .before .before .before .before .before .before .before .before .before .before .before .shared-slice-known .given i .fits) (entry-at (c .before .before .before .before .before .before .before .before .before .before .before .before .before .args .sheet .now) (c .before .before .before .before .before .before .before .before .before .before .loop .at) _ _ _ T) (c .before .before .record-line .ensures)
+    listed-more (c .before .before .before .before .before .before .before .before .before .before .loop .inv) (λ i. c .before .before .before .before .before .before .before .before .before .before .before .before .shared-slice-known .given i .fits) (entry-at _ (c .before .before .before .before .before .before .before .before .before .before .before .before .before .args .sheet .now) (c .before .before .before .before .before .before .before .before .before .before .loop .at) _ _ _ T) (c .before .before .record-line .ensures)
 
 pub rest-lines-spec : {M : Type 1} → statement M
 rest-lines-spec =

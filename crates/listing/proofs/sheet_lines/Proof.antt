@@ -6,6 +6,9 @@ use borrow.Author.Needs.{needs}
 use Rattle.listing.proofs.sheet_lines.Statement.{statement}
 use Rattle.listing.proofs.sheet_lines.Tie as tie
 
+version-of-requires : tie.Need-version-of-requires
+version-of-requires c κs = search needs
+
 read-front-requires : tie.Need-read-front-requires
 read-front-requires c κs = search needs
 
@@ -52,17 +55,17 @@ part-header-line-end-2 c =
 header-line-requires : tie.Need-header-line-requires
 header-line-requires c κs =
     let F = rw (c .before .before .before .before .front .given .1) at (c .before .before .before .before .before .before .read-front .ensures) in
-    (omega arith, title-short (c .before .before .before .before .before .before .before .before .before .args .sheet .now) 8 F, time-short (c .before .before .before .before .before .before .before .before .before .args .sheet .now) 8 F)
+    (omega arith, title-short _ (c .before .before .before .before .before .before .before .before .before .before .args .sheet .now) (c .before .before .before .before .before .before .before .version-of .ensures) 8 F, time-short _ (c .before .before .before .before .before .before .before .before .before .before .args .sheet .now) (c .before .before .before .before .before .before .before .version-of .ensures) 8 F)
 
 rest-lines-requires : tie.Need-rest-lines-requires
 rest-lines-requires c κs =
     let F = rw (c .before .before .before .before .before .before .before .before .front .given .1) at (c .before .before .before .before .before .before .before .before .before .before .read-front .ensures) in
-    (F .inside, c .before .before .before .before .before .before .before .before .before .before .before .before .before .pre .0, omega (arith, c .before .before .before .header-line .ensures .few))
+    (F .inside, c .before .before .before .before .before .before .before .before .before .before .before .before .before .before .pre .0, omega (arith, c .before .before .before .header-line .ensures .few))
 
 returns : tie.Need-returns
 returns c =
     let F = rw (c .enum-told .given .1) at (c .before .before .read-front .ensures) in
-    absurd (whole-never _ 8 F (c .before .before .before .before .before .pre .1))
+    absurd (whole-never _ _ (c .before .before .before .version-of .ensures) 8 F (c .before .before .before .before .before .before .pre .1))
 
 same-length : tie.Need-same-length
 same-length c = search needs
@@ -71,12 +74,13 @@ returns-2 : tie.Need-returns-2
 returns-2 c =
     let F = rw (c .before .before .before .before .before .before .before .before .before .before .before .front .given .1) at (c .before .before .before .before .before .before .before .before .before .before .before .before .before .read-front .ensures) in
     put-as (put-then (c .before .before .before .before .before .before .header-line .ensures) (c .before .before .rest-lines .ensures)) (omega arith)
-    (whole-some (c .before .before .before .before .before .before .before .before .before .before .before .before .before .before .before .before .args .sheet .now) (c .before .before .before .before .before .before .before .before .before .before .before .before .before .before .before .before .args .version) F)
+    (whole-some _ (c .before .before .before .before .before .before .before .before .before .before .before .before .before .before .before .before .before .args .sheet .now) (c .before .before .before .before .before .before .before .before .before .before .before .before .before .before .version-of .ensures) (c .before .before .before .before .before .before .before .before .before .before .before .before .before .before .before .before .before .args .version) F)
 
 pub sheet-lines-spec : {M : Type 1} → statement M
 sheet-lines-spec =
     tie.close
     (tie.spec
+    version-of-requires
     read-front-requires
     enum-told
     enum-known-front

@@ -6,6 +6,9 @@ use borrow.Author.Needs.{needs}
 use Rattle.listing.proofs.sheet_verdict.Statement.{statement}
 use Rattle.listing.proofs.sheet_verdict.Tie as tie
 
+version-of-requires : tie.Need-version-of-requires
+version-of-requires c κs = search needs
+
 read-front-requires : tie.Need-read-front-requires
 read-front-requires c κs = search needs
 
@@ -33,17 +36,18 @@ records-verdict-requires c κs =
 returns : tie.Need-returns
 returns c =
     let F = rw (c .enum-told .given .1) at (c .before .before .read-front .ensures) in
-    verdict-none _ F
+    verdict-none _ _ (c .before .before .before .version-of .ensures) F
 
 returns-2 : tie.Need-returns-2
 returns-2 c =
     let F = rw (c .before .before .front .given .1) at (c .before .before .before .before .read-front .ensures) in
-    c .records-verdict .ensures ∙ verdict-some (c .before .before .before .before .before .before .args .sheet .now) F
+    c .records-verdict .ensures ∙ verdict-some _ (c .before .before .before .before .before .before .before .args .sheet .now) (c .before .before .before .before .before .version-of .ensures) F
 
 pub sheet-verdict-spec : {M : Type 1} → statement M
 sheet-verdict-spec =
     tie.close
     (tie.spec
+    version-of-requires
     read-front-requires
     enum-told
     enum-known-front

@@ -21,12 +21,11 @@ put-station-requires c κs =
     let r : 16 + a .args .len ≤ length (a .args .out .now) = rw (c .before .before .before .before .fields2 .given .1) at (a .pre .1) in
     (a .pre .0, r, a .pre .2)
 
-put-parts-requires : tie.Need-put-parts-requires
-put-parts-requires c κs =
-    let a = c .before .before .before .before .before .before .before .before in
-    let l : length (c .before .before .section-head .result) ≡ 20 = search needs in
-    let r : 20 + a .args .len ≤ length (a .args .out .now) = rw (c .before .before .before .before .before .fields3 .given .1) at (a .pre .1) in
-    (a .pre .0, omega arith, a .pre .2)
+put-section-requires : tie.Need-put-section-requires
+put-section-requires c κs =
+    let a = c .before .before .before .before .before .before .before in
+    let r : 25 + a .args .len ≤ length (a .args .out .now) = rw (c .before .before .before .before .fields3 .given .1) at (a .pre .1) in
+    (a .pre .0, r, a .pre .2)
 
 copy-requires : tie.Need-copy-requires
 copy-requires c κs =
@@ -53,10 +52,12 @@ returns-2 c =
 
 returns-3 : tie.Need-returns-3
 returns-3 c =
-    let a = c .before .before .before .before .before .before .before .before .before .before .before in
+    let a = c .before .before .before .before .before .before .before .before .before .before in
     let t : length (take (a .args .len) (a .args .bytes .now)) ≡ a .args .len = length-take-le (a .args .len) (a .args .bytes .now) (omega (arith, a .pre)) in
-    let h = rw (← t) at (c .before .before .before .before .before .section-head .ensures) in
-    c .before .before .put-parts .ensures ∙ rw (h, section-parts _ (take (a .args .len) (a .args .bytes .now)), c .before .before .before .before .before .before .before .before .fields3 .given .1)
+    let v = c .before .before .before .before .before .before .before .fields3 .given .0 in
+    let d = c .before .before .before .before .before .days-of2 .ensures in
+    let h = rw (← t, d .0, d .1, d .2) at (c .before .before .before .before .section-head .ensures) in
+    c .before .before .put-section .ensures ∙ rw (h, section-parts (record { last = v .0; date = v .1 .1 .0; size = v .1 .1 .1 .0 }) (take (a .args .len) (a .args .bytes .now)), c .before .before .before .before .before .before .before .fields3 .given .1)
 
 returns-4 : tie.Need-returns-4
 returns-4 c =
@@ -64,4 +65,4 @@ returns-4 c =
 
 -- the search closes the other needs
 pub put-record-spec : {M : Type 1} → statement M
-put-record-spec = tie.close (tie.spec (λ c. search needs) (λ c κs. search needs) (λ c κs. search needs) put-leg-requires (λ c. search needs) (λ c κs. search needs) put-station-requires (λ c. search needs) (λ c κs. search needs) (λ c. search needs) put-parts-requires (λ c. search needs) (λ c κs. search needs) (λ c. search needs) copy-requires (λ c. search needs) returns (λ c. search needs) returns-2 (λ c. search needs) returns-3 (λ c. search needs) returns-4)
+put-record-spec = tie.close (tie.spec (λ c. search needs) (λ c κs. search needs) (λ c κs. search needs) put-leg-requires (λ c. search needs) (λ c κs. search needs) put-station-requires (λ c. search needs) (λ c κs. search needs) (λ c κs. search needs) put-section-requires (λ c. search needs) (λ c κs. search needs) (λ c. search needs) copy-requires (λ c. search needs) returns (λ c. search needs) returns-2 (λ c. search needs) returns-3 (λ c. search needs) returns-4)

@@ -1,14 +1,14 @@
 -- `record::section_head` meets its contract. Assumes nothing.
 use borrow.Author.Needs.{needs}
 use mathlib.Core.Path.{refl}
-use Rattle.format.specs.Bytes.{toBe16, toBe32}
+use Rattle.format.specs.Bytes.{toBe16}
 use Rattle.record.proofs.section_head.Statement.{statement}
 use Rattle.record.proofs.section_head.Tie as tie
 
 returns : tie.Need-returns
-unfolding toBe16 toBe32
+unfolding toBe16
 returns c = refl
 
 -- the search closes the other needs
 pub section-head-spec : {M : Type 1} → statement M
-section-head-spec = tie.close (tie.spec (λ c. search needs) (λ c. search needs) (λ c. search needs) (λ c. search needs) (λ c. search needs) (λ c. search needs) (λ c. search needs) (λ c. search needs) (λ c. search needs) (λ c. search needs) (λ c. search needs) (λ c. search needs) (λ c. search needs) (λ c. search needs) (λ c. search needs) (λ c. search needs) (λ c. search needs) (λ c. search needs) (λ c. search needs) returns)
+section-head-spec = tie.close (tie.spec (λ c. search needs) (λ c. search needs) (λ c. search needs) (λ c. search needs) (λ c. search needs) (λ c. search needs) (λ c. search needs) returns)

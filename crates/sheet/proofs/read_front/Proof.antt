@@ -4,12 +4,12 @@ use native.Mathlib.Omega.{arith}
 use mathlib.Core.Path.{_≡_, sym, _∙_}
 use mathlib.Core.Bool.{true}
 use borrow.Rule.Slice.PartAt.{part-to-end}
-use lib.ListN.{length, length-drop, drop, List·getD-eq-default}
+use lib.ListN.{length, length-drop, drop}
 use Prim.Native.Nat.{_+_, _≤_}
 use Rattle.format.specs.Bytes.{be16}
 use Rattle.format.specs.Sheet.{framed}
 use Rattle.format.proofs.SheetLaws.{frame}
-use Rattle.sheet.proofs.Fronts.{front-version, front-unframed, front-short, front-told}
+use Rattle.sheet.proofs.Fronts.{front-version, front-empty, front-unframed, front-short, front-told}
 use borrow.Author.Needs.{needs}
 use Rattle.sheet.proofs.read_front.Statement.{statement}
 use Rattle.sheet.proofs.read_front.Tie as tie
@@ -27,22 +27,22 @@ size-at y = y .size-of .ensures ∙ simp part-to-end at (y .before .get-be16 .en
 
 returns : tie.Need-returns
 returns c =
-    front-version (c .before .before .args .sheet .now) (λ e. omega (arith, List·getD-eq-default (c .before .before .args .sheet .now) 0 {n = 0} (omega arith)))
+    front-empty _ (c .before .before .args .sheet .now) (c .if1 .taken)
 
 returns-2 : tie.Need-returns-2
 returns-2 c =
-    front-version (c .before .before .before .before .args .sheet .now) (c .if2 .taken)
+    front-version _ (c .before .before .before .before .args .sheet .now) (c .if2 .taken)
 
 returns-3 : tie.Need-returns-3
 returns-3 c =
-    front-unframed (c .before .before .before .before .before .before .before .args .sheet .now) (c .before .before .before .if2 .left) (simp part-to-end at (sym (c .before .is-framed .ensures) ∙ not-true _ (c .if3 .taken)))
+    front-unframed _ (c .before .before .before .before .before .before .before .args .sheet .now) (c .before .before .before .if2 .left) (simp part-to-end at (sym (c .before .is-framed .ensures) ∙ not-true _ (c .if3 .taken)))
 
 get-be16-requires : tie.Need-get-be16-requires
 get-be16-requires c κs = simp part-to-end (omega (arith, there-at c))
 
 returns-4 : tie.Need-returns-4
 returns-4 c =
-    front-short _ (c .before .before .before .before .before .before .if2 .left) (framed-at (c .before .before .before)) (rw (size-at (c .before)) at (c .if4 .taken))
+    front-short _ _ (c .before .before .before .before .before .before .if2 .left) (framed-at (c .before .before .before)) (rw (size-at (c .before)) at (c .if4 .taken))
 
 sub-header : tie.Need-sub-header
 sub-header c = omega (arith, there-at (c .before .before .before))
@@ -57,7 +57,7 @@ header-requires c κs =
 returns-5 : tie.Need-returns-5
 returns-5 c =
     let e = size-at (c .before .before .before) in
-    front-told (c .before .before .before .before .before .before .before .before .before .before .before .before .args .sheet .now) (c .before .before .before .before .before .before .before .before .if2 .left) (framed-at (c .before .before .before .before .before)) (rw e at (c .before .before .if4 .left)) (there-at (c .before .before .before .before .before) .1) (c .header .result)
+    front-told _ (c .before .before .before .before .before .before .before .before .before .before .before .before .args .sheet .now) (c .before .before .before .before .before .before .before .before .if2 .left) (framed-at (c .before .before .before .before .before)) (rw e at (c .before .before .if4 .left)) (there-at (c .before .before .before .before .before) .1) (c .header .result)
     (rw e at (simp part-to-end at (c .header .ensures)))
 
 -- the search closes the other needs

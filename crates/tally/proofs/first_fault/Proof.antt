@@ -41,7 +41,7 @@ returns-5 : tie.Need-returns-5
 returns-5 c = rw (c .before .before .if1 .left) (no-style-station _ _ _ _ (c .enum-told .given .1))
 
 returns-6 : tie.Need-returns-6
-returns-6 c = rw (c .before .before .if1 .left) (no-style-section _ _ _ _ (c .enum-told2 .given .1))
+returns-6 c = rw (c .before .before .if1 .left) (no-style-section _ _ _ _ _ _ _ (c .enum-told2 .given .1))
 
 returns-7 : tie.Need-returns-7
 returns-7 c = rw (c .before .before .if1 .left) (no-style-error _ _ _ _ (c .enum-told3 .given .1))

@@ -3,18 +3,6 @@ use borrow.Author.Needs.{needs}
 use Rattle.write.proofs.hand_after.Statement.{statement}
 use Rattle.write.proofs.hand_after.Tie as tie
 
-enum-known-fields : tie.Need-enum-known-fields
-enum-known-fields c = search needs
-
-enum-told : tie.Need-enum-told
-enum-told c = search needs
-
-enum-told-2 : tie.Need-enum-told-2
-enum-told-2 c = search needs
-
-enum-told-3 : tie.Need-enum-told-3
-enum-told-3 c = search needs
-
 returns : tie.Need-returns
 returns c = rw (c .before .fields .given .1)
 
@@ -22,20 +10,8 @@ returns-2 : tie.Need-returns-2
 returns-2 c = rw (c .before .enum-told .given .1)
 
 returns-3 : tie.Need-returns-3
-returns-3 c = rw (c .before .enum-told2 .given .1)
+returns-3 c = rw (c .before .before .fields2 .given .1)
 
-returns-4 : tie.Need-returns-4
-returns-4 c = search needs
-
+-- the search closes the other needs
 pub hand-after-spec : {M : Type 1} → statement M
-hand-after-spec =
-    tie.close
-    (tie.spec
-    enum-known-fields
-    enum-told
-    enum-told-2
-    enum-told-3
-    returns
-    returns-2
-    returns-3
-    returns-4)
+hand-after-spec = tie.close (tie.spec (λ c. search needs) (λ c. search needs) (λ c. search needs) (λ c. search needs) returns returns-2 returns-3 (λ c. search needs))

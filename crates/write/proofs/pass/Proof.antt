@@ -6,6 +6,9 @@ use borrow.Author.Needs.{needs}
 use Rattle.write.proofs.pass.Statement.{statement}
 use Rattle.write.proofs.pass.Tie as tie
 
+version-of-requires : tie.Need-version-of-requires
+version-of-requires c κs = search needs
+
 read-front-requires : tie.Need-read-front-requires
 read-front-requires c κs = search needs
 
@@ -67,7 +70,7 @@ put-records-requires c κs =
 
 returns : tie.Need-returns
 returns c =
-    pass-flawed _ _ (rw (c .enum-told .given .1) at (c .before .before .read-front .ensures))
+    pass-flawed _ _ _ (c .before .before .before .version-of .ensures) (rw (c .enum-told .given .1) at (c .before .before .read-front .ensures))
 
 same-length : tie.Need-same-length
 same-length c = search needs
@@ -75,12 +78,13 @@ same-length c = search needs
 returns-2 : tie.Need-returns-2
 returns-2 c =
     let F = rw (c .before .before .before .before .before .before .before .before .before .before .before .front .given .1) at (c .before .before .before .before .before .before .before .before .before .before .before .before .before .read-front .ensures) in
-    pass-sheet _ _ _ _ _ _ _ _ _ F (c .before .before .before .before .before .before .put-header .ensures) (c .before .before .put-records .ensures)
+    pass-sheet _ _ _ _ _ _ _ _ _ _ (c .before .before .before .before .before .before .before .before .before .before .before .before .before .before .version-of .ensures) F (c .before .before .before .before .before .before .put-header .ensures) (c .before .before .put-records .ensures)
 
 pub pass-spec : {M : Type 1} → statement M
 pass-spec =
     tie.close
     (tie.spec
+    version-of-requires
     read-front-requires
     enum-told
     enum-known-front

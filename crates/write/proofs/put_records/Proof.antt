@@ -1,5 +1,5 @@
-use Prim.Native.Nat.{_+_, _-_, _≤_}
 -- `write::put_records` meets its contract. Assumes nothing.
+use Prim.Native.Nat.{_+_, _-_, _≤_}
 use Rattle.format.specs.Writing.{v8}
 use borrow.Author.Needs.{needs}
 use native.Mathlib.Omega.{arith}
@@ -11,16 +11,16 @@ use Rattle.write.proofs.put_records.Statement.{statement}
 use Rattle.write.proofs.put_records.Tie as tie
 
 abbrev Inv-loop : tie.InvT-loop
-Inv-loop sheet begin out₀ head at₀ total₀ number₀ fault₀ hand₀ out at total number fault hand = Going sheet begin head out₀ out at total number fault hand
+Inv-loop sheet version begin out₀ head at₀ total₀ number₀ fault₀ hand₀ out at total number fault hand = Going version sheet begin head out₀ out at total number fault hand
 
 abbrev μ-loop : tie.MeasureT-loop
-μ-loop sheet begin out₀ head at₀ total₀ number₀ fault₀ hand₀ out at total number fault hand = length sheet - at
+μ-loop sheet version begin out₀ head at₀ total₀ number₀ fault₀ hand₀ out at total number fault hand = length sheet - at
 
 -- the record that was found ends in the sheet, and its label starts in it
 sizes : (y : tie.After-entry Inv-loop μ-loop) → (3 ≤ y .entry .given .0 .0) × (y .before .before .before .before .before .loop .at + y .entry .given .0 .0 ≤ length (y .before .before .before .before .before .before .before .before .before .args .sheet .now)) × (y .entry .given .0 .1 .1 .0 ≤ y .entry .given .0 .0)
 sizes y =
     let T = rw (y .entry .given .1) at (y .before .before .read-entry .ensures) in
-    let w = found-size (y .before .before .before .before .before .before .before .before .before .args .sheet .now) (y .before .before .before .before .before .loop .at) (y .before .before .before .before .loop-test .taken) _ _ _ T in
+    let w = found-size _ (y .before .before .before .before .before .before .before .before .before .args .sheet .now) (y .before .before .before .before .before .loop .at) (y .before .before .before .before .loop-test .taken) _ _ _ T in
     (w .0, w .1, T .inside .from-within)
 
 fresh-requires : tie.Need-fresh-requires Inv-loop μ-loop
@@ -28,7 +28,7 @@ fresh-requires c κs = search needs
 
 loop-holds : tie.Need-loop-holds Inv-loop μ-loop
 loop-holds c =
-    going-none _ _ _ _ _ (c .before .before .before .pre .0) (c .before .before .before .pre .1) (c .fresh .ensures)
+    going-none _ _ _ _ _ _ (c .before .before .before .pre .0) (c .before .before .before .pre .1) (c .fresh .ensures)
 
 sub-read-entry : tie.Need-sub-read-entry Inv-loop μ-loop
 sub-read-entry c = search needs
@@ -55,7 +55,7 @@ returns : tie.Need-returns Inv-loop μ-loop
 returns c =
     let l = c .before .before .before .before .before in
     let T = rw (c .enum-told .given .1) at (c .before .before .read-entry .ensures) in
-    rest-refused v8 _ _ _ _ (l .loop .inv .kept) 12 _ (going-flawed _ _ _ _ _ _ _ _ _ _ (l .loop .inv) (c .before .before .before .before .loop-test .taken) T)
+    rest-refused v8 _ _ _ _ (l .loop .inv .kept) 12 _ (going-flawed _ _ _ _ _ _ _ _ _ _ _ (l .loop .inv) (c .before .before .before .before .loop-test .taken) T)
 
 add-name : tie.Need-add-name Inv-loop μ-loop
 add-name c = omega (arith, sizes (c .before))
@@ -106,7 +106,7 @@ put-record-requires : tie.Need-put-record-requires Inv-loop μ-loop
 put-record-requires c κs =
     let l = c .before .before .before .before .before .before .before .before .before .before .before in
     let T = rw (c .before .before .before .before .before .before .entry .given .1) at (c .before .before .before .before .before .before .before .before .read-entry .ensures) in
-    (named-short _ _ (l .loop .inv .named), found-formed _ _ (c .before .before .before .before .before .before .before .before .before .before .loop-test .taken) _ _ _ T)
+    (named-short _ _ (l .loop .inv .named), found-formed _ _ _ (c .before .before .before .before .before .before .before .before .before .before .loop-test .taken) _ _ _ T)
 
 more-requires : tie.Need-more-requires Inv-loop μ-loop
 more-requires c κs =
@@ -133,7 +133,7 @@ loop-again c =
     let T = rw (c .before .before .before .before .before .before .before .before .before .before .before .before .entry .given .1) at (c .before .before .before .before .before .before .before .before .before .before .before .before .before .before .read-entry .ensures) in
     let W = c .before .before .before .before .before .before .before .before .before .within .ensures in
     rw (c .hand-after .ensures, c .before .before .more .ensures)
-    (going-more _ _ _ _ _ _ _ _ _ _ (l .loop .inv) (c .before .before .before .before .before .before .before .before .before .before .before .before .before .before .before .before .loop-test .taken) _ _ _ T _ _ _ _ (W .0) (W .1) (c .before .before .before .before .before .put-record .ensures) (c .before .first-fault .ensures))
+    (going-more _ _ _ _ _ _ _ _ _ _ _ (l .loop .inv) (c .before .before .before .before .before .before .before .before .before .before .before .before .before .before .before .before .loop-test .taken) _ _ _ T _ _ _ _ (W .0) (W .1) (c .before .before .before .before .before .put-record .ensures) (c .before .first-fault .ensures))
 
 finish-requires : tie.Need-finish-requires Inv-loop μ-loop
 finish-requires c κs = c .before .before .before .loop .inv .few
@@ -144,7 +144,7 @@ same-length-2 c = search needs
 returns-2 : tie.Need-returns-2 Inv-loop μ-loop
 returns-2 c =
     let l = c .before .before .before .before .before .before in
-    let L = going-end _ _ _ _ _ _ _ _ _ _ (l .loop .inv) (c .before .before .before .before .before .loop-test .left) in
+    let L = going-end _ _ _ _ _ _ _ _ _ _ _ (l .loop .inv) (c .before .before .before .before .before .loop-test .left) in
     left-end v8 _ _ _ _ _ _ _ _ (l .loop .inv .kept) L (c .before .before .finish .ensures)
 
 pub put-records-spec : {M : Type 1} → statement M

@@ -70,11 +70,11 @@ fn node_said(rest: &str) -> String {
     format!("station {} [{label}] ({})", numbers(place), flags.trim())
 }
 
-/// dump3d gives a section the date of its own state, which we don't keep.
 fn section_said(rest: &str) -> String {
     let (sides, more) = rest.split_once(" [").expect("a label");
-    let (label, _) = more.split_once(']').expect("a bracket");
-    format!("section {} [{label}]", numbers(sides))
+    let (label, date) = more.split_once(']').expect("a bracket");
+    let date = if date.is_empty() { "undated" } else { date.trim() };
+    format!("section {} [{label}] {date}", numbers(sides))
 }
 
 /// `#legs 1, len 10.30m, E 4.74 H 6.22 V 0.43`
@@ -143,7 +143,8 @@ fn record_told(record: &[u8], version: u8) -> String {
         }
         3 => {
             let last = if record[1] == 1 { " last" } else { "" };
-            format!("section {} [{}]{last}", row(record, 2, 4), text(&record[18..]))
+            let date = date_told(&record[2..7]);
+            format!("section {} [{}] {date}{last}", row(record, 7, 4), text(&record[23..]))
         }
         4 => format!("error {}", row(record, 1, 5)),
         kind => panic!("no record is of kind {kind}"),

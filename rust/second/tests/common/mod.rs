@@ -52,34 +52,52 @@ pub enum Date {
     Range(u16, u16),
 }
 
+impl Date {
+    /// Kind, day and last day, as leg and section records hold them.
+    pub fn bytes(self) -> [u8; 5] {
+        let (kind, day, last) = match self {
+            Date::None => (0, 0, 0),
+            Date::Day(day) => (1, day, 0),
+            Date::Range(day, last) => (2, day, last),
+        };
+        let ([a, b], [c, d]) = (day.to_be_bytes(), last.to_be_bytes());
+        [kind, a, b, c, d]
+    }
+}
+
 #[derive(Clone, PartialEq, Eq, Debug)]
 pub enum Rec {
     Leg { flags: u8, style: u8, date: Date, from: [i32; 3], to: [i32; 3], label: Vec<u8> },
     Station { flags: u8, at: [i32; 3], label: Vec<u8> },
-    Section { last: u8, sides: [i32; 4], label: Vec<u8> },
+    Section { last: u8, date: Date, sides: [i32; 4], label: Vec<u8> },
     Error([i32; 5]),
 }
 
 impl Rec {
-    /// The record in the sheet, with its length bytes.
+    /// The record in a version 2 sheet, with its length bytes.
     pub fn bytes(&self) -> Vec<u8> {
         match self {
             Rec::Leg { flags, style, date, from, to, label } => {
-                let (kind, day, last) = match *date {
-                    Date::None => (0, 0, 0),
-                    Date::Day(day) => (1, day, 0),
-                    Date::Range(day, last) => (2, day, last),
-                };
-                let days = [day.to_be_bytes(), last.to_be_bytes()].concat();
-                framed(&[&[1, *flags, *style, kind], &days[..], &be(from), &be(to), label].concat())
+                let head = [&[1, *flags, *style], &date.bytes()[..]].concat();
+                framed(&[&head[..], &be(from), &be(to), label].concat())
             }
             Rec::Station { flags, at, label } => {
                 framed(&[&[2, *flags], &be(at)[..], label].concat())
             }
-            Rec::Section { last, sides, label } => {
-                framed(&[&[3, *last], &be(sides)[..], label].concat())
+            Rec::Section { last, date, sides, label } => {
+                framed(&[&[3, *last], &date.bytes()[..], &be(sides), label].concat())
             }
             Rec::Error(five) => framed(&[&[4], &be(five)[..]].concat()),
+        }
+    }
+
+    /// The record in a version 1 sheet, where a section has no date.
+    pub fn bytes_v1(&self) -> Vec<u8> {
+        match self {
+            Rec::Section { last, sides, label, .. } => {
+                framed(&[&[3, *last], &be(sides)[..], label].concat())
+            }
+            _ => self.bytes(),
         }
     }
 }
@@ -93,7 +111,11 @@ pub fn station(label: &[u8]) -> Rec {
 }
 
 pub fn section(sides: [i32; 4], label: &[u8]) -> Rec {
-    Rec::Section { last: 0, sides, label: label.to_vec() }
+    Rec::Section { last: 0, date: Date::None, sides, label: label.to_vec() }
+}
+
+pub fn dated_section(date: Date, label: &[u8]) -> Rec {
+    Rec::Section { last: 0, date, sides: [1, 2, 3, 4], label: label.to_vec() }
 }
 
 pub fn joined(records: &[Rec]) -> Vec<u8> {
@@ -103,12 +125,39 @@ pub fn joined(records: &[Rec]) -> Vec<u8> {
 pub fn sheet_with(extended: u8, title: &[u8], time: &[u8], records: &[Rec]) -> Vec<u8> {
     let length = (title.len() as u16).to_be_bytes();
     let head = framed(&[&[0, extended], &length[..], title, time].concat());
-    [&[1], &head[..], &joined(records)].concat()
+    [&[2], &head[..], &joined(records)].concat()
 }
 
 /// A sheet with the header of case 1.
 pub fn sheet(records: &[Rec]) -> Vec<u8> {
     sheet_with(0, b"A", b"@0", records)
+}
+
+/// The version 1 sheet of the records, which lose the dates of sections.
+pub fn sheet_v1(records: &[Rec]) -> Vec<u8> {
+    let mut sheet = sheet(&[]);
+    sheet[0] = 1;
+    sheet.extend(records.iter().flat_map(Rec::bytes_v1));
+    sheet
+}
+
+/// The version 2 twin of a good sheet: sections of version 1 get no date.
+pub fn twin(sheet: &[u8]) -> Vec<u8> {
+    if sheet[0] == 2 {
+        return sheet.to_vec();
+    }
+    let mut twin = vec![2];
+    let mut rest = &sheet[1..];
+    while !rest.is_empty() {
+        let end = 2 + usize::from(u16::from_be_bytes([rest[0], rest[1]]));
+        let body = &rest[2..end];
+        twin.extend(match body[0] {
+            3 => framed(&[&body[..2], &[0; 5], &body[2..]].concat()),
+            _ => framed(body),
+        });
+        rest = &rest[end..];
+    }
+    twin
 }
 
 /// Calls with buffers too small, exact and too large, and watches that
