@@ -10,6 +10,8 @@ pub mod IterateLaws
 pub mod LabelLaws
 pub mod Orders
 pub mod OurFiles
+pub mod OutlineCases
+pub mod OutlineLaws
 pub mod PaperLaws
 pub mod ReadingLaws
 pub mod RefusalLaws

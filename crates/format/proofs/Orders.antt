@@ -163,7 +163,7 @@ table =
     -- a step into too little room: "On 11 it doesn't advance", and the next step has the record
     ∷ record { given = stepAfter 0 oneStation 16; due = step (record { answer = refuses 11 17; stand = before 8 30 start; bytes = [] }) }
     ∷ record { given = stepAfter 1 oneStation 16; due = step (record { answer = refuses 11 17; stand = before 8 30 start; bytes = [] }) }
-    ∷ record { given = stepAfter 0 oneStation 17; due = step (record { answer = wrote 17; stand = before 8 45 (named (97 ∷ []) start); bytes = stationRecord }) }
+    ∷ record { given = stepAfter 0 oneStation 17; due = step (record { answer = wrote 17 0; stand = before 8 45 (named (97 ∷ []) start); bytes = stationRecord }) }
     -- the end, 10 and another refusal come again
     ∷ record { given = stepAfter 2 oneStation 17; due = step (record { answer = ends; stand = stopped Good; bytes = [] }) }
     ∷ record { given = stepAfter 3 oneStation 17; due = step (record { answer = ends; stand = stopped Good; bytes = [] }) }

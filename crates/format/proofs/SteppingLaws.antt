@@ -102,9 +102,9 @@ halted-again v file room = refl
 abbrev pub StopsAgain : List ℕ → Step → Type 0
 StopsAgain file s = (s .answer ≡ ends → Again s file) × ((n p : ℕ) → s .answer ≡ refuses n p → (n ≡ 11 → ⊥) → Again s file)
 
-recorded-stops : (here there : Stand) (r : Record) (room : ℕ) (file : List ℕ) → StopsAgain file (recorded here there r room)
+recorded-stops : (here there : Stand) (r : Record) (kept room : ℕ) (file : List ℕ) → StopsAgain file (recorded here there r kept room)
 unfolding recorded
-recorded-stops here there r room file =
+recorded-stops here there r kept room file =
     pick-case (StopsAgain file) _ _ _ (λ e. (λ q. absurd (let z : _≡_ {A = ℕ} 0 1 = cc in omega arith), λ n p q h. absurd (h cc)))
     λ e. (λ q. absurd (let z : _≡_ {A = ℕ} 0 1 = cc in omega arith), λ n p q h. absurd (let z : _≡_ {A = ℕ} 0 1 = cc in omega arith))
 
@@ -113,7 +113,7 @@ next-stops (bad k) version place st s room file = (λ q. halted-again _ file, λ
 next-stops end version place st s room file = (λ q. halted-again _ file, λ n p q h. halted-again _ file)
 next-stops (on n st′) version place st s room file =
     (λ q. absurd (let z : _≡_ {A = ℕ} 0 1 = cc in omega arith), λ n p q h. absurd (let z : _≡_ {A = ℕ} 0 1 = cc in omega arith))
-next-stops (made n r st′) version place st s room file = recorded-stops _ _ r room file
+next-stops (made n r st′) version place st s room file = recorded-stops _ _ r _ room file
 
 pub stops-again : (stand : Stand) (file : List ℕ) (room : ℕ) → StopsAgain file (stepOf stand file room)
 stops-again (stopped v) file room = (λ q. halted-again v file, λ n p q h. halted-again v file)

@@ -268,7 +268,7 @@ module _ (l m : List ℕ) (k : ℕ) (hl : length l ≤ labelLimit) (hm : length 
       let z : 1 + (length (labelCodes l m k) + n) ≡ suc (length (labelCodes l m k ++ fields)) = simp length-append (omega arith) in
       rw append-assoc (labelled-read l m k (fields ++ rest) n make hl hm (simp length-append (omega arith)) ∙ rw z)
 
-  station-item : (flags : ℕ) (p : Point) (rest : List ℕ) → GoodPoint p
+  pub station-item : (flags : ℕ) (p : Point) (rest : List ℕ) → GoodPoint p
       → itemOf 8 (item (0x80 + flags) (pointBytes toLe32 p) ++ rest) ≡ whole (length (item (0x80 + flags) (pointBytes toLe32 p))) (Label flags p (length l - k) (drop k m))
   unfolding stationItem
   station-item flags p rest g =
@@ -277,7 +277,7 @@ module _ (l m : List ℕ) (k : ℕ) (hl : length l ≤ labelLimit) (hm : length 
       ∙ behind (pointBytes toLe32 p) rest 12 _ (simp (length-append, le32-width))
       ∙ rw (z, point-back p rest g)
 
-  line-item : (flags : ℕ) (p : Point) (rest : List ℕ) → flags ≤ 7 → GoodPoint p
+  pub line-item : (flags : ℕ) (p : Point) (rest : List ℕ) → flags ≤ 7 → GoodPoint p
       → itemOf 8 (item (0x40 + flags) (pointBytes toLe32 p) ++ rest) ≡ whole (length (item (0x40 + flags) (pointBytes toLe32 p))) (Line flags p (length l - k) (drop k m))
   unfolding lineItem
   line-item flags p rest h g =
@@ -286,7 +286,7 @@ module _ (l m : List ℕ) (k : ℕ) (hl : length l ≤ labelLimit) (hm : length 
       ∙ behind (pointBytes toLe32 p) rest 12 _ (simp (length-append, le32-width))
       ∙ rw (z, point-back p rest g)
 
-  short-section-item : (last : ℕ) (d : Dimensions) (rest : List ℕ) → last ≤ 1 → GoodDimensions d → allShort d ≡ true
+  pub short-section-item : (last : ℕ) (d : Dimensions) (rest : List ℕ) → last ≤ 1 → GoodDimensions d → allShort d ≡ true
       → itemOf 8 (item (0x30 + last) (dimensionBytes toLe16 d) ++ rest) ≡ whole (length (item (0x30 + last) (dimensionBytes toLe16 d))) (Xsect last d (length l - k) (drop k m))
   unfolding sectionItem
   short-section-item last d rest h g e =
@@ -296,7 +296,7 @@ module _ (l m : List ℕ) (k : ℕ) (hl : length l ≤ labelLimit) (hm : length 
       ∙ behind (dimensionBytes toLe16 d) rest 8 _ (simp (length-append, le16-width))
       ∙ rw (z, short-dimensions-back d rest g e)
 
-  wide-section-item : (last : ℕ) (d : Dimensions) (rest : List ℕ) → last ≤ 1 → GoodDimensions d
+  pub wide-section-item : (last : ℕ) (d : Dimensions) (rest : List ℕ) → last ≤ 1 → GoodDimensions d
       → itemOf 8 (item (0x32 + last) (dimensionBytes toLe32 d) ++ rest) ≡ whole (length (item (0x32 + last) (dimensionBytes toLe32 d))) (Xsect last d (length l - k) (drop k m))
   unfolding sectionItem
   wide-section-item last d rest h g =
@@ -307,7 +307,7 @@ module _ (l m : List ℕ) (k : ℕ) (hl : length l ≤ labelLimit) (hm : length 
       ∙ rw (z, wide-dimensions-back d rest g)
 
 -- LINE with 0x20: no label bytes
-same-line-item : (flags : ℕ) (p : Point) (rest : List ℕ) → flags ≤ 7 → GoodPoint p
+pub same-line-item : (flags : ℕ) (p : Point) (rest : List ℕ) → flags ≤ 7 → GoodPoint p
     → itemOf 8 ((0x60 + flags) ∷ (pointBytes toLe32 p ++ rest)) ≡ whole (suc (length (pointBytes toLe32 p))) (Line flags p 0 [])
 unfolding lineItem labelledItem sized pick
 same-line-item flags p rest h g =

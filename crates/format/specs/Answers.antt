@@ -33,7 +33,7 @@ openedOf (OpenRefused number place) = unopened number place
 
 -- "its record in a lent buffer, no record, the end, or the refusal"
 abbrev pub steppedOf : Stepped → StepOutcome
-steppedOf (Record bytes) = wrote bytes
+steppedOf (Record bytes kept) = wrote bytes kept
 steppedOf Nothing = nothing
 steppedOf End = ends
 steppedOf (StepRefused number place) = refuses number place

@@ -12,6 +12,7 @@ pub mod Codes
 pub mod Writing
 pub mod Editing
 pub mod Conversion
+pub mod Outline
 pub mod Stepping
 pub mod Times
 pub mod Answers

@@ -10,6 +10,8 @@ use Rattle.format.specs.Sheet.{sheetVersion, layout}
 use Rattle.format.specs.declared.Verdict.the-variants.{Good, Refusal}
 use Rattle.format.specs.declared.Verdict.{Verdict}
 use Rattle.format.specs.Reading.{next, ended}
+use Rattle.format.specs.Items.{itemOf}
+use Rattle.format.specs.Outline.{dropLeaves}
 
 -- where a step reader stands: before the item at a place, in a version and a state; or after the end (`Good`) or a refusal, for good
 pub data Stand : Type 0 where
@@ -24,9 +26,9 @@ standOf (opened version place h) = before version place start
 unfoldable pub openStand : List ℕ → Stand
 openStand file = standOf (openingOf file)
 
--- what a step answers: a record of so many bytes, no record, the end, or a refusal
+-- what a step answers: a record of so many bytes and how many bytes of the label were kept (#107), no record, the end, or a refusal
 pub data StepOutcome : Type 0 where
-  wrote : ℕ → StepOutcome
+  wrote : ℕ → ℕ → StepOutcome
   nothing : StepOutcome
   ends : StepOutcome
   refuses : ℕ → ℕ → StepOutcome
@@ -46,17 +48,18 @@ abbrev pub halted : Verdict → Step
 halted v = record { answer = stopAnswer v; stand = stopped v; bytes = [] }
 
 -- "On 11 it doesn't advance": here is where the reader stood
-unfoldable pub recorded : Stand → Stand → Record → ℕ → Step
-recorded here there r room =
+unfoldable pub recorded : Stand → Stand → Record → ℕ → ℕ → Step
+recorded here there r kept room =
     pick (ltb room (length (layout sheetVersion r))) (record { answer = refuses 11 (length (layout sheetVersion r)); stand = here; bytes = [] })
-    (record { answer = wrote (length (layout sheetVersion r)); stand = there; bytes = layout sheetVersion r })
+    (record { answer = wrote (length (layout sheetVersion r)) kept; stand = there; bytes = layout sheetVersion r })
 
 -- "Each step uses exactly one item"; "An end item with bytes after it answers 10"
 abbrev pub stepNext : Next → ℕ → ℕ → State → List ℕ → ℕ → Step
 stepNext (bad k) version place st s room = halted (Refusal k place)
 stepNext end version place st s room = halted (ended place s)
 stepNext (on n st′) version place st s room = record { answer = nothing; stand = before version (place + n) st′; bytes = [] }
-stepNext (made n r st′) version place st s room = recorded (before version place st) (before version (place + n) st′) r room
+stepNext (made n r st′) version place st s room =
+    recorded (before version place st) (before version (place + n) st′) r (dropLeaves (st .label) (itemOf version s)) room
 
 -- one step, with a buffer of so much room
 abbrev pub stepOf : Stand → List ℕ → ℕ → Step
@@ -80,7 +83,7 @@ pub record Gathered : Type 0 where
   pub halt : Halt
 
 abbrev pub afterStep : StepOutcome → List ℕ → Gathered → Gathered
-afterStep (wrote n) record-bytes rest = record { bytes = record-bytes ++ rest .bytes; halt = rest .halt }
+afterStep (wrote n kept) record-bytes rest = record { bytes = record-bytes ++ rest .bytes; halt = rest .halt }
 afterStep nothing record-bytes rest = rest
 afterStep ends record-bytes rest = record { bytes = []; halt = stops Good }
 afterStep (refuses n p) record-bytes rest = record { bytes = []; halt = stops (Refusal n p) }

@@ -208,9 +208,10 @@ pub enum Opened {
     Refused { number: u8, place: usize },
 }
 
-// The answer of one step: a record of so many bytes, no record, the end, or a refusal.
+// The answer of one step: a record of so many bytes and how many bytes of the label
+// were kept since the last that carried one, no record, the end, or a refusal.
 pub enum Stepped {
-    Record { bytes: usize },
+    Record { bytes: usize, kept: usize },
     Nothing,
     End,
     Refused { number: u8, place: usize },

@@ -1,15 +1,22 @@
 -- What each item does to the state, on plain values. Assumes nothing.
-use Prim.Native.Nat.{ℕ, _+_, _≤_, _<_}
+use Prim.Native.Nat.{ℕ, _+_, _-_, _≤_, _<_}
 use mathlib.Core.Path.{_≡_, refl, sym, ap, _∙_}
 use mathlib.Core.List.{List, [], _∷_, _++_}
 use native.Mathlib.Omega.{arith}
 use lib.ListN.{length, take, drop}
 use lib.Seq.{length-take-le}
-use Rattle.format.specs.Label.{Labelled, tooShort, tooLong, labelled, labelStep, labelLimit}
+use mathlib.Core.Bool.{Bool, true, false}
+use lib.Dec.{ltb}
+use Rattle.format.specs.Bytes.{pick}
+use Rattle.format.specs.Label.{Labelled, tooShort, tooLong, labelled, keptOf, labelStep, labelLimit}
+use Rattle.format.specs.Outline.{ownDrop, dropLeaves}
+use Rattle.format.specs.declared.Kept.{Kept}
+use Rattle.format.specs.declared.Kept.the-variants.{Keeps, Lacks}
+use Rattle.format.proofs.Basics.{pick-case}
 use Rattle.format.specs.declared.Cut.{Cut}
 use Rattle.format.specs.declared.Cut.the-variants.{Empty, Back}
 use Rattle.format.specs.Items.{Item, Stop as stopItem, Style as styleItem, Move as moveItem, NoDate as noDateItem, Date as dateItem, Error as errorItem, Decoded, faulty, whole, itemOf}
-use Rattle.format.specs.State.{State, Record, Next, bad, end, on, made, dateOf, badDates, onLabel, legFrom, apply, nextOf}
+use Rattle.format.specs.State.{State, Record, Next, bad, end, on, made, dateOf, badDates, named, onLabel, legFrom, apply, nextOf}
 use Rattle.format.specs.Reading.{next}
 use Rattle.format.specs.declared.Point.{Point}
 use Rattle.format.specs.declared.Traverse.{Traverse}
@@ -21,7 +28,7 @@ use Rattle.format.proofs.ApplyLaws.{style-other as style-others, style-first as
 use Rattle.label.specs.Seen.{relabelledSeen, Tells as LabelTells}
 use Rattle.label.specs.declared.Relabelled.the-variants.{TooShort, TooLong, Fits}
 use Rattle.decode.specs.Seen.{itemSeen, relabelItem, dropped, Suits, Reads}
-use Rattle.item.specs.Seen.{seen, Short, Tells, madeOf, Does}
+use Rattle.item.specs.Seen.{seen, Short, Tells, TellsKept, TellsStayed, madeOf, Does}
 use Rattle.decode.specs.declared.Body.{Body}
 use Rattle.decode.specs.declared.Body.the-variants.{Only, Section as SectionBody, Station as StationBody, Line as LineBody}
 use Rattle.decode.specs.declared.Item.{Item as Told}
@@ -65,7 +72,7 @@ module _ (n first last len : ℕ) (st to : Setting) where
 
 -- ---- an item whose label is in the buffer
 
-module _ (n len : ℕ) (st to : Setting) where
+module _ (n len kept : ℕ) (st to : Setting) where
   abbrev MadeDoes : Body → Step → Type 0
   MadeDoes body r = Does r (λ b. madeOf body (stateOf st []) n (take len b)) len
 
@@ -73,7 +80,7 @@ module _ (n len : ℕ) (st to : Setting) where
   leg-unset flags p e = record { same = λ b. sym (legs-unset (stateOf st []) n flags p (take len b) e); short = λ q. tt }
 
   pub leg-made : (flags : ℕ) (from p : Point) → st .position ≡ Stands from → to ≡ record { style = st .style; date = st .date; position = Stands p }
-      → MadeDoes (LineBody flags p) (Made n len to (Leg flags (st .style) (st .date) from p))
+      → MadeDoes (LineBody flags p) (Made n len to (Leg flags (st .style) (st .date) from p) kept)
   leg-made flags from p e f = record { same = λ b. rw f (sym (legs-set (stateOf st []) n flags p (take len b) e)); short = λ q. q }
 
 -- ---- the label step first
@@ -85,8 +92,8 @@ module _ (x : Labelled) (b : List ℕ) (go : List ℕ → Next) where
   pub label-long : LabelTells TooLong b x → Tells (Bad 7) b (onLabel x go)
   label-long T = record { same = ap (λ (y : Labelled). onLabel y go) (T .same); whole = T .whole; short = tt }
 
-  pub label-fits : (m : ℕ) (r : Step) → LabelTells (Fits m) b x → Does r (λ c. go (take m c)) m → Tells r b (onLabel x go)
-  label-fits m r T D = record { same = D .same b ∙ ap (λ (y : Labelled). onLabel y go) (T .same); whole = T .whole; short = D .short (T .short) }
+  pub label-fits : (m kept : ℕ) (r : Step) → LabelTells (Fits m kept) b x → Does r (λ c. go (take m c)) m → Tells r b (onLabel x go)
+  label-fits m kept r T D = record { same = D .same b ∙ ap (λ (y : Labelled). onLabel y go) (T .same); whole = T .whole; short = D .short (T .short) }
 
 -- ---- the item at the front of s
 
@@ -137,7 +144,7 @@ module _ (version : ℕ) (s : List ℕ) (st : Setting) (len : ℕ) (b : List ℕ
   pub comes-undated : (to : Setting) → Reads NoDate s (itemOf version s) → to ≡ record { style = st .style; date = Undated; position = st .position } → Comes (On 1 len to)
   comes-undated to R e = record { same = rw e (due NoDate R); whole = w; short = h }
 
-  pub comes-error : (t : Traverse) → Reads (ErrorTold t) s (itemOf version s) → Comes (Made 21 len st (Error t))
+  pub comes-error : (t : Traverse) → Reads (ErrorTold t) s (itemOf version s) → Comes (Made 21 len st (Error t) 0)
   comes-error t R = record { same = due (ErrorTold t) R; whole = w; short = h }
 
 -- the label's bytes may change: b is the buffer before, c after
@@ -154,3 +161,64 @@ comes-relabelled version s st l c n cut from count body r R T =
     same-label tooShort = refl
     same-label tooLong = refl
     same-label (labelled m) = made-label body st l n m
+
+-- ---- how many bytes of the label an item kept
+
+-- an item that makes no record has no number to tell
+abbrev NotMade : Next → Type 0
+NotMade (bad k) = Unit
+NotMade end = Unit
+NotMade (on n st) = Unit
+NotMade (made n r st) = ⊥
+
+kept-none : (r : Step) (b : List ℕ) (x : Next) (y : ℕ) → seen r b ≡ x → NotMade x → TellsKept r y
+kept-none (Bad k) b x y e h = tt
+kept-none End b x y e h = tt
+kept-none (On n m st) b x y e h = tt
+kept-none (Made n m st f kept) b x y e h = absurd (rw (← e) at h)
+
+pub style-kept : (r : Step) (b l : List ℕ) (st : Setting) (k y : ℕ) → seen r b ≡ apply (stateOf st l) 1 (styleItem k) → TellsKept r y
+style-kept r b l st k y e = kept-none r b _ y e (pick-case NotMade _ _ _ (λ t. tt) (λ t. tt))
+
+pub date-kept : (r : Step) (b l : List ℕ) (st : Setting) (n first last y : ℕ) → seen r b ≡ apply (stateOf st l) n (dateItem first last) → TellsKept r y
+date-kept r b l st n first last y e = kept-none r b _ y e (pick-case NotMade _ _ _ (λ t. tt) (λ t. tt))
+
+-- what a label step kept is what its item tells
+pub stays-as : (r : Step) (kept : ℕ) (x : Kept) → TellsKept r kept → x ≡ Keeps kept → TellsStayed r x
+stays-as (Bad k) kept x t e = tt
+stays-as End kept x t e = tt
+stays-as (On n m st) kept x t e = tt
+stays-as (Made n m st f own) kept x t e = e ∙ ap Keeps (sym t)
+
+-- what D leaves of a label
+back-stays : (l : List ℕ) (cut : Cut) (d kept : ℕ) → cut ≡ Back d → keptOf l cut ≡ Keeps kept → kept ≡ length l - d
+unfolding pick
+back-stays l cut d kept e q = go (ltb (length l) d) (rw e at q)
+  where
+    go : (t : Bool) → pick t Lacks (Keeps (length l - d)) ≡ Keeps kept → kept ≡ length l - d
+    go true z = absurd (let y : _≡_ {A = ℕ} 0 1 = cc in omega arith)
+    go false z = cc
+
+shortens : (x : Labelled) (n : ℕ) (st : State) → NotMade (onLabel x (λ m. on n (named m st)))
+shortens tooShort n st = tt
+shortens tooLong n st = tt
+shortens (labelled m) n st = tt
+
+module _ (l c : List ℕ) (st : Setting) (n : ℕ) (cut : Cut) (count : ℕ) (added : List ℕ) where
+  stayed : (body : Body) (r : Step) → Suits body cut count → Tells r c (onLabel (labelStep l cut added) (λ m. madeOf body (stateOf st []) n m)) → TellsStayed r (keptOf l cut)
+      → TellsKept r (ownDrop l (relabelItem body cut added))
+  stayed body (Bad k) u T q = tt
+  stayed body End u T q = tt
+  stayed body (On a m to) u T q = tt
+  stayed Only (Made a m to f kept) u T q = kept-none (Made a m to f kept) c _ 0 (T .same) (shortens (labelStep l cut added) n (stateOf st []))
+  stayed (SectionBody last size) (Made a m to f kept) u T q = back-stays l cut (dropped cut) kept u q
+  stayed (StationBody flags p) (Made a m to f kept) u T q = back-stays l cut (dropped cut) kept u q
+  stayed (LineBody flags p) (Made a m to f kept) u T q = back-stays l cut (dropped cut) kept u q
+
+pub relabelled-kept : (version : ℕ) (s : List ℕ) (st : Setting) (l c : List ℕ) (n : ℕ) (cut : Cut) (from count : ℕ) (body : Body) (r : Step) → Reads (Relabel n cut from count body) s (itemOf version s)
+    → Tells r c (onLabel (labelStep l cut (take count (drop from s))) (λ m. madeOf body (stateOf st []) n m)) → TellsStayed r (keptOf l cut) → TellsKept r (dropLeaves l (itemOf version s))
+relabelled-kept version s st l c n cut from count body r R T q =
+    rw (← (R .same)) (stayed l c st n cut count (take count (drop from s)) body r (R .sound .1) T q)
+
+pub error-kept : (version : ℕ) (s l : List ℕ) (t : Traverse) → Reads (ErrorTold t) s (itemOf version s) → 0 ≡ dropLeaves l (itemOf version s)
+error-kept version s l t R = ap (dropLeaves l) (R .same)

@@ -4,6 +4,8 @@ use mathlib.Core.Path.{_≡_}
 use mathlib.Core.List.{List}
 use lib.ListN.{length, take}
 use Rattle.format.specs.Label.{labelLimit}
+use Rattle.format.specs.declared.Kept.{Kept}
+use Rattle.format.specs.declared.Kept.the-variants.{Keeps}
 use Rattle.format.specs.State.{State, station, section, named, Next, bad, end, on, made, legFrom}
 use Rattle.format.specs.Fields.{recordOf, stateOf}
 use Rattle.decode.specs.declared.Body.{Body}
@@ -17,20 +19,34 @@ abbrev pub seen : Step → List ℕ → Next
 seen (Bad k) b = bad k
 seen End b = end
 seen (On n m st) b = on n (stateOf st (take m b))
-seen (Made n m st f) b = made n (recordOf f (take m b)) (stateOf st (take m b))
+seen (Made n m st f kept) b = made n (recordOf f (take m b)) (stateOf st (take m b))
 
 -- the label's length
 abbrev pub Short : Step → Type 0
 Short (Bad k) = Unit
 Short End = Unit
 Short (On n m st) = m ≤ labelLimit
-Short (Made n m st f) = m ≤ labelLimit
+Short (Made n m st f kept) = m ≤ labelLimit
 
 -- an answer and the buffer after it tell what the item comes to
 pub record Tells (r : Step) (b : List ℕ) (x : Next) : Type 0 where
   pub same : seen r b ≡ x
   pub whole : length b ≡ 4096
   pub short : Short r
+
+-- an answer tells how many bytes of the label its item kept (#107)
+abbrev pub TellsKept : Step → ℕ → Type 0
+TellsKept (Bad k) x = Unit
+TellsKept End x = Unit
+TellsKept (On n m st) x = Unit
+TellsKept (Made n m st f kept) x = kept ≡ x
+
+-- the same where the label step says how many
+abbrev pub TellsStayed : Step → Kept → Type 0
+TellsStayed (Bad k) x = Unit
+TellsStayed End x = Unit
+TellsStayed (On n m st) x = Unit
+TellsStayed (Made n m st f kept) x = x ≡ Keeps kept
 
 -- what an item of n bytes comes to once it has the label l
 abbrev pub madeOf : Body → State → ℕ → List ℕ → Next

@@ -17,15 +17,17 @@ ghost use mathlib.Core.Path.{_≡_};
 ghost use mathlib.Core.List.{[]};
 ghost use Prim.Native.Nat.{ℕ, _+_, _≤_};
 ghost use lib.ListN.{length, take, drop};
-ghost use Rattle.format.specs.Items.{Style as styleItem, Date as dateItem};
-ghost use Rattle.format.specs.Label.{labelStep, labelLimit};
+ghost use Rattle.format.specs.Items.{Style as styleItem, Date as dateItem, itemOf};
+ghost use Rattle.format.specs.Label.{keptOf, labelStep, labelLimit};
+ghost use Rattle.format.specs.Outline.{dropLeaves};
 ghost use Rattle.format.specs.State.{dateOf, apply, onLabel};
 ghost use Rattle.format.specs.Fields.{stateOf};
 ghost use Rattle.format.specs.Reading.{next};
-ghost use Rattle.item.specs.Seen.{Does, Tells, madeOf};
+ghost use Rattle.item.specs.Seen.{Does, Tells, TellsKept, TellsStayed, madeOf};
 
 // What an item comes to: a refusal; the end; its size and the label's new length,
-// with the setting after it; the same with a record.
+// with the setting after it; the same with a record, and how many bytes of the label
+// before it were kept.
 pub enum Step {
     Bad {
         number: u8,
@@ -41,6 +43,7 @@ pub enum Step {
         len: usize,
         setting: Setting,
         fields: Fields,
+        kept: usize,
     },
 }
 
@@ -136,8 +139,8 @@ fn date_step(size: usize, first: u32, last: u32, len: usize, setting: Setting) -
 }
 
 // A leg from the position, which must be set.
-fn leg_step(size: usize, len: usize, setting: Setting, flags: u8, place: Point) -> Step
-    ensures { λ r. ⌜ Does r (λ b. madeOf (Body.Line flags place) (stateOf setting []) size (take len b)) len ⌝ }
+fn leg_step(size: usize, len: usize, setting: Setting, flags: u8, place: Point, kept: usize) -> Step
+    ensures { λ r. ⌜ Does r (λ b. madeOf (Body.Line flags place) (stateOf setting []) size (take len b)) len × TellsKept r kept ⌝ }
 {
     let style = setting.style;
     let date = setting.date;
@@ -155,13 +158,14 @@ fn leg_step(size: usize, len: usize, setting: Setting, flags: u8, place: Point) 
                 from: point,
                 to: place,
             },
+            kept,
         },
     }
 }
 
 // What an item comes to once its label, of len bytes, is in the buffer.
-fn made_step(size: usize, len: usize, setting: Setting, body: Body) -> Step
-    ensures { λ r. ⌜ Does r (λ b. madeOf body (stateOf setting []) size (take len b)) len ⌝ }
+fn made_step(size: usize, len: usize, setting: Setting, body: Body, kept: usize) -> Step
+    ensures { λ r. ⌜ Does r (λ b. madeOf body (stateOf setting []) size (take len b)) len × TellsKept r kept ⌝ }
 {
     let in_force = setting.date;
     match body {
@@ -176,6 +180,7 @@ fn made_step(size: usize, len: usize, setting: Setting, body: Body) -> Step
                 date: in_force,
                 size: dims,
             },
+            kept,
         },
         Body::Station { flags, place } => Step::Made {
             size,
@@ -184,8 +189,9 @@ fn made_step(size: usize, len: usize, setting: Setting, body: Body) -> Step
             fields: Fields::Station {
                 station: Station { flags, place },
             },
+            kept,
         },
-        Body::Line { flags, place } => leg_step(size, len, setting, flags, place),
+        Body::Line { flags, place } => leg_step(size, len, setting, flags, place, kept),
     }
 }
 
@@ -202,19 +208,19 @@ fn relabel_step(
     body: Body,
 ) -> Step
     requires { ⌜ (len ≤ labelLimit) × (length (now bytes) ≡ labelLimit) × (from + count ≤ length (now s)) ⌝ }
-    ensures { λ r. ⌜ Tells r (now (bytes .exit)) (onLabel (labelStep (take len (now (bytes .entry))) cut (take count (drop from (now (s .entry))))) (λ l. madeOf body (stateOf setting []) size l)) ⌝ }
+    ensures { λ r. ⌜ Tells r (now (bytes .exit)) (onLabel (labelStep (take len (now (bytes .entry))) cut (take count (drop from (now (s .entry))))) (λ l. madeOf body (stateOf setting []) size l)) × TellsStayed r (keptOf (take len (now (bytes .entry))) cut) ⌝ }
 {
     let to = from + count;
     let after = label_step(bytes, len, cut, &s[from..to]);
     match after {
         Relabelled::TooShort => Step::Bad { number: 6 },
         Relabelled::TooLong => Step::Bad { number: 7 },
-        Relabelled::Fits { len: m } => made_step(size, m, setting, body),
+        Relabelled::Fits { len: m, kept } => made_step(size, m, setting, body, kept),
     }
 }
 
 // What the item at the front of s comes to, in the state of a setting and a label: its
-// answer, and the label's bytes after it.
+// answer, with how many bytes of the label it kept, and the label's bytes after it.
 pub fn take_item(
     version: u8,
     s: &[u8],
@@ -223,7 +229,7 @@ pub fn take_item(
     setting: Setting,
 ) -> Step
     requires { ⌜ (len ≤ labelLimit) × (length (now bytes) ≡ labelLimit) ⌝ }
-    ensures { λ r. ⌜ Tells r (now (bytes .exit)) (next version (now (s .entry)) (stateOf setting (take len (now (bytes .entry))))) ⌝ }
+    ensures { λ r. ⌜ Tells r (now (bytes .exit)) (next version (now (s .entry)) (stateOf setting (take len (now (bytes .entry))))) × TellsKept r (dropLeaves (take len (now (bytes .entry))) (itemOf version (now (s .entry)))) ⌝ }
 {
     let it = decode(version, s);
     match it {
@@ -255,6 +261,7 @@ pub fn take_item(
             len,
             setting,
             fields: Fields::Error { traverse },
+            kept: 0,
         },
         Item::Relabel {
             size,

@@ -36,15 +36,21 @@ Within len Lacks = Unit
 abbrev pub relabelledSeen : Relabelled → List ℕ → Labelled
 relabelledSeen TooShort b = tooShort
 relabelledSeen TooLong b = tooLong
-relabelledSeen (Fits n) b = labelled (take n b)
+relabelledSeen (Fits n kept) b = labelled (take n b)
 
 abbrev pub Short : Relabelled → Type 0
 Short TooShort = Unit
 Short TooLong = Unit
-Short (Fits n) = n ≤ labelLimit
+Short (Fits n kept) = n ≤ labelLimit
 
 -- an answer and the buffer after it tell what the step comes to
 pub record Tells (r : Relabelled) (b : List ℕ) (x : Labelled) : Type 0 where
   pub same : relabelledSeen r b ≡ x
   pub whole : length b ≡ 4096
   pub short : Short r
+
+-- an answer tells how many bytes stayed of the label (#107)
+abbrev pub TellsKept : Relabelled → Kept → Type 0
+TellsKept TooShort x = Unit
+TellsKept TooLong x = Unit
+TellsKept (Fits n kept) x = x ≡ Keeps kept

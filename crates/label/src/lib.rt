@@ -8,7 +8,7 @@ ghost use Prim.Native.Nat.{ℕ, _+_, _≤_};
 ghost use lib.ListN.{length, take};
 ghost use lib.Seq.{paste};
 ghost use Rattle.format.specs.Label.{dotFrom, keptToDot, keptOf, labelStep, labelLimit};
-ghost use Rattle.label.specs.Seen.{dotSeen, Inside, Within, keptAfter, Tells};
+ghost use Rattle.label.specs.Seen.{dotSeen, Inside, Within, keptAfter, Tells, TellsKept};
 
 pub struct Label {
     pub bytes: [u8; LABEL_LIMIT],
@@ -21,11 +21,12 @@ pub enum Dot {
     Missing,
 }
 
-// What a step comes to: the label would be too short, or too long, or its new length.
+// What a step comes to: the label would be too short, or too long; or its new length,
+// and how many bytes of the old one were kept.
 pub enum Relabelled {
     TooShort,
     TooLong,
-    Fits { len: usize },
+    Fits { len: usize, kept: usize },
 }
 
 // The empty label.
@@ -114,10 +115,10 @@ fn append(bytes: &mut [u8; LABEL_LIMIT], keep: usize, added: &[u8])
 }
 
 // The label step of every version: what stays of the label of len bytes, then the
-// bytes to append.
+// bytes to append; with how many stayed.
 pub fn label_step(bytes: &mut [u8; LABEL_LIMIT], len: usize, cut: Cut, added: &[u8]) -> Relabelled
     requires { ⌜ (len ≤ labelLimit) × (length (now bytes) ≡ labelLimit) ⌝ }
-    ensures { λ r. ⌜ Tells r (now (bytes .exit)) (labelStep (take len (now (bytes .entry))) cut (now (added .entry))) ⌝ }
+    ensures { λ r. ⌜ Tells r (now (bytes .exit)) (labelStep (take len (now (bytes .entry))) cut (now (added .entry))) × TellsKept r (keptOf (take len (now (bytes .entry))) cut) ⌝ }
 {
     let kept = kept_of(bytes, len, cut);
     match kept {
@@ -129,6 +130,7 @@ pub fn label_step(bytes: &mut [u8; LABEL_LIMIT], len: usize, cut: Cut, added: &[
             append(bytes, keep, added);
             Relabelled::Fits {
                 len: keep + added.len(),
+                kept: keep,
             }
         }
     }

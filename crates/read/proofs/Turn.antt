@@ -49,10 +49,10 @@ pub not-laid : (r : Step) (b d : List ℕ) (k : ℕ) (x : Next) → OneOf (0 ∷
 not-laid (Bad n) b d k x o T = ap (λ (y : Next). laidBy y d k) (T .same)
 not-laid End b d k x o T = ap (λ (y : Next). laidBy y d k) (T .same)
 not-laid (On n m st) b d k x o T = ap (λ (y : Next). laidBy y d k) (T .same)
-not-laid (Made n m st f) b d k x o T = absurd (miss (0 ∷ 1 ∷ 2 ∷ []) 3 tt o)
+not-laid (Made n m st f kept) b d k x o T = absurd (miss (0 ∷ 1 ∷ 2 ∷ []) 3 tt o)
 
-pub made-laid : (r : Step) (n m : ℕ) (st : Setting) (f : Fields) (b d e : List ℕ) (k : ℕ) (x : Next) → r ≡ Made n m st f → Tells r b x → e ≡ laidIf d k (layout sheetVersion (recordOf f (take m b))) → e ≡ laidBy x d k
-made-laid r n m st f b d e k x q T p = p ∙ ap (λ (y : Next). laidBy y d k) (rw q at (T .same))
+pub made-laid : (r : Step) (n m : ℕ) (st : Setting) (f : Fields) (own : ℕ) (b d e : List ℕ) (k : ℕ) (x : Next) → r ≡ Made n m st f own → Tells r b x → e ≡ laidIf d k (layout sheetVersion (recordOf f (take m b))) → e ≡ laidBy x d k
+made-laid r n m st f own b d e k x q T p = p ∙ ap (λ (y : Next). laidBy y d k) (rw q at (T .same))
 
 -- ---- where a pass stands
 
@@ -131,7 +131,7 @@ module _ (version : ℕ) (file : List ℕ) (place : ℕ) (sheet₀ : List ℕ) (
   item-within (Bad k) b T = tt
   item-within End b T = tt
   item-within (On n m st) b T = there-within version file at state (G .stands .inside) (T .same)
-  item-within (Made n m st f) b T = there-within version file at state (G .stands .inside) (T .same)
+  item-within (Made n m st f kept) b T = there-within version file at state (G .stands .inside) (T .same)
 
   pub going-on : (n m : ℕ) (st : Setting) (b s : List ℕ) → Found version file at setting label (On n m st) b → Laid s
       → Going version file place sheet₀ front s (at + n) out records st (record { bytes = b; len = m })
@@ -148,11 +148,11 @@ module _ (version : ℕ) (file : List ℕ) (place : ℕ) (sheet₀ : List ℕ) (
         sheet-is = rw q (rw l at (G .sheet-is));
       }
 
-  pub going-made : (n m size : ℕ) (st : Setting) (f : Fields) (b s : List ℕ) → Found version file at setting label (Made n m st f) b → Laid s
+  pub going-made : (n m size : ℕ) (st : Setting) (f : Fields) (own : ℕ) (b s : List ℕ) → Found version file at setting label (Made n m st f own) b → Laid s
       → (size ≡ recordSize f m) × (size ≤ 4130) → Going version file place sheet₀ front s (at + n) (out + size) (records + 1) st (record { bytes = b; len = m })
   unfolding lay
-  going-made n m size st f b s T e q =
-      let z = item-within (Made n m st f) b T in
+  going-made n m size st f own b s T e q =
+      let z = item-within (Made n m st f own) b T in
       let r = recordOf f (take m b) in
       let t : length (take m b) ≡ m = length-take-le m b (omega (arith, T .short, T .whole)) in
       let k : size ≡ length (layout sheetVersion r) = q .0 ∙ sym (layout-size f (take m b) ∙ rw t) in

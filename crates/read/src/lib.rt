@@ -42,6 +42,7 @@ fn lay_item(
         len: m,
         setting: _,
         fields,
+        kept: _,
     } = it
     else {
         return it;
@@ -96,6 +97,7 @@ fn pass(file: &[u8], version: u8, place: usize, sheet: &mut [u8], front: usize) 
                 len,
                 setting: after,
                 fields,
+                kept: _,
             } => {
                 label.len = len;
                 setting = after;

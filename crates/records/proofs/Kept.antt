@@ -30,7 +30,7 @@ module _ (b b′ name : List ℕ) (len : ℕ) (short : len ≤ 4096) (whole : le
   pub swap-long : Tells TooLong b′ (labelStep l (Back len) name) → ⊥
   swap-long T = let q : tooLong ≡ labelled name = T .same ∙ swapped in let z : _≡_ {A = ℕ} 0 1 = cc in omega arith
 
-  pub swap-fits : (m : ℕ) → Tells (Fits m) b′ (labelStep l (Back len) name) → Swaps b′ name m
-  swap-fits m T =
+  pub swap-fits : (m kept : ℕ) → Tells (Fits m kept) b′ (labelStep l (Back len) name) → Swaps b′ name m
+  swap-fits m kept T =
       let q : labelled (take m b′) ≡ labelled name = T .same ∙ swapped in
       record { label-is = cc; label-short = T .short; label-whole = T .whole }

@@ -52,17 +52,17 @@ module _ (version : ℕ) (file : List ℕ) (was : Place) (b₀ : List ℕ) (at l
   item-within (Bad k) b T = tt
   item-within End b T = tt
   item-within (On n m to) b T = there-within version file at st (G .inside) (T .same)
-  item-within (Made n m to f) b T = there-within version file at st (G .inside) (T .same)
+  item-within (Made n m to f kept) b T = there-within version file at st (G .inside) (T .same)
 
   pub going-on : (n m : ℕ) (st′ : Setting) (b′ : List ℕ) → Tell (On n m st′) b′ → Going version file was b₀ (at + n) m st′ b′
   going-on n m st′ b′ T =
       let z = item-within (On n m st′) b′ T in
       record { inside = z .1; short = T .short; whole = T .whole; on = omega (arith, G .on); same = G .same ∙ left-on version file at st (T .same) }
 
-  pub finds-record : (n m : ℕ) (st′ : Setting) (f : Fields) (b′ : List ℕ) → Tell (Made n m st′ f) b′
+  pub finds-record : (n m : ℕ) (st′ : Setting) (f : Fields) (kept : ℕ) (b′ : List ℕ) → Tell (Made n m st′ f kept) b′
       → Finds version file was b₀ (FoundRecord (record { at = at + n; len = m; setting = st′ }) f) b′
-  finds-record n m st′ f b′ T =
-      let z = item-within (Made n m st′ f) b′ T in
+  finds-record n m st′ f kept b′ T =
+      let z = item-within (Made n m st′ f kept) b′ T in
       record {
         same = G .same ∙ left-made version file at st (T .same);
         further = (omega (arith, G .on), record { place-inside = z .1; label-short = T .short; label-whole = T .whole });

@@ -78,6 +78,7 @@ pub fn next_record(file: &[u8], version: u8, from: Place, bytes: &mut [u8; LABEL
                 len: m,
                 setting: after,
                 fields,
+                kept: _,
             } => {
                 return Found::Record {
                     place: Place {
@@ -101,7 +102,7 @@ fn swap_label(bytes: &mut [u8; LABEL_LIMIT], len: usize, name: &[u8]) -> usize
     match after {
         Relabelled::TooShort => len,
         Relabelled::TooLong => len,
-        Relabelled::Fits { len: m } => m,
+        Relabelled::Fits { len: m, kept: _ } => m,
     }
 }
 

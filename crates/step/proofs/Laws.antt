@@ -14,6 +14,8 @@ use Rattle.format.specs.Header.{Opening, shut, opened}
 use Rattle.format.specs.State.{State, Record, Next}
 use Rattle.format.specs.Sheet.{sheetVersion, layout}
 use Rattle.format.specs.Reading.{next, ended}
+use Rattle.format.specs.Items.{itemOf}
+use Rattle.format.specs.Outline.{dropLeaves}
 use Rattle.format.specs.Fields.{recordOf, stateOf, recordSize}
 use Rattle.format.specs.Stepping.{standOf, stepNext, recorded, stepOf, stepBuffer}
 use Rattle.format.specs.Answers.{begun, unopened, openOutcome}
@@ -134,20 +136,23 @@ module _ (h : Held) (file old : List ℕ) (g : h .phase ≡ Going) (full : lengt
   pub on-fits : (n m : ℕ) (st : Setting) → Found (On n m st) → h .place + n ≤ length file
   on-fits n m st T = let z = size (On n m st) T in omega (arith, z .0, z .1)
 
-  pub made-fits : (n m : ℕ) (st : Setting) (f : Fields) → Found (Made n m st f) → h .place + n ≤ length file
-  made-fits n m st f T = let z = size (Made n m st f) T in omega (arith, z .0, z .1)
+  pub made-fits : (n m : ℕ) (st : Setting) (f : Fields) (kept : ℕ) → Found (Made n m st f kept) → h .place + n ≤ length file
+  made-fits n m st f kept T = let z = size (Made n m st f kept) T in omega (arith, z .0, z .1)
 
   pub step-on : (n m : ℕ) (st : Setting) → Found (On n m st) → (s : Held) → s ≡ behindItem h n (record { bytes = b; len = m }) st
       → Steps h file old (record { answer = Nothing; stand = s }) old
   unfolding stepBuffer over
   step-on n m st T s e = record { answer = rw (one (On n m st) T); stand = rw (e, one (On n m st) T); buffer = rw (one (On n m st) T) }
 
-  module _ (n m : ℕ) (st : Setting) (f : Fields) (T : Found (Made n m st f)) where
+  module _ (n m : ℕ) (st : Setting) (f : Fields) (kept : ℕ) (T : Found (Made n m st f kept)) (K : kept ≡ dropLeaves (take (lesser (h .label .len) 4096) (h .label .bytes)) (itemOf (h .version) (take (length file - at) (drop at file)))) where
     abbrev k : ℕ
     k = recordSize f m
 
     abbrev rec : Record
     rec = recordOf f (take m b)
+
+    kept-is : kept ≡ dropLeaves (state .label) (itemOf (h .version) rest)
+    kept-is = rw (rest-is, label-is) at K
 
     bytes-are : length (layout sheetVersion rec) ≡ k
     bytes-are =
@@ -158,26 +163,29 @@ module _ (h : Held) (file old : List ℕ) (g : h .phase ≡ Going) (full : lengt
     unfolding stepBuffer over recorded pick
     step-small t new l S =
         record {
-          answer = rw (S .0, one (Made n m st f) T, bytes-are, lt-ltb _ _ l);
-          stand = rw (S .1, one (Made n m st f) T, bytes-are, lt-ltb _ _ l) (rw g);
-          buffer = rw (one (Made n m st f) T, bytes-are, lt-ltb _ _ l) (S .2);
+          answer = rw (S .0, one (Made n m st f kept) T, bytes-are, lt-ltb _ _ l);
+          stand = rw (S .1, one (Made n m st f kept) T, bytes-are, lt-ltb _ _ l) (rw g);
+          buffer = rw (one (Made n m st f kept) T, bytes-are, lt-ltb _ _ l) (S .2);
         }
 
-    step-fits : (t : Taken) (new : List ℕ) → k ≤ length old → (t .answer ≡ RecordStep k) × (t .stand ≡ behindItem h n (record { bytes = b; len = m }) st) × (new ≡ laidIf old 0 (layout sheetVersion rec))
+    step-fits : (t : Taken) (new : List ℕ) → k ≤ length old → (t .answer ≡ RecordStep k kept) × (t .stand ≡ behindItem h n (record { bytes = b; len = m }) st) × (new ≡ laidIf old 0 (layout sheetVersion rec))
         → Steps h file old t new
     unfolding stepBuffer recorded pick
     step-fits t new l S =
         let z : 0 + length (layout sheetVersion rec) ≤ length old = omega (arith, bytes-are) in
         let y : new ≡ over (layout sheetVersion rec) old = S .2 ∙ laid-some old (layout sheetVersion rec) 0 z ∙ laid-zero old (layout sheetVersion rec) in
         record {
-          answer = rw (S .0, one (Made n m st f) T, bytes-are, le-ltb _ _ l);
-          stand = rw (S .1, one (Made n m st f) T, bytes-are, le-ltb _ _ l);
-          buffer = rw (one (Made n m st f) T, bytes-are, le-ltb _ _ l) y;
+          answer = rw (S .0, one (Made n m st f kept) T, bytes-are, le-ltb _ _ l, kept-is);
+          stand = rw (S .1, one (Made n m st f kept) T, bytes-are, le-ltb _ _ l);
+          buffer = rw (one (Made n m st f kept) T, bytes-are, le-ltb _ _ l) y;
         }
 
-    pub step-made : (t : Taken) (new : List ℕ) → RecordStepped h n (record { bytes = b; len = m }) st f old t new → Steps h file old t new
-    step-made t new R = go (ltb (length old) k) refl
+    pub step-made : (next : Held) → next ≡ behindItem h n (record { bytes = b; len = m }) st → (t : Taken) (new : List ℕ) → RecordStepped h next f kept old t new → Steps h file old t new
+    step-made next q t new Q = go (ltb (length old) k) refl
       where
+        R : RecordStepped h (behindItem h n (record { bytes = b; len = m }) st) f kept old t new
+        R = rw q at Q
+
         go : (x : Bool) → ltb (length old) k ≡ x → Steps h file old t new
         go true e = let l = ltb-true (length old) k e in step-small t new l (R .small l)
         go false e = let l = ltb-false (length old) k e in step-fits t new l (R .fits l)

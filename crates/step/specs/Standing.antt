@@ -57,11 +57,12 @@ pub record EndStepped (left : ℕ) (h : Held) (t : Taken) : Type 0 where
 abbrev pub behindItem : Held → ℕ → Label → Setting → Held
 behindItem h n label setting = record { phase = Going; version = h .version; place = h .place + n; label = label; setting = setting }
 
--- `record_step`: an item that makes a record: 11, which changes nothing, or the record at the front of the buffer
-pub record RecordStepped (h : Held) (n : ℕ) (label : Label) (setting : Setting) (f : Fields) (old : List ℕ) (t : Taken) (new : List ℕ) : Type 0 where
-  pub small : length old < recordSize f (label .len) → (t .answer ≡ StepRefused 11 (recordSize f (label .len))) × (t .stand ≡ h) × (new ≡ old)
-  pub fits : recordSize f (label .len) ≤ length old
-      → (t .answer ≡ RecordStep (recordSize f (label .len))) × (t .stand ≡ behindItem h n label setting) × (new ≡ laidIf old 0 (layout sheetVersion (recordOf f (take (label .len) (label .bytes)))))
+-- `record_step`: an item that makes a record, behind which the reader stands at `next`: 11, which changes nothing, or the record at the
+-- front of the buffer, with how many bytes of the label were kept
+pub record RecordStepped (h next : Held) (f : Fields) (kept : ℕ) (old : List ℕ) (t : Taken) (new : List ℕ) : Type 0 where
+  pub small : length old < recordSize f (next .label .len) → (t .answer ≡ StepRefused 11 (recordSize f (next .label .len))) × (t .stand ≡ h) × (new ≡ old)
+  pub fits : recordSize f (next .label .len) ≤ length old
+      → (t .answer ≡ RecordStep (recordSize f (next .label .len)) kept) × (t .stand ≡ next) × (new ≡ laidIf old 0 (layout sheetVersion (recordOf f (take (next .label .len) (next .label .bytes)))))
 
 -- `step`: an answer, where the reader then stands and the buffer after it are one step from a stand
 pub record Steps (h : Held) (file old : List ℕ) (t : Taken) (new : List ℕ) : Type 0 where

@@ -84,7 +84,7 @@ fn fresh(phase: Phase, version: u8, place: usize) -> Stand
 
 // Where a reader of the file stands at first. After a refused opening every step answers
 // that refusal.
-fn open_at(file: &[u8]) -> Stand
+pub fn open_at(file: &[u8]) -> Stand
     ensures { λ r. ⌜ standSeen r ≡ openStand (now (file .entry)) ⌝ }
 {
     let o = opened(file);
@@ -151,19 +151,13 @@ fn behind(stand: Stand, size: usize, label: Label, setting: Setting) -> Stand
     }
 }
 
-// A step over an item that makes a record: 11 leaves the reader where it was.
-fn record_step(
-    stand: Stand,
-    out: &mut [u8],
-    size: usize,
-    label: Label,
-    setting: Setting,
-    fields: Fields,
-) -> Taken
-    requires { ⌜ (stand .place + size ≤ sliceLimit) × (label .len ≤ labelLimit) × (length (label .bytes) ≡ labelLimit) ⌝ }
-    ensures { λ r. ⌜ RecordStepped stand size label setting fields (now (out .entry)) r (now (out .exit)) ⌝ }
+// A step over an item that makes a record, behind which the reader stands at next: 11
+// leaves it where it was.
+fn record_step(stand: Stand, next: Stand, out: &mut [u8], fields: Fields, kept: usize) -> Taken
+    requires { ⌜ (next .label .len ≤ labelLimit) × (length (next .label .bytes) ≡ labelLimit) ⌝ }
+    ensures { λ r. ⌜ RecordStepped stand next fields kept (now (out .entry)) r (now (out .exit)) ⌝ }
 {
-    let next = behind(stand, size, label, setting);
+    let label = next.label;
     let bytes = record::record_size(fields, label.len);
     if out.len() < bytes {
         let answer = Stepped::Refused {
@@ -173,7 +167,7 @@ fn record_step(
         return Taken { answer, stand };
     }
     record::lay_record(out, 0, fields, &label.bytes, label.len);
-    let answer = Stepped::Record { bytes };
+    let answer = Stepped::Record { bytes, kept };
     Taken {
         answer,
         stand: next,
@@ -213,16 +207,18 @@ fn step_item(file: &[u8], stand: Stand, out: &mut [u8]) -> Taken
             len,
             setting,
             fields,
+            kept,
         } => {
             label.len = len;
-            record_step(stand, out, size, label, setting, fields)
+            let next = behind(stand, size, label, setting);
+            record_step(stand, next, out, fields, kept)
         }
     }
 }
 
 // One step: exactly one item, or the end or the refusal again. 11 leaves the stand as it
 // was.
-fn step_at(file: &[u8], stand: Stand, out: &mut [u8]) -> Taken
+pub fn step_at(file: &[u8], stand: Stand, out: &mut [u8]) -> Taken
     ensures { λ r. ⌜ Steps stand (now (file .entry)) (now (out .entry)) r (now (out .exit)) ⌝ }
 {
     let phase = stand.phase;

@@ -66,8 +66,8 @@ impl<'a> State<'a> {
     /// "D up to the whole label is allowed."
     #[inline(always)]
     fn changed(&self, change: Change) -> Result<usize, Number> {
-        let kept = self.length.checked_sub(change.drop as usize).ok_or(TOO_SHORT)?;
-        let length = kept + change.add.len();
+        let after_drop = self.length.checked_sub(change.drop as usize).ok_or(TOO_SHORT)?;
+        let length = after_drop + change.add.len();
         if length > LONGEST_LABEL {
             return Err(TOO_LONG);
         }

@@ -1,7 +1,7 @@
 //! Stepping through a file, one item at a time.
 
 use crate::header::header;
-use crate::item::next;
+use crate::item::{next, Item, What};
 use crate::read::nothing_after;
 use crate::record;
 use crate::state::State;
@@ -15,10 +15,13 @@ pub enum Opened {
 }
 
 /// What a step answers. `Record` counts the bytes written, the two length
-/// bytes included.
+/// bytes included, and the bytes kept of the label: "the least length that the
+/// current label had since the previous item that carried a label, or since the
+/// start, counting the start of that stretch and the item's own drop", or 0 for
+/// an error record.
 #[derive(Clone, Copy, PartialEq, Eq, Debug)]
 pub enum Step {
-    Record { bytes: usize },
+    Record { bytes: usize, kept: usize },
     Nothing,
     End,
     Refused { number: u8, place: usize },
@@ -96,6 +99,17 @@ impl<'a> Stepper<'a> {
         record::put(&item, &self.state, out);
         self.state.apply(&item);
         self.place = self.file.len() - rest.len();
-        Ok(size.map_or(Step::Nothing, |bytes| Step::Record { bytes }))
+        Ok(size.map_or(Step::Nothing, |bytes| Step::Record { bytes, kept: kept(&item, length) }))
+    }
+}
+
+/// The bytes kept, for an item that makes a record and leaves a label of
+/// `length` bytes. Only an item that carries a label can lengthen it, so since
+/// the previous one the label never grew: it was least right after the item's
+/// own drop.
+fn kept(item: &Item, length: usize) -> usize {
+    match item.what {
+        What::Error(_) => 0,
+        _ => length - item.change.add.len(),
     }
 }

@@ -496,7 +496,7 @@ fn stepping_one_item_at_a_time() {
     assert_eq!(stepper.step(&mut out), Step::Nothing);
     assert_eq!(stepper.step(&mut out[..34]), Step::Refused { number: 11, place: 35 });
     assert_eq!(out, [FILLER; 40]);
-    assert_eq!(stepper.step(&mut out), Step::Record { bytes: 35 });
+    assert_eq!(stepper.step(&mut out), Step::Record { bytes: 35, kept: 0 });
     assert_eq!(out[..35], leg(0, Date::Day(1), [0; 3], [0; 3], b"a").bytes());
     assert_eq!(out[35..], [FILLER; 5]);
     assert_eq!(stepper.step(&mut []), Step::End);

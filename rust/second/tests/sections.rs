@@ -393,13 +393,13 @@ fn stepping_a_dated_section() {
     assert_eq!(stepper.step(&mut out), Step::Nothing);
     assert_eq!(stepper.step(&mut out[..25]), Step::Refused { number: 11, place: 26 });
     assert_eq!(out, [FILLER; 40]);
-    assert_eq!(stepper.step(&mut out[..26]), Step::Record { bytes: 26 });
+    assert_eq!(stepper.step(&mut out[..26]), Step::Record { bytes: 26, kept: 0 });
     let sides = [0, 0, 0, 1, 0, 0, 0, 2, 0, 0, 0, 3, 0, 0, 0, 4];
     let record = [&[0, 24, 3, 0, 2, 0, 7, 0, 9][..], &sides, b"x"].concat();
     assert_eq!(out[..26], record);
     assert_eq!(out[26..], [FILLER; 14]);
     assert_eq!(stepper.step(&mut []), Step::Nothing);
-    assert_eq!(stepper.step(&mut out), Step::Record { bytes: 26 });
+    assert_eq!(stepper.step(&mut out), Step::Record { bytes: 26, kept: 0 });
     assert_eq!(out[..26], at_x(Date::None).bytes());
     assert_eq!(stepper.step(&mut []), Step::Nothing);
     assert_eq!(stepper.step(&mut []), Step::End);

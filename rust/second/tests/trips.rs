@@ -110,6 +110,10 @@ struct Coder<'r> {
     version: u8,
     items: Vec<u8>,
     label: Vec<u8>,
+    /// The least length of the label since the last item that carried one.
+    least: usize,
+    /// The number kept of each record so far.
+    kept: Vec<usize>,
     date: Date,
     style: u8,
     place: Option<[i32; 3]>,
@@ -125,9 +129,11 @@ impl Coder<'_> {
                 if self.place != Some(*from) || self.rng.chance(4) {
                     self.items.push(0x0f);
                     self.items.extend(le(from));
+                    self.place = Some(*from);
                 }
                 if !legacy && *label == self.label && self.rng.chance(2) {
                     self.items.push(0x60 | flags);
+                    self.named(label);
                 } else {
                     self.label(if legacy { 0x80 } else { 0x40 } | flags, label);
                 }
@@ -142,11 +148,20 @@ impl Coder<'_> {
                 self.date(*date);
                 self.section(*last, sides, label);
             }
-            Rec::Error(five) => {
-                self.items.push(if legacy { 0x22 } else { 0x1f });
-                self.items.extend(le(five));
-            }
+            Rec::Error(five) => self.error(five),
         }
+    }
+
+    /// An error; v3 to v7 may shorten the label before it already.
+    fn error(&mut self, five: &[i32; 5]) {
+        let legacy = self.version < 8;
+        if legacy && self.rng.chance(2) {
+            let keep = self.rng.below(self.label.len() + 1);
+            self.shorten(keep);
+        }
+        self.items.push(if legacy { 0x22 } else { 0x1f });
+        self.items.extend(le(five));
+        self.kept.push(0);
     }
 
     fn section(&mut self, last: u8, sides: &[i32; 4], label: &[u8]) {
@@ -229,13 +244,27 @@ impl Coder<'_> {
         if self.version == 8 {
             self.items.push(code);
             self.change(self.label.len() - keep, label.len() - keep);
+            self.cut(keep);
         } else {
             self.shorten(keep);
             self.items.push(code);
             self.length(label.len() - keep);
         }
         self.items.extend(&label[keep..]);
+        self.named(label);
+    }
+
+    /// All that shortens the label comes here, so that no length is missed.
+    fn cut(&mut self, length: usize) {
+        self.label.truncate(length);
+        self.least = self.least.min(length);
+    }
+
+    /// The item carries this label: its number, and the start of a new stretch.
+    fn named(&mut self, label: &[u8]) {
+        self.kept.push(self.least);
         self.label = label.to_vec();
+        self.least = label.len();
     }
 
     fn change(&mut self, drop: usize, add: usize) {
@@ -257,21 +286,30 @@ impl Coder<'_> {
     fn shorten(&mut self, keep: usize) {
         if keep == 0 && !self.label.is_empty() {
             self.items.push(0x00);
-            self.label.clear();
+            self.cut(0);
         }
         while self.label.len() > keep {
             let length = self.label.len();
+            self.stay();
             if self.label[keep - 1] == b'.' && length - keep >= 16 && self.rng.chance(2) {
                 let dots =
                     self.label[keep - 1..length - 16].iter().filter(|&&byte| byte == b'.').count();
                 if dots <= 14 {
                     self.items.push(dots as u8);
-                    return self.label.truncate(keep);
+                    return self.cut(keep);
                 }
             }
             let drop = (length - keep).min(1 + self.rng.below(16));
             self.items.push(15 + drop as u8);
-            self.label.truncate(length - drop);
+            self.cut(length - drop);
+        }
+    }
+
+    /// Sometimes a MOVE to where it stands already, which changes nothing.
+    fn stay(&mut self) {
+        if let Some(place) = self.place.filter(|_| self.rng.chance(6)) {
+            self.items.push(0x0f);
+            self.items.extend(le(&place));
         }
     }
 
@@ -297,11 +335,18 @@ impl Coder<'_> {
 }
 
 fn items(rng: &mut Rng, version: u8, records: &[Rec]) -> Vec<u8> {
+    coded(rng, version, records).0
+}
+
+/// The items and the number kept of each record.
+fn coded(rng: &mut Rng, version: u8, records: &[Rec]) -> (Vec<u8>, Vec<usize>) {
     let mut coder = Coder {
         rng,
         version,
         items: Vec::new(),
         label: Vec::new(),
+        least: 0,
+        kept: Vec::new(),
         date: Date::None,
         style: 5,
         place: None,
@@ -310,7 +355,7 @@ fn items(rng: &mut Rng, version: u8, records: &[Rec]) -> Vec<u8> {
         coder.record(record);
     }
     coder.close();
-    coder.items
+    (coder.items, coder.kept)
 }
 
 #[test]
@@ -332,6 +377,68 @@ fn any_coding_reads_to_its_sheet() {
         convert(&coded, &mut lent, &mut []);
         assert_eq!(lent, sheet);
     }
+}
+
+/// The numbers kept as `steps` finds them, which watches that the names before
+/// and after agree on them.
+fn watched_kept(file: &[u8]) -> Vec<usize> {
+    steps(file).unwrap().0.iter().map(|step| step.kept).collect()
+}
+
+#[test]
+fn kept_is_the_least_length_since_the_name_before() {
+    let mut rng = Rng(0x0107_6e61_6d65);
+    let mut seen = [[0; 3]; 9];
+    for round in 0..12_000 {
+        let version = 3 + (round % 6) as u8;
+        let records = records(&mut rng, version);
+        let (items, kept) = coded(&mut rng, version, &records);
+        let coded = file(version, b"A", b"@0", &items);
+        assert_eq!(kept_of(&coded), kept, "{round}");
+        assert_eq!(watched_kept(&coded), kept, "{round}");
+        for (number, shared) in kept.into_iter().zip(shared(&records)) {
+            let how = if number == 0 { 0 } else { 1 + usize::from(number < shared) };
+            seen[usize::from(version)][how] += 1;
+        }
+    }
+    // Nothing kept, all that is shared, and less than that, in every version.
+    assert!(seen[3..].iter().flatten().all(|&count| count > 300), "{seen:?}");
+}
+
+/// For each record how many bytes its name shares with the name before; 0 for
+/// an error.
+fn shared(records: &[Rec]) -> Vec<usize> {
+    let mut before: &[u8] = &[];
+    let share = |record| {
+        let Some(label) = Rec::label(record) else { return 0 };
+        let same = before.iter().zip(label).take_while(|(a, b)| a == b).count();
+        before = label;
+        same
+    };
+    records.iter().map(share).collect()
+}
+
+#[test]
+fn written_files_keep_all_that_is_shared() {
+    let mut rng = Rng(0x0107_0008);
+    let mut forced = 0;
+    for round in 0..3000 {
+        let records = records(&mut rng, 8);
+        let ours = write_all(&sheet(&records)).unwrap();
+        let (mut kept, mut before) = (shared(&records), &[][..]);
+        for (number, record) in kept.iter_mut().zip(&records) {
+            let Some(label) = record.label() else { continue };
+            // The same name takes D = A = 1, but in a leg.
+            let leg = matches!(record, Rec::Leg { .. });
+            if !leg && label == before && !label.is_empty() {
+                *number -= 1;
+                forced += 1;
+            }
+            before = label;
+        }
+        assert_eq!(watched_kept(&ours), kept, "{round}");
+    }
+    assert!(forced > 300, "{forced}");
 }
 
 /// The records as a version 1 sheet gives them: no section has a date.

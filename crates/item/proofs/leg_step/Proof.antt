@@ -1,5 +1,6 @@
 -- `item::leg_step` meets its contract. Assumes nothing.
 use borrow.Author.Needs.{needs}
+use mathlib.Core.Path.{refl}
 use Rattle.item.proofs.Steps.{leg-unset, leg-made}
 use Rattle.item.proofs.leg_step.Statement.{statement}
 use Rattle.item.proofs.leg_step.Tie as tie
@@ -15,11 +16,11 @@ with-position-requires c κs = search needs
 
 returns : tie.Need-returns
 returns c =
-    leg-unset _ _ _ (c .before .before .args .setting) _ _ (c .enum-told .given .1)
+    (leg-unset _ _ 0 _ (c .before .before .args .setting) _ _ (c .enum-told .given .1), tt)
 
 returns-2 : tie.Need-returns-2
 returns-2 c =
-    leg-made _ _ _ _ _ _ _ (c .before .before .position .given .1) (c .with-position .ensures)
+    (leg-made _ _ _ _ _ _ _ _ (c .before .before .position .given .1) (c .with-position .ensures), refl)
 
 pub leg-step-spec : {M : Type 1} → statement M
 leg-step-spec =

@@ -21,15 +21,15 @@ leg-step-requires c κs = search needs
 
 returns : tie.Need-returns
 returns c =
-    rw (c .enum-told .given .1) (record { same = λ b. refl; short = λ q. q })
+    rw (c .enum-told .given .1) (record { same = λ b. refl; short = λ q. q }, tt)
 
 returns-2 : tie.Need-returns-2
 returns-2 c =
-    rw (c .before .body .given .1) (record { same = λ b. refl; short = λ q. q })
+    rw (c .before .body .given .1) (record { same = λ b. refl; short = λ q. q }, refl)
 
 returns-3 : tie.Need-returns-3
 returns-3 c =
-    rw (c .before .body2 .given .1) (record { same = λ b. refl; short = λ q. q })
+    rw (c .before .body2 .given .1) (record { same = λ b. refl; short = λ q. q }, refl)
 
 returns-4 : tie.Need-returns-4
 returns-4 c =

@@ -3,7 +3,7 @@ use borrow.Author.Needs.{needs}
 use native.Mathlib.Omega.{arith}
 use Prim.Native.Nat.{_+_, _-_}
 use mathlib.Core.Path.{_≡_}
-use Rattle.item.proofs.Steps.{label-short, label-long, label-fits}
+use Rattle.item.proofs.Steps.{label-short, label-long, label-fits, stays-as}
 use Rattle.item.proofs.relabel_step.Statement.{statement}
 use Rattle.item.proofs.relabel_step.Tie as tie
 
@@ -37,17 +37,18 @@ made-step-requires c κs = search needs
 returns : tie.Need-returns
 returns c =
     let z : c .before .before .before .before .before .before .args .from + c .before .before .before .before .before .before .args .count - c .before .before .before .before .before .before .args .from ≡ c .before .before .before .before .before .before .args .count = omega arith in
-    label-short _ _ _ (rw (c .enum-told .given .1, z) at (c .before .before .label-step .ensures))
+    (label-short _ _ _ (rw (c .enum-told .given .1, z) at (c .before .before .label-step .ensures .0)), tt)
 
 returns-2 : tie.Need-returns-2
 returns-2 c =
     let z : c .before .before .before .before .before .before .args .from + c .before .before .before .before .before .before .args .count - c .before .before .before .before .before .before .args .from ≡ c .before .before .before .before .before .before .args .count = omega arith in
-    label-long _ _ _ (rw (c .enum-told2 .given .1, z) at (c .before .before .label-step .ensures))
+    (label-long _ _ _ (rw (c .enum-told2 .given .1, z) at (c .before .before .label-step .ensures .0)), tt)
 
 returns-3 : tie.Need-returns-3
 returns-3 c =
     let z : c .before .before .before .before .before .before .before .before .args .from + c .before .before .before .before .before .before .before .before .args .count - c .before .before .before .before .before .before .before .before .args .from ≡ c .before .before .before .before .before .before .before .before .args .count = omega arith in
-    label-fits _ _ _ _ _ (rw (c .before .before .after .given .1, z) at (c .before .before .before .before .label-step .ensures)) (c .made-step .ensures)
+    let K = rw (c .before .before .after .given .1) at (c .before .before .before .before .label-step .ensures .1) in
+    (label-fits _ _ _ _ _ _ (rw (c .before .before .after .given .1, z) at (c .before .before .before .before .label-step .ensures .0)) (c .made-step .ensures .0), stays-as (c .made-step .result) _ _ (c .made-step .ensures .1) K)
 
 pub relabel-step-spec : {M : Type 1} → statement M
 relabel-step-spec =

@@ -16,7 +16,7 @@ returns : tie.Need-returns
 returns c =
     let e = rw (c .before .before .kept .given .1) at (c .before .before .before .before .kept-of .ensures) in
     let a = c .before .before .before .before .before .before .before in
-    record { same = sym (step-long _ _ _ _ (sym (e .0)) (omega (arith, c .if1 .taken))); whole = a .pre .1; short = tt }
+    (record { same = sym (step-long _ _ _ _ (sym (e .0)) (omega (arith, c .if1 .taken))); whole = a .pre .1; short = tt }, tt)
 
 append-requires : tie.Need-append-requires
 append-requires c κs =
@@ -27,19 +27,21 @@ append-requires c κs =
 returns-2 : tie.Need-returns-2
 returns-2 c =
     let e = rw (c .enum-told .given .1) at (c .before .before .kept-of .ensures) in
-    record { same = sym (step-short _ _ _ (sym (e .0))); whole = c .before .before .before .before .before .pre .1; short = tt }
+    (record { same = sym (step-short _ _ _ (sym (e .0))); whole = c .before .before .before .before .before .pre .1; short = tt }, tt)
 
 returns-3 : tie.Need-returns-3
 returns-3 c =
     let e = rw (c .before .before .before .before .kept .given .1) at (c .before .before .before .before .before .before .kept-of .ensures) in
     let a = c .before .before .before .before .before .before .before .before .before in
     let h = c .before .before .if1 .left in
-    rw (c .append .ensures)
-    (record {
-      same = step-laid (a .args .bytes .now) (a .args .len) _ (a .args .added .now) (a .pre .1) (e .1) (omega (arith, h, e .1, a .pre)) _ (e .0);
-      whole = step-whole (a .args .bytes .now) (a .args .len) _ (a .args .added .now) (a .pre .1) (e .1) (omega (arith, h, e .1, a .pre));
-      short = omega (arith, h, e .1, a .pre);
-    })
+    rw (c .append .ensures) (
+      record {
+        same = step-laid (a .args .bytes .now) (a .args .len) _ (a .args .added .now) (a .pre .1) (e .1) (omega (arith, h, e .1, a .pre)) _ (e .0);
+        whole = step-whole (a .args .bytes .now) (a .args .len) _ (a .args .added .now) (a .pre .1) (e .1) (omega (arith, h, e .1, a .pre));
+        short = omega (arith, h, e .1, a .pre);
+      },
+      sym (e .0),
+    )
 
 -- the search closes the other needs
 pub label-step-spec : {M : Type 1} → statement M

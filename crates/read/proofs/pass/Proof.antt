@@ -130,10 +130,10 @@ add-records c =
     omega (arith, i .stands .inside, i .records-few, c .before .before .before .before .before .before .before .before .before .before .before .before .before .before .before .pre)
 
 add-at-2 : tie.Need-add-at-2 Inv-loop μ-loop
-add-at-2 c = let z = within-at (c .before .before .before .before .before .before) (Made _ _ _ _) (c .before .before .it3 .given .1) in omega arith
+add-at-2 c = let z = within-at (c .before .before .before .before .before .before) (Made _ _ _ _ _) (c .before .before .it3 .given .1) in omega arith
 
 loop-less-2 : tie.Need-loop-less-2 Inv-loop μ-loop
-loop-less-2 c = let z = within-at (c .before .before .before .before .before .before) (Made _ _ _ _) (c .before .before .it3 .given .1) in omega arith
+loop-less-2 c = let z = within-at (c .before .before .before .before .before .before) (Made _ _ _ _ _) (c .before .before .it3 .given .1) in omega arith
 
 loop-again-2 : tie.Need-loop-again-2 Inv-loop μ-loop
 loop-again-2 c =
@@ -141,7 +141,7 @@ loop-again-2 c =
     let l = c .before .before .before .before .before .before .before .before .before .before in
     let T = rw (c .before .before .it3 .given .1) at (d .lay-item .ensures .0) in
     let e = d .lay-item .ensures .1 in
-    going-made _ _ _ _ _ _ _ _ _ _ _ (l .loop .inv) _ _ _ _ _ _ _ T e (c .record-size .ensures)
+    going-made _ _ _ _ _ _ _ _ _ _ _ (l .loop .inv) _ _ _ _ _ _ _ _ T e (c .record-size .ensures)
 
 pub pass-spec : {M : Type 1} → statement M
 pass-spec =

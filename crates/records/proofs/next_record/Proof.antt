@@ -22,7 +22,7 @@ abbrev μ-loop : tie.MeasureT-loop
 
 -- the item's bytes are there
 within-at : (y : tie.After-take-item Inv-loop μ-loop) (it : Step) → y .take-item .result ≡ it → Within (length (y .before .before .before .before .before .before .args .file .now)) (y .before .before .before .loop .at) (seen it [])
-within-at y it e = item-within _ _ _ _ _ _ _ _ (y .before .before .before .loop .inv) it _ (rw e at (y .take-item .ensures))
+within-at y it e = item-within _ _ _ _ _ _ _ _ (y .before .before .before .loop .inv) it _ (rw e at (y .take-item .ensures .0))
 
 loop-holds : tie.Need-loop-holds Inv-loop μ-loop
 loop-holds c =
@@ -47,7 +47,7 @@ enum-known-it c = search needs
 returns : tie.Need-returns Inv-loop μ-loop
 returns c =
     let l = c .before .before .before .before .before .before in
-    finds-bad _ _ _ _ _ _ _ _ (l .loop .inv) _ _ (rw (c .before .it .given .1) at (c .before .before .before .take-item .ensures))
+    finds-bad _ _ _ _ _ _ _ _ (l .loop .inv) _ _ (rw (c .before .it .given .1) at (c .before .before .before .take-item .ensures .0))
 
 enum-told : tie.Need-enum-told Inv-loop μ-loop
 enum-told c = search needs
@@ -58,12 +58,12 @@ add-t24 c = search needs
 returns-2 : tie.Need-returns-2 Inv-loop μ-loop
 returns-2 c =
     let l = c .before .before .before .before .before .before in
-    finds-after _ _ _ _ _ _ _ _ (l .loop .inv) _ (rw (c .before .enum-told .given .1) at (c .before .before .before .take-item .ensures)) (simp length-drop (omega arith))
+    finds-after _ _ _ _ _ _ _ _ (l .loop .inv) _ (rw (c .before .enum-told .given .1) at (c .before .before .before .take-item .ensures .0)) (simp length-drop (omega arith))
 
 returns-3 : tie.Need-returns-3 Inv-loop μ-loop
 returns-3 c =
     let l = c .before .before .before .before .before .before in
-    finds-end _ _ _ _ _ _ _ _ (l .loop .inv) _ (rw (c .before .enum-told .given .1) at (c .before .before .before .take-item .ensures)) (simp length-drop (omega arith))
+    finds-end _ _ _ _ _ _ _ _ (l .loop .inv) _ (rw (c .before .enum-told .given .1) at (c .before .before .before .take-item .ensures .0)) (simp length-drop (omega arith))
 
 enum-known-it-2 : tie.Need-enum-known-it-2 Inv-loop μ-loop
 enum-known-it-2 c = search needs
@@ -77,18 +77,18 @@ loop-less c = let z = within-at (c .before .before .before) (On _ _ _) (c .befor
 loop-again : tie.Need-loop-again Inv-loop μ-loop
 loop-again c =
     let l = c .before .before .before .before .before .before in
-    going-on _ _ _ _ _ _ _ _ (l .loop .inv) _ _ _ _ (rw (c .before .it2 .given .1) at (c .before .before .before .take-item .ensures))
+    going-on _ _ _ _ _ _ _ _ (l .loop .inv) _ _ _ _ (rw (c .before .it2 .given .1) at (c .before .before .before .take-item .ensures .0))
 
 enum-known-it-3 : tie.Need-enum-known-it-3 Inv-loop μ-loop
 enum-known-it-3 c = search needs
 
 add-t25 : tie.Need-add-t25 Inv-loop μ-loop
-add-t25 c = let z = within-at (c .before .before .before) (Made _ _ _ _) (c .before .it3 .given .1) in omega arith
+add-t25 c = let z = within-at (c .before .before .before) (Made _ _ _ _ _) (c .before .it3 .given .1) in omega arith
 
 returns-4 : tie.Need-returns-4 Inv-loop μ-loop
 returns-4 c =
     let l = c .before .before .before .before .before .before in
-    finds-record _ _ _ _ _ _ _ _ (l .loop .inv) _ _ _ _ _ (rw (c .before .it3 .given .1) at (c .before .before .before .take-item .ensures))
+    finds-record _ _ _ _ _ _ _ _ (l .loop .inv) _ _ _ _ _ _ (rw (c .before .it3 .given .1) at (c .before .before .before .take-item .ensures .0))
 
 pub next-record-spec : {M : Type 1} → statement M
 next-record-spec =

@@ -20,19 +20,19 @@ returns : tie.Need-returns
 returns c =
     let a = c .before .before .before .before .before .args in
     let p = c .before .before .before .before .before .pre in
-    absurd (swap-short (a .bytes .now) _ (a .name .now) (a .len) (p .0) (p .1) (p .2) (rw (c .enum-told .given .1) at (c .before .before .label-step .ensures)))
+    absurd (swap-short (a .bytes .now) _ (a .name .now) (a .len) (p .0) (p .1) (p .2) (rw (c .enum-told .given .1) at (c .before .before .label-step .ensures .0)))
 
 returns-2 : tie.Need-returns-2
 returns-2 c =
     let a = c .before .before .before .before .before .args in
     let p = c .before .before .before .before .before .pre in
-    absurd (swap-long (a .bytes .now) _ (a .name .now) (a .len) (p .0) (p .1) (p .2) (rw (c .enum-told2 .given .1) at (c .before .before .label-step .ensures)))
+    absurd (swap-long (a .bytes .now) _ (a .name .now) (a .len) (p .0) (p .1) (p .2) (rw (c .enum-told2 .given .1) at (c .before .before .label-step .ensures .0)))
 
 returns-3 : tie.Need-returns-3
 returns-3 c =
     let a = c .before .before .before .before .before .before .args in
     let p = c .before .before .before .before .before .before .pre in
-    swap-fits (a .bytes .now) _ (a .name .now) (a .len) (p .0) (p .1) (p .2) _ (rw (c .before .after .given .1) at (c .before .before .before .label-step .ensures))
+    swap-fits (a .bytes .now) _ (a .name .now) (a .len) (p .0) (p .1) (p .2) _ _ (rw (c .before .after .given .1) at (c .before .before .before .label-step .ensures .0))
 
 pub swap-label-spec : {M : Type 1} → statement M
 swap-label-spec =

@@ -5,9 +5,6 @@ use borrow.Author.Needs.{needs}
 use Rattle.step.proofs.record_step.Statement.{statement}
 use Rattle.step.proofs.record_step.Tie as tie
 
-behind-requires : tie.Need-behind-requires
-behind-requires c κs = search needs
-
 record-size-requires : tie.Need-record-size-requires
 record-size-requires c κs = search needs
 
@@ -25,13 +22,12 @@ same-length c = search needs
 returns-2 : tie.Need-returns-2
 returns-2 c =
     let e = c .before .before .before .before .before .before .before .record-size .ensures .0 in
-    record { small = λ l. absurd (omega (arith, l, e, c .before .before .before .before .before .before .if1 .left)); fits = λ l. (rw e, c .before .before .before .before .before .before .before .before .behind .ensures, c .before .before .lay-record .ensures) }
+    record { small = λ l. absurd (omega (arith, l, e, c .before .before .before .before .before .before .if1 .left)); fits = λ l. (rw e, refl, c .before .before .lay-record .ensures) }
 
 pub record-step-spec : {M : Type 1} → statement M
 record-step-spec =
     tie.close
     (tie.spec
-    behind-requires
     record-size-requires
     returns
     lay-record-requires

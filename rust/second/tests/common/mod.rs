@@ -74,6 +74,15 @@ pub enum Rec {
 }
 
 impl Rec {
+    pub fn label(&self) -> Option<&[u8]> {
+        match self {
+            Rec::Leg { label, .. } | Rec::Station { label, .. } | Rec::Section { label, .. } => {
+                Some(label)
+            }
+            Rec::Error(_) => None,
+        }
+    }
+
     /// The record in a version 2 sheet, with its length bytes.
     pub fn bytes(&self) -> Vec<u8> {
         match self {
@@ -207,29 +216,33 @@ pub fn write_all(sheet: &[u8]) -> Result<Vec<u8>, (u8, usize)> {
     Ok(file)
 }
 
-/// Steps to the end, watching every step: the records after the header, their
-/// count and the version.
+/// The records after the header as stepping gives them, joined, their count and
+/// the version.
 pub fn stepped(file: &[u8]) -> Result<(Vec<u8>, usize, u8), (u8, usize)> {
+    let (steps, version) = steps(file)?;
+    let all = steps.iter().flat_map(|step| step.record.clone()).collect();
+    Ok((all, steps.len(), version))
+}
+
+/// A record as a step gives it.
+pub struct Stepped {
+    pub record: Vec<u8>,
+    pub kept: usize,
+}
+
+/// Steps to the end, watching every step: the records and the version.
+pub fn steps(file: &[u8]) -> Result<(Vec<Stepped>, u8), (u8, usize)> {
     let (mut stepper, opened) = open(file);
-    let (mut all, mut records) = (Vec::new(), 0);
+    let (mut all, mut name) = (Vec::new(), Vec::new());
     loop {
         let mut buffer = vec![FILLER; 4140];
-        let small = stepper.step(&mut []);
-        let step = match small {
-            Step::Refused { number: 11, place } => {
-                assert_eq!(stepper.step(&mut buffer[..place - 1]), small);
-                assert!(buffer.iter().all(|&byte| byte == FILLER));
-                let step = stepper.step(&mut buffer);
-                assert_eq!(step, Step::Record { bytes: place });
-                step
-            }
-            step => step,
-        };
+        let step = step_again(&mut stepper, &mut buffer);
         match step {
-            Step::Record { bytes } => {
+            Step::Record { bytes, kept } => {
                 assert!(buffer[bytes..].iter().all(|&byte| byte == FILLER));
-                all.extend_from_slice(&buffer[..bytes]);
-                records += 1;
+                buffer.truncate(bytes);
+                watch_kept(&mut name, &buffer, kept);
+                all.push(Stepped { record: buffer, kept });
             }
             Step::Nothing => {}
             Step::End | Step::Refused { .. } => {
@@ -237,11 +250,56 @@ pub fn stepped(file: &[u8]) -> Result<(Vec<u8>, usize, u8), (u8, usize)> {
                 assert_eq!(stepper.step(&mut []), step);
                 assert!(buffer.iter().all(|&byte| byte == FILLER));
                 return match (step, opened) {
-                    (Step::End, Opened::At { version, .. }) => Ok((all, records, version)),
+                    (Step::End, Opened::At { version, .. }) => Ok((all, version)),
                     (Step::Refused { number, place }, _) => Err((number, place)),
                     _ => panic!("an end after a refused opening"),
                 };
             }
+        }
+    }
+}
+
+/// One step; a record is tried twice with too little room before.
+fn step_again(stepper: &mut Stepper, buffer: &mut [u8]) -> Step {
+    let small = stepper.step(&mut []);
+    let Step::Refused { number: 11, place } = small else { return small };
+    assert_eq!(stepper.step(&mut buffer[..place - 1]), small);
+    assert!(buffer.iter().all(|&byte| byte == FILLER));
+    let step = stepper.step(buffer);
+    assert!(matches!(step, Step::Record { bytes, .. } if bytes == place), "{step:?}");
+    step
+}
+
+/// The number kept is at most the length of both names, which agree on that
+/// many bytes. `name` is the name before, and becomes that of the record.
+fn watch_kept(name: &mut Vec<u8>, record: &[u8], kept: usize) {
+    let Some(label) = label_of(record) else { return assert_eq!(kept, 0) };
+    assert!(kept <= name.len() && kept <= label.len(), "{kept} {name:?} {label:?}");
+    assert_eq!(name[..kept], label[..kept]);
+    *name = label.to_vec();
+}
+
+/// The label of a record with its length bytes; an error has none.
+fn label_of(record: &[u8]) -> Option<&[u8]> {
+    match record[2] {
+        1 => Some(&record[34..]),
+        2 => Some(&record[16..]),
+        3 => Some(&record[25..]),
+        _ => None,
+    }
+}
+
+/// The number kept of each record of a good file. No step is tried twice.
+pub fn kept_of(file: &[u8]) -> Vec<usize> {
+    let (mut stepper, _) = open(file);
+    let mut numbers = Vec::new();
+    let mut buffer = [FILLER; 4130];
+    loop {
+        match stepper.step(&mut buffer) {
+            Step::Record { kept, .. } => numbers.push(kept),
+            Step::Nothing => {}
+            Step::End => return numbers,
+            Step::Refused { number, place } => panic!("refused {number} at {place}"),
         }
     }
 }
