@@ -10,9 +10,10 @@ use native.Mathlib.Omega.{arith}
 use borrow.Rule.Slice.PartAt.{part-to-end}
 use borrow.Author.Tests.{eq-eqb, ne-eqb, lt-ltb, le-ltb}
 use lib.ListN.{length, take, drop, getD, set, length-append, length-take, length-drop, take-append-drop}
-use lib.Seq.{drop-drop, drop-append-le, take-take, take-at, drop-at, drop-length, drop-cons, take-suc, append-snoc, set-at, length-take-le}
-use Rattle.format.specs.Bytes.{pick, le32, over, same}
+use lib.Seq.{drop-drop, drop-append-le, drop-append-add, take-take, take-add, take-append-le, take-length, take-at, drop-at, drop-length, drop-cons, take-suc, append-snoc, set-at, length-take-le}
+use Rattle.format.specs.Bytes.{pick, over, same}
 use Rattle.format.proofs.Basics.{pick-case, same-true}
+use Rattle.format.proofs.WritingLaws.{common-take}
 use Rattle.format.specs.Header.{lineEnd}
 use Rattle.format.specs.Codes.{common}
 use Rattle.wire.specs.Laid.{laid, laidIf}
@@ -34,6 +35,11 @@ copy-step s d i hs hd =
 pub length-over : (s b : List ℕ) → length s ≤ length b → length (over s b) ≡ length b
 unfolding over
 length-over s b h = simp (length-append, length-drop) (omega arith)
+
+-- nothing laid over
+pub over-none : (s d : List ℕ) → d ≡ over (take 0 s) d
+unfolding over
+over-none s d = refl
 
 -- ---- `laid`
 
@@ -86,6 +92,72 @@ laid-next d s t k h =
     (sym (drop-drop (length t) (k + length s) (laid d k s)) ∙ ap (drop (length t)) (drop-laid d s k h) ∙ drop-drop (length t) (k + length s) d)
     ∙ simp (append-assoc, length-append, add-assoc)
 
+-- ---- parts that overlap: bytes of s from k on, laid over a front of s that reaches to w
+
+pub lap : (s d : List ℕ) (w k m : ℕ) → k ≤ w → w ≤ k + m → k + m ≤ length s → k + m ≤ length d → laid (over (take w s) d) k (take m (drop k s)) ≡ over (take (k + m) s) d
+unfolding laid over
+lap s d w k m h1 h2 h3 h4 =
+    let W = take w s in
+    let lw : length W ≡ w = length-take-le w s (omega arith) in
+    let lm : length (take m (drop k s)) ≡ m = length-take-le m (drop k s) (simp length-drop (omega arith)) in
+    let ln : length (take (k + m) s) ≡ k + m = length-take-le (k + m) s h3 in
+    let e1 : take k (W ++ drop w d) ≡ take k s = take-append-le k W (drop w d) (omega arith) ∙ take-take k w s h1 in
+    let z : k + m ≡ length W + (k + m - w) = omega arith in
+    let y : w + (k + m - w) ≡ k + m = omega arith in
+    let e2 : drop (k + m) (W ++ drop w d) ≡ drop (k + m) d =
+    ap (λ (n : ℕ). drop n (W ++ drop w d)) z ∙ drop-append-add W (drop w d) (k + m - w) ∙ drop-drop (k + m - w) w d ∙ ap (λ (n : ℕ). drop n d) y in
+    rw (lw, lm, e1, e2, ln, take-add k m s) (simp append-assoc)
+
+-- the same, as two copies one after the other leave it
+pub laps : (s d Y Z : List ℕ) (w k m n : ℕ) → Y ≡ over (take w s) d → Z ≡ over (take m (take (length s - k) (drop k s))) (take (length Y - k) (drop k Y))
+    → k ≤ w → w ≤ n → k + m ≡ n → n ≤ length s → n ≤ length d → take k Y ++ (Z ++ drop (length Y - k) (drop k Y)) ≡ over (take n s) d
+laps s d Y Z w k m n eY eZ h1 h2 e h3 h4 =
+    let lw : length (take w s) ≡ w = length-take-le w s (omega arith) in
+    let ly : length Y ≡ length d = ap length eY ∙ length-over (take w s) d (omega arith) in
+    rw (eZ, part-to-end s k)
+    (laid-part Y (take m (drop k s)) k (omega arith) (length Y) refl
+    ∙ ap (λ (y : List ℕ). laid y k (take m (drop k s))) eY
+    ∙ lap s d w k m h1 (omega arith) (omega arith) (omega arith)
+    ∙ ap (λ (j : ℕ). over (take j s) d) e)
+
+pub laps-all : (s d Y Z : List ℕ) (w k m : ℕ) → Y ≡ over (take w s) d → Z ≡ over (take m (take (length s - k) (drop k s))) (take (length Y - k) (drop k Y))
+    → k ≤ w → w ≤ length s → k + m ≡ length s → length s ≤ length d → take k Y ++ (Z ++ drop (length Y - k) (drop k Y)) ≡ over s d
+laps-all s d Y Z w k m eY eZ h1 h2 e h4 =
+    laps s d Y Z w k m (length s) eY eZ h1 h2 e (omega arith) h4 ∙ rw take-length
+
+-- one store after another copies a list of as many bytes
+pub stored-0 : (s d : List ℕ) → length s ≡ 0 → length s ≤ length d → d ≡ over s d
+unfolding over
+stored-0 [] d e h = refl
+stored-0 (x0 ∷ s) d e h = absurd (omega arith)
+
+pub stored-1 : (s d : List ℕ) → length s ≡ 1 → length s ≤ length d → set d 0 (getD s 0 0) ≡ over s d
+unfolding over
+stored-1 [] d e h = absurd (omega arith)
+stored-1 (x0 ∷ []) [] e h = absurd (omega arith)
+stored-1 (x0 ∷ []) (y0 ∷ d) e h = refl
+stored-1 (x0 ∷ x1 ∷ s) d e h = absurd (omega arith)
+
+pub stored-2 : (s d : List ℕ) → length s ≡ 2 → length s ≤ length d → set (set d 0 (getD s 0 0)) 1 (getD s 1 0) ≡ over s d
+unfolding over
+stored-2 [] d e h = absurd (omega arith)
+stored-2 (x0 ∷ []) d e h = absurd (omega arith)
+stored-2 (x0 ∷ x1 ∷ []) [] e h = absurd (omega arith)
+stored-2 (x0 ∷ x1 ∷ []) (y0 ∷ []) e h = absurd (omega arith)
+stored-2 (x0 ∷ x1 ∷ []) (y0 ∷ y1 ∷ d) e h = refl
+stored-2 (x0 ∷ x1 ∷ x2 ∷ s) d e h = absurd (omega arith)
+
+pub stored-3 : (s d : List ℕ) → length s ≡ 3 → length s ≤ length d → set (set (set d 0 (getD s 0 0)) 1 (getD s 1 0)) 2 (getD s 2 0) ≡ over s d
+unfolding over
+stored-3 [] d e h = absurd (omega arith)
+stored-3 (x0 ∷ []) d e h = absurd (omega arith)
+stored-3 (x0 ∷ x1 ∷ []) d e h = absurd (omega arith)
+stored-3 (x0 ∷ x1 ∷ x2 ∷ []) [] e h = absurd (omega arith)
+stored-3 (x0 ∷ x1 ∷ x2 ∷ []) (y0 ∷ []) e h = absurd (omega arith)
+stored-3 (x0 ∷ x1 ∷ x2 ∷ []) (y0 ∷ y1 ∷ []) e h = absurd (omega arith)
+stored-3 (x0 ∷ x1 ∷ x2 ∷ []) (y0 ∷ y1 ∷ y2 ∷ d) e h = refl
+stored-3 (x0 ∷ x1 ∷ x2 ∷ x3 ∷ s) d e h = absurd (omega arith)
+
 -- ---- `laidIf`
 
 module _ (d s : List ℕ) (k : ℕ) where
@@ -114,28 +186,6 @@ same-past s t i hs ht e = rw (add-one i, drop-cons s i 0, drop-cons t i 0, eq-eq
 pub same-other : (s t : List ℕ) (i : ℕ) → (getD s i 0 ≡ getD t i 0 → ⊥) → same s t ≡ false
 same-other s t i h = same-false s t (λ e. h (ap (λ (l : List ℕ). getD l i 0) e))
 
--- ---- four bytes
-
-take-four : (s : List ℕ) → 4 ≤ length s → take 4 s ≡ getD s 0 0 ∷ getD s 1 0 ∷ getD s 2 0 ∷ getD s 3 0 ∷ []
-take-four [] h = absurd (omega arith)
-take-four (a ∷ []) h = absurd (omega arith)
-take-four (a ∷ b ∷ []) h = absurd (omega arith)
-take-four (a ∷ b ∷ c ∷ []) h = absurd (omega arith)
-take-four (a ∷ b ∷ c ∷ d ∷ s) h = refl
-
-module _ (s t : List ℕ) (hs : 4 ≤ length s) (ht : 4 ≤ length t) where
-  pub four-same : getD s 0 0 ≡ getD t 0 0 → getD s 1 0 ≡ getD t 1 0 → getD s 2 0 ≡ getD t 2 0 → getD s 3 0 ≡ getD t 3 0 → true ≡ same (take 4 s) (take 4 t)
-  unfolding same pick
-  four-same a b c d =
-      rw (take-four s hs, take-four t ht, eq-eqb _ _ a, eq-eqb _ _ b, eq-eqb _ _ c, eq-eqb _ _ d)
-
-  pub four-other : (le32 s ≡ le32 t → ⊥) → false ≡ same (take 4 s) (take 4 t)
-  unfolding le32
-  four-other h = sym (same-false (take 4 s) (take 4 t) (λ e. h (go (sym (take-four s hs) ∙ e ∙ take-four t ht))))
-    where
-      go : getD s 0 0 ∷ getD s 1 0 ∷ getD s 2 0 ∷ getD s 3 0 ∷ [] ≡ getD t 0 0 ∷ getD t 1 0 ∷ getD t 2 0 ∷ getD t 3 0 ∷ [] → le32 s ≡ le32 t
-      go e = ap (λ (l : List ℕ). getD l 0 0 + getD l 1 0 * 256 + getD l 2 0 * 65536 + getD l 3 0 * 16777216) e
-
 -- ---- `common`
 
 pub common-past : (s t : List ℕ) (i : ℕ) → i < length s → i < length t → getD s i 0 ≡ getD t i 0 → common (drop i s) (drop i t) ≡ 1 + common (drop (i + 1) s) (drop (i + 1) t)
@@ -148,14 +198,18 @@ unfolding common pick
 common-front [] s t = omega arith
 common-front (x ∷ f) s t = rw (eq-eqb x x refl) (let e = common-front f s t in omega arith)
 
-pub common-fours : (s t : List ℕ) (i : ℕ) → i + 4 ≤ length s → i + 4 ≤ length t → same (take 4 (drop i s)) (take 4 (drop i t)) ≡ true
-    → common (drop i s) (drop i t) ≡ 4 + common (drop (i + 4) s) (drop (i + 4) t)
-common-fours s t i hs ht e =
-    let q : take 4 (drop i s) ≡ take 4 (drop i t) = same-true _ _ e in
-    let n : length (take 4 (drop i t)) ≡ 4 = length-take-le 4 (drop i t) (simp length-drop (omega arith)) in
-    let l : take 4 (drop i s) ++ drop 4 (drop i s) ≡ drop i s = take-append-drop 4 (drop i s) in
-    let r : take 4 (drop i t) ++ drop 4 (drop i t) ≡ drop i t = take-append-drop 4 (drop i t) in
-    sym (ap₂ common l r) ∙ rw (q, common-front, n, drop-drop 4 i s, drop-drop 4 i t)
+-- past k bytes of eight
+pub common-eights : (s t : List ℕ) (i k : ℕ) → i + 8 ≤ length s → i + 8 ≤ length t → k ≤ 8 → k ≤ common (take 8 (drop i s)) (take 8 (drop i t))
+    → common (drop i s) (drop i t) ≡ k + common (drop (i + k) s) (drop (i + k) t)
+common-eights s t i k hs ht h8 h =
+    let c : ℕ = common (take 8 (drop i s)) (take 8 (drop i t)) in
+    let e : take k (take 8 (drop i s)) ≡ take k (take 8 (drop i t)) =
+    sym (take-take k c (take 8 (drop i s)) h) ∙ ap (take k) (common-take (take 8 (drop i s)) (take 8 (drop i t))) ∙ take-take k c (take 8 (drop i t)) h in
+    let q : take k (drop i s) ≡ take k (drop i t) = sym (take-take k 8 (drop i s) h8) ∙ e ∙ take-take k 8 (drop i t) h8 in
+    let n : length (take k (drop i t)) ≡ k = length-take-le k (drop i t) (simp length-drop (omega arith)) in
+    let l : take k (drop i s) ++ drop k (drop i s) ≡ drop i s = take-append-drop k (drop i s) in
+    let r : take k (drop i t) ++ drop k (drop i t) ≡ drop i t = take-append-drop k (drop i t) in
+    sym (ap₂ common l r) ∙ rw (q, common-front, n, drop-drop k i s, drop-drop k i t)
 
 pub common-here : (s t : List ℕ) (i : ℕ) → i < length s → i < length t → (getD s i 0 ≡ getD t i 0 → ⊥) → common (drop i s) (drop i t) ≡ 0
 unfolding common pick

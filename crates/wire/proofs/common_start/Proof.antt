@@ -18,8 +18,8 @@ abbrev μ-loop : tie.MeasureT-loop
 least-requires : tie.Need-least-requires Inv-loop μ-loop
 least-requires c κs = search needs
 
-same-fours-requires : tie.Need-same-fours-requires Inv-loop μ-loop
-same-fours-requires c κs =
+same-eights-requires : tie.Need-same-eights-requires Inv-loop μ-loop
+same-eights-requires c κs =
     (omega (arith, c .least .ensures), omega (arith, c .least .ensures))
 
 loop-holds : tie.Need-loop-holds Inv-loop μ-loop
@@ -66,7 +66,7 @@ common-start-spec =
     Inv-loop
     μ-loop
     least-requires
-    same-fours-requires
+    same-eights-requires
     loop-holds
     shared-slice-read-if1
     shared-slice-read-if1-2
