@@ -76,7 +76,7 @@ fn get_short(s: &[u8]) -> u32
 }
 
 // x y z
-fn get_point(s: &[u8]) -> Point
+pub fn get_point(s: &[u8]) -> Point
     requires { ⌜ 12 ≤ length (now s) ⌝ }
     ensures { λ r. ⌜ r ≡ pointOf le32 (now (s .entry)) ⌝ }
 {
@@ -87,7 +87,7 @@ fn get_point(s: &[u8]) -> Point
 }
 
 // L R U D as i16
-fn short_dimensions(s: &[u8]) -> Dimensions
+pub fn short_dimensions(s: &[u8]) -> Dimensions
     requires { ⌜ 8 ≤ length (now s) ⌝ }
     ensures { λ r. ⌜ r ≡ dimensionsOf 2 (λ u. widened (le16 u)) (now (s .entry)) ⌝ }
 {
@@ -104,7 +104,7 @@ fn short_dimensions(s: &[u8]) -> Dimensions
 }
 
 // L R U D as i32
-fn long_dimensions(s: &[u8]) -> Dimensions
+pub fn long_dimensions(s: &[u8]) -> Dimensions
     requires { ⌜ 16 ≤ length (now s) ⌝ }
     ensures { λ r. ⌜ r ≡ dimensionsOf 4 le32 (now (s .entry)) ⌝ }
 {

@@ -3,19 +3,24 @@
 use decode::Body;
 use decode::Item;
 use decode::decode;
+use decode::get_point;
+use decode::long_dimensions;
+use decode::short_dimensions;
 use format::Cut;
 use format::Dated;
 use format::Fields;
 use format::LABEL_LIMIT;
+use format::Leg;
 use format::Point;
 use format::Position;
+use format::Section;
 use format::Setting;
 use format::Station;
 use label::Relabelled;
 use label::label_step;
 ghost use mathlib.Core.Path.{_≡_};
 ghost use mathlib.Core.List.{[]};
-ghost use Prim.Native.Nat.{ℕ, _+_, _≤_};
+ghost use Prim.Native.Nat.{ℕ, _+_, _≤_, _<_};
 ghost use lib.ListN.{length, take, drop};
 ghost use Rattle.format.specs.Items.{Style as styleItem, Date as dateItem, itemOf};
 ghost use Rattle.format.specs.Label.{keptOf, labelStep, labelLimit};
@@ -23,6 +28,7 @@ ghost use Rattle.format.specs.Outline.{dropLeaves};
 ghost use Rattle.format.specs.State.{dateOf, apply, onLabel};
 ghost use Rattle.format.specs.Fields.{stateOf};
 ghost use Rattle.format.specs.Reading.{next};
+ghost use Rattle.short.specs.Brief.{legAt, stationAt, sectionAt};
 ghost use Rattle.item.specs.Seen.{Does, Tells, TellsKept, TellsStayed, madeOf};
 
 // What an item comes to: a refusal; the end; its size and the label's new length,
@@ -72,7 +78,7 @@ fn with_date(setting: Setting, date: Dated) -> Setting
     }
 }
 
-fn with_position(setting: Setting, place: Point) -> Setting
+pub fn with_position(setting: Setting, place: Point) -> Setting
     ensures { λ r. ⌜ r ≡ record { style = setting .style; date = setting .date; position = Position.Stands place } ⌝ }
 {
     let style = setting.style;
@@ -164,7 +170,7 @@ fn leg_step(size: usize, len: usize, setting: Setting, flags: u8, place: Point, 
 }
 
 // What an item comes to once its label, of len bytes, is in the buffer.
-fn made_step(size: usize, len: usize, setting: Setting, body: Body, kept: usize) -> Step
+pub fn made_step(size: usize, len: usize, setting: Setting, body: Body, kept: usize) -> Step
     ensures { λ r. ⌜ Does r (λ b. madeOf body (stateOf setting []) size (take len b)) len × TellsKept r kept ⌝ }
 {
     let in_force = setting.date;
@@ -271,4 +277,50 @@ pub fn take_item(
             body,
         } => relabel_step(s, bytes, len, setting, size, cut, from, count, body),
     }
+}
+
+// ---- the commonest items, as the crate short finds them: what stands behind their label
+
+// The leg of a LINE that adds so many bytes to the label, from a place.
+pub fn leg_at(s: &[u8], add: usize, flags: u8, setting: Setting, from: Point) -> Leg
+    requires { ⌜ (add < 16) × (14 + add ≤ length (now s)) ⌝ }
+    ensures { λ r. ⌜ r ≡ legAt (now (s .entry)) add flags setting from ⌝ }
+{
+    let behind = 2 + add;
+    let to = get_point(&s[behind..]);
+    let style = setting.style;
+    let date = setting.date;
+    Leg {
+        flags,
+        style,
+        date,
+        from,
+        to,
+    }
+}
+
+// The station of a LABEL that adds so many bytes to the label.
+pub fn station_at(s: &[u8], add: usize, flags: u8) -> Station
+    requires { ⌜ (add < 16) × (14 + add ≤ length (now s)) ⌝ }
+    ensures { λ r. ⌜ r ≡ stationAt (now (s .entry)) add flags ⌝ }
+{
+    let behind = 2 + add;
+    let place = get_point(&s[behind..]);
+    Station { flags, place }
+}
+
+// The cross-section of an XSECT that adds so many bytes to the label.
+pub fn section_at(s: &[u8], add: usize, code: u8, setting: Setting) -> Section
+    requires { ⌜ (add < 16) × (18 + add ≤ length (now s)) ⌝ }
+    ensures { λ r. ⌜ r ≡ sectionAt (now (s .entry)) add code setting ⌝ }
+{
+    let behind = 2 + add;
+    let date = setting.date;
+    let last = code % 2;
+    if code < 0x32 {
+        let size = short_dimensions(&s[behind..]);
+        return Section { last, date, size };
+    }
+    let size = long_dimensions(&s[behind..]);
+    Section { last, date, size }
 }

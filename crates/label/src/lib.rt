@@ -9,6 +9,7 @@ ghost use lib.ListN.{length, take};
 ghost use lib.Seq.{paste};
 ghost use Rattle.format.specs.Label.{dotFrom, keptToDot, keptOf, labelStep, labelLimit};
 ghost use Rattle.label.specs.Seen.{dotSeen, Inside, Within, keptAfter, Tells, TellsKept};
+ghost use Rattle.wire.specs.Laid.{laid};
 
 pub struct Label {
     pub bytes: [u8; LABEL_LIMIT],
@@ -90,7 +91,7 @@ fn kept_after(len: usize, off: usize, least: usize) -> Kept
 }
 
 // What stays of the label of len bytes.
-fn kept_of(bytes: &[u8; LABEL_LIMIT], len: usize, cut: Cut) -> Kept
+pub fn kept_of(bytes: &[u8; LABEL_LIMIT], len: usize, cut: Cut) -> Kept
     requires { ⌜ (len ≤ labelLimit) × (length (now bytes) ≡ labelLimit) ⌝ }
     ensures { λ r. ⌜ (r ≡ keptOf (take len (now (bytes .entry))) cut) × Within len r ⌝ }
 {
@@ -112,6 +113,23 @@ fn append(bytes: &mut [u8; LABEL_LIMIT], keep: usize, added: &[u8])
         bytes[keep + i] = added[i];
         i += 1;
     }
+}
+
+// Lays sixteen bytes of s over the room's from keep on.
+fn extend_in(room: &mut [u8], keep: usize, s: &[u8])
+    requires { ⌜ (keep + 16 ≤ length (now room)) × (16 ≤ length (now s)) ⌝ }
+    ensures { λ _. ⌜ now (room .exit) ≡ laid (now (room .entry)) keep (take 16 (now (s .entry))) ⌝ }
+{
+    wire::copy_sixteen(s, &mut room[keep..]);
+}
+
+// The same over the label's bytes, of which keep stay: what stands behind a label is
+// free, so that a label which gains at most sixteen bytes is extended without a test.
+pub fn extend(bytes: &mut [u8; LABEL_LIMIT], keep: usize, s: &[u8])
+    requires { ⌜ (keep + 16 ≤ labelLimit) × (length (now bytes) ≡ labelLimit) × (16 ≤ length (now s)) ⌝ }
+    ensures { λ _. ⌜ now (bytes .exit) ≡ laid (now (bytes .entry)) keep (take 16 (now (s .entry))) ⌝ }
+{
+    extend_in(&mut bytes[..], keep, s);
 }
 
 // The label step of every version: what stays of the label of len bytes, then the

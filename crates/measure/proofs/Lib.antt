@@ -1,3 +1,4 @@
 pub mod Items
 pub mod Sums
 pub mod Turn
+pub mod Counting

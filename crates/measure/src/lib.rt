@@ -10,6 +10,9 @@ use length::part_of;
 use length::whole_part;
 use number::get_le16;
 use number::wide;
+use short::Short;
+use short::new_item;
+use short::sides;
 ghost use mathlib.Core.Path.{_≡_};
 ghost use mathlib.Core.Bool.{Bool};
 ghost use Prim.Native.Nat.{ℕ, _≤_};
@@ -19,6 +22,7 @@ ghost use Rattle.format.specs.State.{apply, nextOf};
 ghost use Rattle.format.specs.Reading.{next, itemsOf};
 ghost use Rattle.kind.specs.Kinds.{labelledBy};
 ghost use Rattle.measure.specs.Measures.{Keeps, Comes, ComesIn, Small, Tailed};
+ghost use Rattle.measure.specs.Counting.{Counts};
 ghost use Rattle.measure.specs.Totals.{passOf};
 ghost use Rattle.format.specs.Header.{fileLimit};
 ghost use Rattle.format.specs.Label.{labelLimit};
@@ -196,8 +200,8 @@ fn labelled(s: &[u8], bare: bool, tail: Tail, len: usize, placed: bool) -> Measu
 
 // ---- the items of a file
 
-// What the item at the front of s comes to.
-fn measure_item(s: &[u8], len: usize, style: u8, placed: bool) -> Measured
+// What any item at the front of s comes to.
+fn any_item(s: &[u8], len: usize, style: u8, placed: bool) -> Measured
     requires { ⌜ len ≤ labelLimit ⌝ }
     ensures { λ r. ⌜ Small r × ComesIn r len style placed (λ st. next 8 (now (s .entry)) st) ⌝ }
 {
@@ -219,6 +223,82 @@ fn measure_item(s: &[u8], len: usize, style: u8, placed: bool) -> Measured
         Kind::TwoSeconds => Measured::Bad { number: 4 },
         Kind::Error => error(s, len),
         Kind::Labelled { bare, tail } => labelled(s, bare, tail, len, placed),
+    }
+}
+
+// The size, the label's new length and the record's bytes, where the item is one of the
+// commonest; a short LINE needs the position set.
+enum Counted {
+    Other,
+    Record {
+        size: usize,
+        len: usize,
+        bytes: usize,
+    },
+}
+
+fn count_short(s: &[u8], len: usize, placed: bool) -> Counted
+    ensures { λ r. ⌜ Counts r (now (s .entry)) len placed ⌝ }
+{
+    let it = new_item(s, len);
+    match it {
+        Short::Other => Counted::Other,
+        Short::Line {
+            keep,
+            add,
+            flags: _,
+        } => {
+            if !placed {
+                return Counted::Other;
+            }
+            let m = keep + add;
+            Counted::Record {
+                size: 14 + add,
+                len: m,
+                bytes: 34 + m,
+            }
+        }
+        Short::Place {
+            keep,
+            add,
+            flags: _,
+        } => {
+            let m = keep + add;
+            Counted::Record {
+                size: 14 + add,
+                len: m,
+                bytes: 16 + m,
+            }
+        }
+        Short::Section { keep, add, code } => {
+            let m = keep + add;
+            Counted::Record {
+                size: 2 + add + sides(code),
+                len: m,
+                bytes: 25 + m,
+            }
+        }
+        Short::Trim { len: _ } => Counted::Other,
+    }
+}
+
+// What the item at the front of s comes to: the commonest are tried first.
+fn measure_item(s: &[u8], len: usize, style: u8, placed: bool) -> Measured
+    requires { ⌜ len ≤ labelLimit ⌝ }
+    ensures { λ r. ⌜ Small r × ComesIn r len style placed (λ st. next 8 (now (s .entry)) st) ⌝ }
+{
+    let short = count_short(s, len, placed);
+    match short {
+        Counted::Other => any_item(s, len, style, placed),
+        Counted::Record {
+            size,
+            len: m,
+            bytes,
+        } => Measured::Made {
+            size,
+            len: m,
+            bytes,
+        },
     }
 }
 

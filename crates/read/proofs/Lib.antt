@@ -1,2 +1,3 @@
 pub mod Room
 pub mod Turn
+pub mod Quickly

@@ -10,16 +10,34 @@ ghost use Rattle.format.specs.Fields.{stateOf};
 ghost use Rattle.item.specs.Seen.{Tells};
 ghost use Rattle.measure.specs.Totals.{passOf};
 ghost use Rattle.read.specs.Pass.{laidBy, lay, ReadsTo};
+ghost use Rattle.read.specs.Quickly.{Joined, Quickly};
+ghost use Rattle.format.specs.State.{leg, station, section};
+ghost use Rattle.format.specs.Sheet.{sheetVersion, layout};
+ghost use Rattle.wire.specs.Laid.{laidIf};
+ghost use Rattle.short.specs.Brief.{nameAt};
+ghost use Rattle.item.specs.Commonest.{extended};
 ghost use Rattle.header.specs.Head.{Opens};
 ghost use Rattle.format.specs.Header.{fileLimit};
 ghost use Rattle.format.specs.Label.{labelLimit};
 ghost use Rattle.format.specs.Sheet.{frontLimit};
 use format::Answer;
 use format::LABEL_LIMIT;
+use format::Leg;
+use format::Point;
+use format::Position;
+use format::Section;
 use format::Setting;
+use format::Station;
 use header::Head;
 use item::Step;
+use item::leg_at;
+use item::section_at;
+use item::station_at;
+use item::with_position;
 use measure::Passed;
+use short::Short;
+use short::short_item;
+use short::sides;
 
 // The item at the front of s, in the state of a setting and a label; its record, where
 // it makes one, is laid into the sheet from `out` on.
@@ -51,6 +69,145 @@ fn lay_item(
     it
 }
 
+// What one of the commonest items comes to: another item; a leg, with the item's size, the
+// label's new length and where it leads; a station or a cross-section, with the record's
+// bytes; or the label's length after a trim.
+enum Quick {
+    Other,
+    Leg {
+        size: usize,
+        len: usize,
+        to: Point,
+    },
+    Made {
+        size: usize,
+        len: usize,
+        bytes: usize,
+    },
+    Trim {
+        len: usize,
+    },
+}
+
+// How many bytes of the label an item keeps, and how many it adds.
+struct Joint {
+    keep: usize,
+    add: usize,
+}
+
+// Lays the leg of a short LINE at the front of s into the sheet from `out` on, where it
+// fits, and extends the label.
+fn lay_leg(
+    s: &[u8],
+    bytes: &mut [u8; LABEL_LIMIT],
+    joint: Joint,
+    fields: Leg,
+    sheet: &mut [u8],
+    out: usize,
+)
+    requires { ⌜ Joined joint (now s) (now bytes) out ⌝ }
+    ensures label { λ _. ⌜ now (bytes .exit) ≡ extended (now (bytes .entry)) (joint .keep) (now (s .entry)) ⌝ }
+    ensures sheet { λ _. ⌜ now (sheet .exit) ≡ laidIf (now (sheet .entry)) out (layout sheetVersion (leg fields (nameAt (now (s .entry)) (joint .keep) (joint .add) (now (bytes .entry))))) ⌝ }
+{
+    let keep = joint.keep;
+    let behind = 2 + joint.add;
+    record::lay_short_leg(sheet, out, fields, bytes, keep, &s[2..behind]);
+    label::extend(bytes, keep, &s[2..]);
+}
+
+// The same of a station and a short LABEL.
+fn lay_station(
+    s: &[u8],
+    bytes: &mut [u8; LABEL_LIMIT],
+    joint: Joint,
+    fields: Station,
+    sheet: &mut [u8],
+    out: usize,
+)
+    requires { ⌜ Joined joint (now s) (now bytes) out ⌝ }
+    ensures label { λ _. ⌜ now (bytes .exit) ≡ extended (now (bytes .entry)) (joint .keep) (now (s .entry)) ⌝ }
+    ensures sheet { λ _. ⌜ now (sheet .exit) ≡ laidIf (now (sheet .entry)) out (layout sheetVersion (station fields (nameAt (now (s .entry)) (joint .keep) (joint .add) (now (bytes .entry))))) ⌝ }
+{
+    let keep = joint.keep;
+    let behind = 2 + joint.add;
+    record::lay_short_station(sheet, out, fields, bytes, keep, &s[2..behind]);
+    label::extend(bytes, keep, &s[2..]);
+}
+
+// The same of a cross-section and a short XSECT.
+fn lay_section(
+    s: &[u8],
+    bytes: &mut [u8; LABEL_LIMIT],
+    joint: Joint,
+    fields: Section,
+    sheet: &mut [u8],
+    out: usize,
+)
+    requires { ⌜ Joined joint (now s) (now bytes) out ⌝ }
+    ensures label { λ _. ⌜ now (bytes .exit) ≡ extended (now (bytes .entry)) (joint .keep) (now (s .entry)) ⌝ }
+    ensures sheet { λ _. ⌜ now (sheet .exit) ≡ laidIf (now (sheet .entry)) out (layout sheetVersion (section fields (nameAt (now (s .entry)) (joint .keep) (joint .add) (now (bytes .entry))))) ⌝ }
+{
+    let keep = joint.keep;
+    let behind = 2 + joint.add;
+    record::lay_short_section(sheet, out, fields, bytes, keep, &s[2..behind]);
+    label::extend(bytes, keep, &s[2..]);
+}
+
+// The item at the front of s, in the state of a setting and a label, where it is one of
+// the commonest: its record, where it makes one, is laid into the sheet from `out` on.
+fn lay_short(
+    version: u8,
+    s: &[u8],
+    bytes: &mut [u8; LABEL_LIMIT],
+    len: usize,
+    setting: Setting,
+    sheet: &mut [u8],
+    out: usize,
+) -> Quick
+    requires { ⌜ (len ≤ labelLimit) × (length (now bytes) ≡ labelLimit) × (out < 2 ^ 62) ⌝ }
+    ensures { λ r. ⌜ Quickly r (next version (now (s .entry)) (stateOf setting (take len (now (bytes .entry))))) setting (now (bytes .entry)) (now (bytes .exit)) (now (sheet .entry)) (now (sheet .exit)) out ⌝ }
+{
+    let position = setting.position;
+    let it = short_item(version, s, len);
+    match it {
+        Short::Other => Quick::Other,
+        Short::Line { keep, add, flags } => match position {
+            Position::Unset => Quick::Other,
+            Position::Stands { point } => {
+                let leg = leg_at(s, add, flags, setting, point);
+                let to = leg.to;
+                lay_leg(s, bytes, Joint { keep, add }, leg, sheet, out);
+                Quick::Leg {
+                    size: 14 + add,
+                    len: keep + add,
+                    to,
+                }
+            }
+        },
+        Short::Place { keep, add, flags } => {
+            let station = station_at(s, add, flags);
+            lay_station(s, bytes, Joint { keep, add }, station, sheet, out);
+            let m = keep + add;
+            Quick::Made {
+                size: 14 + add,
+                len: m,
+                bytes: 16 + m,
+            }
+        }
+        Short::Section { keep, add, code } => {
+            let section = section_at(s, add, code, setting);
+            lay_section(s, bytes, Joint { keep, add }, section, sheet, out);
+            let m = keep + add;
+            Quick::Made {
+                size: 2 + add + sides(code),
+                len: m,
+                bytes: 25 + m,
+            }
+        }
+        Short::Trim { len: m } => Quick::Trim { len: m },
+    }
+}
+
 // A pass over the items from `place` on: the answer for a sheet with room enough, and
 // each record laid in where there is room, the first of them at `front`.
 fn pass(file: &[u8], version: u8, place: usize, sheet: &mut [u8], front: usize) -> Passed
@@ -66,44 +223,66 @@ fn pass(file: &[u8], version: u8, place: usize, sheet: &mut [u8], front: usize) 
     loop {
         let rest = &file[at..];
         let old = label.len;
-        let it = lay_item(version, rest, &mut label.bytes, old, setting, sheet, out);
-        match it {
-            Step::Bad { number } => {
-                return Passed::Refused { number, place: at };
-            }
-            Step::End => {
-                if 1 < rest.len() {
-                    return Passed::Refused {
-                        number: 10,
-                        place: at + 1,
-                    };
-                }
-                return Passed::Done {
-                    bytes: out,
-                    records,
-                };
-            }
-            Step::On {
-                size,
-                len,
-                setting: after,
-            } => {
+        let quick = lay_short(version, rest, &mut label.bytes, old, setting, sheet, out);
+        match quick {
+            Quick::Leg { size, len, to } => {
                 label.len = len;
-                setting = after;
-                at += size;
-            }
-            Step::Made {
-                size,
-                len,
-                setting: after,
-                fields,
-                kept: _,
-            } => {
-                label.len = len;
-                setting = after;
-                out += record::record_size(fields, len);
+                setting = with_position(setting, to);
+                out += 34 + len;
                 records += 1;
                 at += size;
+            }
+            Quick::Made { size, len, bytes } => {
+                label.len = len;
+                out += bytes;
+                records += 1;
+                at += size;
+            }
+            Quick::Trim { len } => {
+                label.len = len;
+                at += 1;
+            }
+            Quick::Other => {
+                let it = lay_item(version, rest, &mut label.bytes, old, setting, sheet, out);
+                match it {
+                    Step::Bad { number } => {
+                        return Passed::Refused { number, place: at };
+                    }
+                    Step::End => {
+                        if 1 < rest.len() {
+                            return Passed::Refused {
+                                number: 10,
+                                place: at + 1,
+                            };
+                        }
+                        return Passed::Done {
+                            bytes: out,
+                            records,
+                        };
+                    }
+                    Step::On {
+                        size,
+                        len,
+                        setting: after,
+                    } => {
+                        label.len = len;
+                        setting = after;
+                        at += size;
+                    }
+                    Step::Made {
+                        size,
+                        len,
+                        setting: after,
+                        fields,
+                        kept: _,
+                    } => {
+                        label.len = len;
+                        setting = after;
+                        out += record::record_size(fields, len);
+                        records += 1;
+                        at += size;
+                    }
+                }
             }
         }
     }

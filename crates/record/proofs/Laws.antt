@@ -3,7 +3,8 @@ use Prim.Native.Nat.{ℕ, suc, _+_, _-_, _≤_, _<_}
 use mathlib.Core.Path.{_≡_, refl, sym, ap, _∙_}
 use mathlib.Core.List.{List, [], _∷_, _++_, append-assoc}
 use native.Mathlib.Omega.{arith}
-use lib.ListN.{length, take, drop, length-append}
+use lib.ListN.{length, take, drop, getD, set, length-append}
+use lib.Seq.{sets-eq, length-take-le}
 use Rattle.format.specs.Bytes.{pick, over, toBe16, toBe32}
 use Rattle.format.specs.Sheet.{sheetVersion, pointBytes, dimensionBytes, traverseBytes, dateBytes, legSize, stationSize, sectionSize, errorSize, legBody, stationBody, sectionBody, layout, headerLayout}
 use Rattle.format.specs.State.{leg, station, section, error}
@@ -17,6 +18,7 @@ use Rattle.format.specs.declared.Section.{Section as SectionFields}
 use Rattle.format.specs.declared.Fields.{Fields}
 use Rattle.format.specs.declared.Fields.the-variants.{Leg, Station, Section, Error}
 use Rattle.format.proofs.SheetLaws.{layout-leg, layout-station, layout-section, layout-error}
+use Rattle.record.specs.Joined.{Joint}
 use Rattle.wire.specs.Laid.{laid, laidIf}
 use Rattle.wire.proofs.Laws.{length-over, laid-zero, laid-part, laid-next, laid-none, laid-some}
 
@@ -128,6 +130,52 @@ station-laid S head l p e h = head-laid S head (pointBytes toBe32 p) l 4 16 e (o
 pub section-laid : (S head l : List ℕ) (d : Dimensions) → length head ≡ 9 → 25 + length l ≤ length S
     → laid (laid (over head S) 9 (dimensionBytes toBe32 d)) 25 l ≡ over (head ++ (dimensionBytes toBe32 d ++ l)) S
 section-laid S head l d e h = head-laid S head (dimensionBytes toBe32 d) l 9 25 e (omega (arith, dimensions-length d)) h
+
+-- the length of a label that is joined
+pub joined-length : (keep : ℕ) (added bytes : List ℕ) → Joint keep added bytes → length (take keep bytes ++ added) ≡ keep + length added
+joined-length keep added bytes J =
+    let t = length-take-le keep bytes (omega (arith, J .few, J .whole)) in
+    length-append (take keep bytes) added ∙ omega arith
+
+-- ---- the bytes of a head, stored one after the other
+
+pub four-stored : (s d : List ℕ) → length s ≡ 4 → 4 ≤ length d → set (set (set (set d 0 (getD s 0 0)) 1 (getD s 1 0)) 2 (getD s 2 0)) 3 (getD s 3 0) ≡ over s d
+unfolding over
+four-stored [] d e h = absurd (omega arith)
+four-stored (x0 ∷ []) d e h = absurd (omega arith)
+four-stored (x0 ∷ x1 ∷ []) d e h = absurd (omega arith)
+four-stored (x0 ∷ x1 ∷ x2 ∷ []) d e h = absurd (omega arith)
+four-stored (x0 ∷ x1 ∷ x2 ∷ x3 ∷ []) d e h = sets-eq (x0 ∷ x1 ∷ x2 ∷ x3 ∷ []) d 0 h
+four-stored (x0 ∷ x1 ∷ x2 ∷ x3 ∷ x4 ∷ s) d e h = absurd (omega arith)
+
+pub nine-stored : (s d : List ℕ) → length s ≡ 9 → 9 ≤ length d → set (set (set (set (set (set (set (set (set d 0 (getD s 0 0)) 1 (getD s 1 0)) 2 (getD s 2 0)) 3 (getD s 3 0)) 4 (getD s 4 0)) 5 (getD s 5 0)) 6 (getD s 6 0)) 7 (getD s 7 0)) 8 (getD s 8 0) ≡ over s d
+unfolding over
+nine-stored [] d e h = absurd (omega arith)
+nine-stored (x0 ∷ []) d e h = absurd (omega arith)
+nine-stored (x0 ∷ x1 ∷ []) d e h = absurd (omega arith)
+nine-stored (x0 ∷ x1 ∷ x2 ∷ []) d e h = absurd (omega arith)
+nine-stored (x0 ∷ x1 ∷ x2 ∷ x3 ∷ []) d e h = absurd (omega arith)
+nine-stored (x0 ∷ x1 ∷ x2 ∷ x3 ∷ x4 ∷ []) d e h = absurd (omega arith)
+nine-stored (x0 ∷ x1 ∷ x2 ∷ x3 ∷ x4 ∷ x5 ∷ []) d e h = absurd (omega arith)
+nine-stored (x0 ∷ x1 ∷ x2 ∷ x3 ∷ x4 ∷ x5 ∷ x6 ∷ []) d e h = absurd (omega arith)
+nine-stored (x0 ∷ x1 ∷ x2 ∷ x3 ∷ x4 ∷ x5 ∷ x6 ∷ x7 ∷ []) d e h = absurd (omega arith)
+nine-stored (x0 ∷ x1 ∷ x2 ∷ x3 ∷ x4 ∷ x5 ∷ x6 ∷ x7 ∷ x8 ∷ []) d e h = sets-eq (x0 ∷ x1 ∷ x2 ∷ x3 ∷ x4 ∷ x5 ∷ x6 ∷ x7 ∷ x8 ∷ []) d 0 h
+nine-stored (x0 ∷ x1 ∷ x2 ∷ x3 ∷ x4 ∷ x5 ∷ x6 ∷ x7 ∷ x8 ∷ x9 ∷ s) d e h = absurd (omega arith)
+
+pub ten-stored : (s d : List ℕ) → length s ≡ 10 → 10 ≤ length d → set (set (set (set (set (set (set (set (set (set d 0 (getD s 0 0)) 1 (getD s 1 0)) 2 (getD s 2 0)) 3 (getD s 3 0)) 4 (getD s 4 0)) 5 (getD s 5 0)) 6 (getD s 6 0)) 7 (getD s 7 0)) 8 (getD s 8 0)) 9 (getD s 9 0) ≡ over s d
+unfolding over
+ten-stored [] d e h = absurd (omega arith)
+ten-stored (x0 ∷ []) d e h = absurd (omega arith)
+ten-stored (x0 ∷ x1 ∷ []) d e h = absurd (omega arith)
+ten-stored (x0 ∷ x1 ∷ x2 ∷ []) d e h = absurd (omega arith)
+ten-stored (x0 ∷ x1 ∷ x2 ∷ x3 ∷ []) d e h = absurd (omega arith)
+ten-stored (x0 ∷ x1 ∷ x2 ∷ x3 ∷ x4 ∷ []) d e h = absurd (omega arith)
+ten-stored (x0 ∷ x1 ∷ x2 ∷ x3 ∷ x4 ∷ x5 ∷ []) d e h = absurd (omega arith)
+ten-stored (x0 ∷ x1 ∷ x2 ∷ x3 ∷ x4 ∷ x5 ∷ x6 ∷ []) d e h = absurd (omega arith)
+ten-stored (x0 ∷ x1 ∷ x2 ∷ x3 ∷ x4 ∷ x5 ∷ x6 ∷ x7 ∷ []) d e h = absurd (omega arith)
+ten-stored (x0 ∷ x1 ∷ x2 ∷ x3 ∷ x4 ∷ x5 ∷ x6 ∷ x7 ∷ x8 ∷ []) d e h = absurd (omega arith)
+ten-stored (x0 ∷ x1 ∷ x2 ∷ x3 ∷ x4 ∷ x5 ∷ x6 ∷ x7 ∷ x8 ∷ x9 ∷ []) d e h = sets-eq (x0 ∷ x1 ∷ x2 ∷ x3 ∷ x4 ∷ x5 ∷ x6 ∷ x7 ∷ x8 ∷ x9 ∷ []) d 0 h
+ten-stored (x0 ∷ x1 ∷ x2 ∷ x3 ∷ x4 ∷ x5 ∷ x6 ∷ x7 ∷ x8 ∷ x9 ∷ x10 ∷ s) d e h = absurd (omega arith)
 
 -- ---- a record laid in where it fits
 

@@ -5,7 +5,9 @@ ghost use Prim.Native.Nat.{ℕ, _+_, _^_, _≤_, _<_};
 ghost use lib.ListN.{length, take};
 ghost use Rattle.format.specs.Bytes.{over, toBe16, toBe32};
 ghost use Rattle.format.specs.Sheet.{sheetVersion, pointBytes, dimensionBytes, traverseBytes, dateKind, dateDay, dateLast, legSize, stationSize, sectionSize, errorSize, recordLimit, layout, headerLayout};
+ghost use Rattle.format.specs.State.{leg, station, section};
 ghost use Rattle.format.specs.Fields.{recordOf, recordSize};
+ghost use Rattle.record.specs.Joined.{Joint, Joins};
 ghost use Rattle.wire.specs.Laid.{laid, laidIf};
 ghost use Rattle.format.specs.Header.{timeLimit, titleLimit};
 ghost use Rattle.format.specs.Label.{labelLimit};
@@ -13,8 +15,11 @@ use format::Dated;
 use format::Dimensions;
 use format::Fields;
 use format::LABEL_LIMIT;
+use format::Leg;
 use format::Point;
 use format::SHEET_VERSION;
+use format::Section;
+use format::Station;
 use format::Traverse;
 
 // A date as a sheet has it: kind, day and last day.
@@ -140,8 +145,7 @@ fn put_word(out: &mut [u8], k: usize, n: u32)
     requires { ⌜ k + 4 ≤ length (now out) ⌝ }
     ensures { λ _. ⌜ now (out .exit) ≡ laid (now (out .entry)) k (toBe32 n) ⌝ }
 {
-    let bytes = number::be32_bytes(n);
-    put_at(out, k, &bytes);
+    number::put_be32(&mut out[k..], n);
 }
 
 // Writes a place into out from index k on.
@@ -172,6 +176,26 @@ fn put_label(out: &mut [u8], k: usize, bytes: &[u8; LABEL_LIMIT], len: usize)
 {
     let whole = &bytes[..];
     put_at(out, k, &whole[..len]);
+}
+
+// The same for a label that was not just written byte by byte, by words.
+fn put_kept(out: &mut [u8], k: usize, bytes: &[u8; LABEL_LIMIT], len: usize)
+    requires { ⌜ (len ≤ labelLimit) × (k + len ≤ length (now out)) × (length (now bytes) ≡ labelLimit) ⌝ }
+    ensures { λ _. ⌜ now (out .exit) ≡ laid (now (out .entry)) k (take len (now (bytes .entry))) ⌝ }
+{
+    let whole = &bytes[..];
+    wire::copy_words(&whole[..len], &mut out[k..]);
+}
+
+// Writes a label into out from index k on: the first keep bytes of another one, and at
+// most fifteen more.
+fn put_joined(out: &mut [u8], k: usize, bytes: &[u8; LABEL_LIMIT], keep: usize, added: &[u8])
+    requires { ⌜ (k ≤ labelLimit) × (keep ≤ labelLimit) × (length (now added) < 16) × (k + (keep + length (now added)) ≤ length (now out)) × (length (now bytes) ≡ labelLimit) ⌝ }
+    ensures { λ _. ⌜ now (out .exit) ≡ laid (now (out .entry)) k (take keep (now (bytes .entry)) ++ now (added .entry)) ⌝ }
+{
+    put_kept(out, k, bytes, keep);
+    let n = k + keep;
+    wire::copy_short(added, &mut out[n..]);
 }
 
 // How many bytes a record takes in a sheet, with its length bytes.
@@ -299,6 +323,170 @@ pub fn lay_record(
         return;
     }
     put_record(&mut sheet[at..], fields, bytes, len);
+}
+
+// ---- a leg, a station and a cross-section whose label is the first keep bytes of another
+// one, and at most fifteen more: the commonest, so their heads are stored without a loop
+
+fn put_ten(out: &mut [u8], head: [u8; 10])
+    requires { ⌜ 10 ≤ length (now out) ⌝ }
+    ensures { λ _. ⌜ now (out .exit) ≡ over head (now (out .entry)) ⌝ }
+{
+    out[0] = head[0];
+    out[1] = head[1];
+    out[2] = head[2];
+    out[3] = head[3];
+    out[4] = head[4];
+    out[5] = head[5];
+    out[6] = head[6];
+    out[7] = head[7];
+    out[8] = head[8];
+    out[9] = head[9];
+}
+
+fn put_nine(out: &mut [u8], head: [u8; 9])
+    requires { ⌜ 9 ≤ length (now out) ⌝ }
+    ensures { λ _. ⌜ now (out .exit) ≡ over head (now (out .entry)) ⌝ }
+{
+    out[0] = head[0];
+    out[1] = head[1];
+    out[2] = head[2];
+    out[3] = head[3];
+    out[4] = head[4];
+    out[5] = head[5];
+    out[6] = head[6];
+    out[7] = head[7];
+    out[8] = head[8];
+}
+
+fn put_four(out: &mut [u8], head: [u8; 4])
+    requires { ⌜ 4 ≤ length (now out) ⌝ }
+    ensures { λ _. ⌜ now (out .exit) ≡ over head (now (out .entry)) ⌝ }
+{
+    out[0] = head[0];
+    out[1] = head[1];
+    out[2] = head[2];
+    out[3] = head[3];
+}
+
+// Lays such a leg over the front of out.
+pub fn put_short_leg(
+    out: &mut [u8],
+    fields: Leg,
+    bytes: &[u8; LABEL_LIMIT],
+    keep: usize,
+    added: &[u8],
+)
+    requires { ⌜ Joins 34 keep (now added) (now bytes) (now out) ⌝ }
+    ensures { λ _. ⌜ now (out .exit) ≡ over (layout sheetVersion (leg fields (take keep (now (bytes .entry)) ++ now (added .entry)))) (now (out .entry)) ⌝ }
+{
+    let date = fields.date;
+    let from = fields.from;
+    let to = fields.to;
+    let head = leg_head(
+        keep + added.len(),
+        fields.flags,
+        fields.style,
+        days_of(date),
+    );
+    put_ten(out, head);
+    put_point(out, 10, from);
+    put_point(out, 22, to);
+    put_joined(out, 34, bytes, keep, added);
+}
+
+// Lays such a leg into the sheet from index `at` on, where it fits.
+pub fn lay_short_leg(
+    sheet: &mut [u8],
+    at: usize,
+    fields: Leg,
+    bytes: &[u8; LABEL_LIMIT],
+    keep: usize,
+    added: &[u8],
+)
+    requires { ⌜ (at < 2 ^ 62) × Joint keep (now added) (now bytes) ⌝ }
+    ensures { λ _. ⌜ now (sheet .exit) ≡ laidIf (now (sheet .entry)) at (layout sheetVersion (leg fields (take keep (now (bytes .entry)) ++ now (added .entry)))) ⌝ }
+{
+    let size = 34 + (keep + added.len());
+    if sheet.len() < at + size {
+        return;
+    }
+    put_short_leg(&mut sheet[at..], fields, bytes, keep, added);
+}
+
+// Lays such a station over the front of out.
+pub fn put_short_station(
+    out: &mut [u8],
+    fields: Station,
+    bytes: &[u8; LABEL_LIMIT],
+    keep: usize,
+    added: &[u8],
+)
+    requires { ⌜ Joins 16 keep (now added) (now bytes) (now out) ⌝ }
+    ensures { λ _. ⌜ now (out .exit) ≡ over (layout sheetVersion (station fields (take keep (now (bytes .entry)) ++ now (added .entry)))) (now (out .entry)) ⌝ }
+{
+    let place = fields.place;
+    let head = station_head(keep + added.len(), fields.flags);
+    put_four(out, head);
+    put_point(out, 4, place);
+    put_joined(out, 16, bytes, keep, added);
+}
+
+// Lays such a station into the sheet from index `at` on, where it fits.
+pub fn lay_short_station(
+    sheet: &mut [u8],
+    at: usize,
+    fields: Station,
+    bytes: &[u8; LABEL_LIMIT],
+    keep: usize,
+    added: &[u8],
+)
+    requires { ⌜ (at < 2 ^ 62) × Joint keep (now added) (now bytes) ⌝ }
+    ensures { λ _. ⌜ now (sheet .exit) ≡ laidIf (now (sheet .entry)) at (layout sheetVersion (station fields (take keep (now (bytes .entry)) ++ now (added .entry)))) ⌝ }
+{
+    let size = 16 + (keep + added.len());
+    if sheet.len() < at + size {
+        return;
+    }
+    put_short_station(&mut sheet[at..], fields, bytes, keep, added);
+}
+
+// Lays such a cross-section over the front of out.
+pub fn put_short_section(
+    out: &mut [u8],
+    fields: Section,
+    bytes: &[u8; LABEL_LIMIT],
+    keep: usize,
+    added: &[u8],
+)
+    requires { ⌜ Joins 25 keep (now added) (now bytes) (now out) ⌝ }
+    ensures { λ _. ⌜ now (out .exit) ≡ over (layout sheetVersion (section fields (take keep (now (bytes .entry)) ++ now (added .entry)))) (now (out .entry)) ⌝ }
+{
+    let date = fields.date;
+    let dims = fields.size;
+    let head = section_head(keep + added.len(), fields.last, days_of(date));
+    put_nine(out, head);
+    put_dimensions(out, 9, dims);
+    put_joined(out, 25, bytes, keep, added);
+}
+
+// Lays such a cross-section into the sheet from index `at` on, where it fits.
+pub fn lay_short_section(
+    sheet: &mut [u8],
+    at: usize,
+    fields: Section,
+    bytes: &[u8; LABEL_LIMIT],
+    keep: usize,
+    added: &[u8],
+)
+    requires { ⌜ (at < 2 ^ 62) × Joint keep (now added) (now bytes) ⌝ }
+    ensures { λ _. ⌜ now (sheet .exit) ≡ laidIf (now (sheet .entry)) at (layout sheetVersion (section fields (take keep (now (bytes .entry)) ++ now (added .entry)))) ⌝ }
+{
+    let size = 25 + (keep + added.len());
+    if sheet.len() < at + size {
+        return;
+    }
+    put_short_section(&mut sheet[at..], fields, bytes, keep, added);
 }
 
 // The version byte and the fields of a header whose title has t bytes and whose

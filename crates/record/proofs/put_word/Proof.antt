@@ -1,12 +1,40 @@
 -- `record::put_word` meets its contract. Assumes nothing.
+use native.Mathlib.Omega.{arith}
+use mathlib.Core.Path.{refl}
+use Rattle.format.specs.Bytes.{toBe32}
+use Rattle.wire.proofs.Laws.{laid-part}
 use borrow.Author.Needs.{needs}
 use Rattle.record.proofs.put_word.Statement.{statement}
 use Rattle.record.proofs.put_word.Tie as tie
 
+sub-put-be32 : tie.Need-sub-put-be32
+sub-put-be32 c = search needs
+
+part-put-be32-start : tie.Need-part-put-be32-start
+part-put-be32-start c = search needs
+
+part-put-be32-end : tie.Need-part-put-be32-end
+part-put-be32-end c = search needs
+
+put-be32-requires : tie.Need-put-be32-requires
+put-be32-requires c κs = search needs
+
+same-length : tie.Need-same-length
+same-length c = search needs
+
 returns : tie.Need-returns
 returns c =
-    rw (← c .before .before .before .before .before .be32-bytes .ensures) (c .before .before .put-at .ensures)
+    let a = c .before .before .before .before .before in
+    rw (c .before .before .put-be32 .ensures) (laid-part (a .args .out .now) (toBe32 (a .args .n)) (a .args .k) (omega (arith, a .pre)) _ refl)
 
 -- the search closes the other needs
 pub put-word-spec : {M : Type 1} → statement M
-put-word-spec = tie.close (tie.spec (λ c κs. search needs) (λ c. search needs) (λ c κs. search needs) (λ c. search needs) returns)
+put-word-spec =
+    tie.close
+    (tie.spec
+    sub-put-be32
+    part-put-be32-start
+    part-put-be32-end
+    put-be32-requires
+    same-length
+    returns)

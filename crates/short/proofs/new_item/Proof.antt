@@ -1,0 +1,72 @@
+-- `short::new_item` meets its contract. Assumes nothing.
+use native.Mathlib.Omega.{arith}
+use Rattle.short.proofs.Laws.{new-line, new-station, new-section}
+use borrow.Author.Needs.{needs}
+use Rattle.short.proofs.new_item.Statement.{statement}
+use Rattle.short.proofs.new_item.Tie as tie
+
+returns : tie.Need-returns
+returns c = search needs
+
+shared-slice-read-code : tie.Need-shared-slice-read-code
+shared-slice-read-code c = search needs
+
+returns-2 : tie.Need-returns-2
+returns-2 c = search needs
+
+shared-slice-read-new-part : tie.Need-shared-slice-read-new-part
+shared-slice-read-new-part c = search needs
+
+new-part-requires : tie.Need-new-part-requires
+new-part-requires c κs = search needs
+
+enum-known-p : tie.Need-enum-known-p
+enum-known-p c = search needs
+
+enum-told : tie.Need-enum-told
+enum-told c = search needs
+
+returns-3 : tie.Need-returns-3
+returns-3 c = search needs
+
+returns-4 : tie.Need-returns-4
+returns-4 c =
+    let a = c .before .before .before .before .before .before .before .before .before .before .args in
+    let L = rw (c .before .before .p .given .1) at (c .before .before .before .before .new-part .ensures) in
+    λ version v. new-section version (a .s .now) (a .len) _ _ (omega (arith, c .before .before .before .before .before .before .before .before .if1 .left)) v L (omega (arith, c .before .before .before .before .before .before .if2 .left)) (omega (arith, c .if3 .taken))
+
+returns-5 : tie.Need-returns-5
+returns-5 c = search needs
+
+returns-6 : tie.Need-returns-6
+returns-6 c =
+    let a = c .before .before .before .before .before .before .before .before .before .before .before .before .args in
+    let L = rw (c .before .before .before .before .p .given .1) at (c .before .before .before .before .before .before .new-part .ensures) in
+    λ version v. new-line version (a .s .now) (a .len) _ _ (omega (arith, c .before .before .before .before .before .before .before .before .before .before .if1 .left)) v L (omega (arith, c .before .if4 .left)) (omega (arith, c .if5 .taken))
+
+returns-7 : tie.Need-returns-7
+returns-7 c = search needs
+
+returns-8 : tie.Need-returns-8
+returns-8 c =
+    let a = c .before .before .before .before .before .before .before .before .before .before .before .before .before .args in
+    let L = rw (c .before .before .before .before .before .p .given .1) at (c .before .before .before .before .before .before .before .new-part .ensures) in
+    λ version v. new-station version (a .s .now) (a .len) _ _ (omega (arith, c .before .before .before .before .before .before .before .before .before .before .before .if1 .left)) v L (omega (arith, c .if6 .left))
+
+pub new-item-spec : {M : Type 1} → statement M
+new-item-spec =
+    tie.close
+    (tie.spec
+    returns
+    shared-slice-read-code
+    returns-2
+    shared-slice-read-new-part
+    new-part-requires
+    enum-known-p
+    enum-told
+    returns-3
+    returns-4
+    returns-5
+    returns-6
+    returns-7
+    returns-8)
