@@ -115,7 +115,7 @@ fn traverse_bytes(t: format::Traverse) -> [u8; 20]
 
 // ---- dates and places
 
-fn same_date(a: format::Dated, b: format::Dated) -> bool
+pub fn same_date(a: format::Dated, b: format::Dated) -> bool
     ensures { λ r. ⌜ r ≡ sameDate a b ⌝ }
 {
     match a {
@@ -150,7 +150,7 @@ fn same_point(p: format::Point, q: format::Point) -> bool
 }
 
 // Whether the position is set and is this place.
-fn stands_at(position: format::Position, p: format::Point) -> bool
+pub fn stands_at(position: format::Position, p: format::Point) -> bool
     ensures { λ r. ⌜ r ≡ standsAt position p ⌝ }
 {
     match position {
@@ -309,7 +309,7 @@ fn fits_short(n: u32) -> bool
     4294934528 <= n
 }
 
-fn all_short(d: format::Dimensions) -> bool
+pub fn all_short(d: format::Dimensions) -> bool
     ensures { λ r. ⌜ r ≡ allShort d ⌝ }
 {
     if !fits_short(d.left) {

@@ -43,7 +43,7 @@ fn put_length(out: &mut [u8], at: usize, n: usize) -> usize
 }
 
 // Whether d bytes to drop and a to append go in one byte.
-fn one_byte(d: usize, a: usize) -> bool
+pub fn one_byte(d: usize, a: usize) -> bool
     ensures { λ r. ⌜ r ≡ shortPart d a ⌝ }
 {
     if 15 < d {

@@ -37,7 +37,7 @@ pub enum Front {
 }
 
 // A number of two bytes as a length.
-fn size_of(n: u32) -> usize
+pub fn size_of(n: u32) -> usize
     ensures { λ r. ⌜ r ≡ n ⌝ }
 {
     n as usize
@@ -52,7 +52,7 @@ fn day_of(n: u32) -> u16
 }
 
 // The place at the front of s.
-fn point(s: &[u8]) -> format::Point
+pub fn point(s: &[u8]) -> format::Point
     requires { ⌜ 12 ≤ length (now s) ⌝ }
     ensures { λ r. ⌜ r ≡ pointOf be32 (now (s .entry)) ⌝ }
 {
@@ -64,7 +64,7 @@ fn point(s: &[u8]) -> format::Point
 }
 
 // The dimensions at the front of s.
-fn dimensions(s: &[u8]) -> format::Dimensions
+pub fn dimensions(s: &[u8]) -> format::Dimensions
     requires { ⌜ 16 ≤ length (now s) ⌝ }
     ensures { λ r. ⌜ r ≡ dimensionsOf 4 be32 (now (s .entry)) ⌝ }
 {
@@ -91,7 +91,7 @@ fn traverse(s: &[u8]) -> format::Traverse
 }
 
 // Whether a body of n bytes has a label of at most 4,096 from its byte k on.
-fn label_fits(n: usize, k: usize) -> bool
+pub fn label_fits(n: usize, k: usize) -> bool
     requires { ⌜ k ≤ 32 ⌝ }
     ensures { λ r. ⌜ r ≡ labelFits n k ⌝ }
 {
@@ -273,7 +273,7 @@ fn error_entry(s: &[u8], n: usize) -> Entry
 
 // Whether length bytes and that many bytes more are at the front of s, and at least
 // a kind among them.
-fn is_framed(s: &[u8]) -> bool
+pub fn is_framed(s: &[u8]) -> bool
     ensures { λ r. ⌜ r ≡ framed (now (s .entry)) ⌝ }
 {
     if s.len() < 3 {

@@ -1,76 +1,117 @@
 // The v8 file of a sheet, in two passes. The codes are written where they fit, so the
 // same pass measures when it is lent no bytes.
+use format::Fields;
+use format::Position;
 use format::Setting;
 ghost use mathlib.Core.Path.{_≡_};
-ghost use Prim.Native.Nat.{_≤_};
+ghost use Prim.Native.Nat.{_≤_, _<_};
 ghost use lib.ListN.{length, drop};
 ghost use Rattle.format.specs.Sheet.{recordsOf, frontHeader, sheetResult};
 ghost use Rattle.format.specs.Answers.{answerOf};
 ghost use Rattle.format.specs.Writing.{v8, writeOutcome, writeBuffer};
 ghost use Rattle.tally.specs.Tallies.{Rest, Passed};
-ghost use Rattle.format.specs.State.{startSetting};
-ghost use Rattle.write.specs.Passing.{handAfter};
+ghost use Rattle.write.specs.Passing.{settingIn, handOf, handAfter, Named, EnteredTold};
 
 // ---- the records of a sheet
 
-// What the codes of a record find: a setting, and where in the sheet the previous label
-// stands.
+// What the codes of a record find, but for the position: style and date, their mark, and
+// where in the sheet the previous label stands.
 struct Hand {
-    setting: Setting,
+    style: u8,
+    date: format::Dated,
+    mark: u64,
     from: usize,
     to: usize,
 }
 
-fn fresh() -> Hand
-    ensures { λ r. ⌜ (r .setting ≡ startSetting) × (r .from ≡ 0) × (r .to ≡ 0) ⌝ }
+fn hand_of(setting: Setting, from: usize, to: usize) -> Hand
+    ensures { λ r. ⌜ r ≡ handOf setting from to ⌝ }
 {
+    let style = setting.style;
+    let date = setting.date;
+    let mark = plain::mark_of(style, date);
     Hand {
-        setting: format::start_setting(),
-        from: 0,
-        to: 0,
+        style,
+        date,
+        mark,
+        from,
+        to,
     }
 }
 
-// What a record leaves, whose label stands from `from` to `to`.
-fn hand_after(hand: Hand, fields: format::Fields, from: usize, to: usize) -> Hand
-    ensures { λ r. ⌜ r ≡ handAfter hand fields from to ⌝ }
+fn setting_of(hand: Hand, position: Position) -> Setting
+    ensures { λ r. ⌜ r ≡ settingIn hand position ⌝ }
+{
+    let date = hand.date;
+    Setting {
+        style: hand.style,
+        date,
+        position,
+    }
+}
+
+// What a record leaves together with this setting, whose label stands from `from` to
+// `to`.
+fn hand_after(hand: Hand, setting: Setting, fields: Fields, from: usize, to: usize) -> Hand
+    ensures { λ r. ⌜ r ≡ handAfter hand setting fields from to ⌝ }
 {
     match fields {
-        format::Fields::Leg {
+        Fields::Leg {
             flags: _,
-            style,
-            date,
+            style: _,
+            date: _,
             from: _,
-            to: point,
-        } => {
-            let position = format::Position::Stands { point };
-            let setting = Setting {
-                style,
-                date,
-                position,
-            };
-            Hand { setting, from, to }
-        }
-        format::Fields::Station { station: _ } => {
-            let setting = hand.setting;
-            Hand { setting, from, to }
-        }
-        format::Fields::Section {
+            to: _,
+        } => hand_of(setting, from, to),
+        Fields::Station { station: _ } => hand_of(setting, from, to),
+        Fields::Section {
             last: _,
             unused: _,
-            date,
+            date: _,
             size: _,
-        } => {
-            let old = hand.setting;
-            let position = old.position;
-            let setting = Setting {
-                style: old.style,
-                date,
-                position,
-            };
-            Hand { setting, from, to }
-        }
-        format::Fields::Error { traverse: _ } => hand,
+        } => hand_of(setting, from, to),
+        Fields::Error { traverse: _ } => hand,
+    }
+}
+
+// The record at a place of a sheet: none that is well-formed; or its size, fields and
+// where its label starts, and the bytes of its codes.
+enum Entered {
+    Flawed,
+    Put {
+        size: usize,
+        fields: Fields,
+        from: usize,
+        bytes: usize,
+    },
+}
+
+// The codes of the record at `at`, written over the front of out where they fit.
+fn put_entry(
+    sheet: &[u8],
+    version: u8,
+    at: usize,
+    hand: Hand,
+    setting: Setting,
+    out: &mut [u8],
+) -> Entered
+    requires { ⌜ (at < length (now sheet)) × Named (now sheet) hand ⌝ }
+    ensures { λ r. ⌜ EnteredTold r version (now (sheet .entry)) at hand setting (now (out .entry)) (now (out .exit)) ⌝ }
+{
+    let entry = sheet::read_entry(&sheet[at..], version);
+    let sheet::Entry::Whole { size, fields, from } = entry else {
+        return Entered::Flawed;
+    };
+    let name = at + from;
+    let end = at + size;
+    let first = hand.from;
+    let last = hand.to;
+    let bytes = codes::put_record(out, setting, &sheet[first..last], &sheet[name..end], fields);
+    Entered::Put {
+        size,
+        fields,
+        from,
+        bytes,
     }
 }
 
@@ -90,10 +131,43 @@ fn put_records(
     let mut total = head;
     let mut number: usize = 0;
     let mut fault: usize = 0;
-    let mut hand = fresh();
+    let start = format::start_setting();
+    let mut position = start.position;
+    let mut hand = hand_of(start, 0, 0);
     while at < sheet.len() {
-        let entry = sheet::read_entry(&sheet[at..], version);
-        let sheet::Entry::Whole { size, fields, from } = entry else {
+        let first = hand.from;
+        let last = hand.to;
+        let mark = hand.mark;
+        let room = tally::within(total, out.len());
+        let found = plain::find(&sheet[at..], version, mark, position, &sheet[first..last]);
+        if let plain::Plain::Item {
+            size,
+            kept,
+            code,
+            form,
+        } = found {
+            let name = at + plain::label_at(form);
+            let end = at + size;
+            let added = &sheet[name + kept..end];
+            let drop = last - first - kept;
+            let n = plain::put(&mut out[room..], code, drop, added, form, &sheet[at..]);
+            total = tally::more(total, n);
+            position = plain::position_after(form, &sheet[at..], position);
+            hand.from = name;
+            hand.to = end;
+            number += 1;
+            at = end;
+            continue;
+        }
+        let setting = setting_of(hand, position);
+        let entered = put_entry(sheet, version, at, hand, setting, &mut out[room..]);
+        let Entered::Put {
+            size,
+            fields,
+            from,
+            bytes,
+        } = entered
+        else {
             return format::Answer::Refused {
                 number: 12,
                 place: number,
@@ -101,25 +175,15 @@ fn put_records(
         };
         let name = at + from;
         let end = at + size;
-        let first = hand.from;
-        let last = hand.to;
-        let setting = hand.setting;
-        let start = tally::within(total, out.len());
-        let n = codes::put_record(
-            &mut out[start..],
-            setting,
-            &sheet[first..last],
-            &sheet[name..end],
-            fields,
-        );
-        total = tally::more(total, n);
-        fault = tally::first_fault(fault, setting.style, fields, number);
-        hand = hand_after(hand, fields, name, end);
+        total = tally::more(total, bytes);
+        fault = tally::first_fault(fault, hand.style, fields, number);
+        let setting = tally::setting_after(setting, fields);
+        position = setting.position;
+        hand = hand_after(hand, setting, fields, name, end);
         number += 1;
         at = end;
     }
-    let setting = hand.setting;
-    tally::finish(out, setting.style, total, number, fault)
+    tally::finish(out, hand.style, total, number, fault)
 }
 
 // A pass over the sheet: the answer, for room enough, and each piece written where

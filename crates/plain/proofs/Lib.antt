@@ -1,0 +1,4 @@
+pub mod Marks
+pub mod Leads
+pub mod Finds
+pub mod Stores

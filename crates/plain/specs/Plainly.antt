@@ -1,0 +1,112 @@
+-- The commonest records of a sheet, whose codes are one item with a label part of one byte: what is told of the record at the front of s, and
+-- what a state has to be for it. Assumes nothing.
+use Prim.Native.Nat.{ℕ, _+_, _-_, _*_, _/_, _%_, _≤_}
+use mathlib.Core.Path.{_≡_}
+use mathlib.Core.List.{List, _∷_, _++_}
+use mathlib.Core.Bool.{true, false}
+use lib.ListN.{length, drop}
+use Rattle.format.specs.Bytes.{be16, be32, toLe16, toLe32, same}
+use Rattle.format.specs.Items.{pointOf, dimensionsOf}
+use Rattle.format.specs.Sheet.{pointBytes, dimensionBytes, dateKind, dateDay, dateLast}
+use Rattle.format.specs.Codes.{common, shortPart, labelCodes, codes, after, unsayable}
+use Rattle.format.specs.Fields.{recordOf, stateOf}
+use Rattle.format.specs.WellFormed.{GoodDated}
+use Rattle.format.specs.declared.Dated.{Dated}
+use Rattle.format.specs.declared.Position.{Position}
+use Rattle.format.specs.declared.Position.the-variants.{Stands}
+use Rattle.format.specs.declared.Setting.{Setting}
+use Rattle.format.specs.declared.Fields.{Fields}
+use Rattle.sheet.specs.Seen.{labelOf, EntryTold}
+use Rattle.sheet.specs.declared.Entry.the-variants.{Whole}
+use Rattle.plain.specs.declared.Form.{Form}
+use Rattle.plain.specs.declared.Form.the-variants.{Leg, Station, Narrow, Wide}
+use Rattle.plain.specs.declared.Head.{Head}
+use Rattle.plain.specs.declared.Head.the-variants.{Other as NoHead, Known}
+use Rattle.plain.specs.declared.Plain.{Plain}
+use Rattle.plain.specs.declared.Plain.the-variants.{Other, Item}
+
+-- ---- style and date as one number: the six bytes of a leg's record, the lowest first
+
+abbrev pub markFrom : ℕ → ℕ → ℕ → ℕ → ℕ
+markFrom style kind d e = style + 256 * (kind + 256 * (d / 256 + 256 * (d % 256 + 256 * (e / 256 + 256 * (e % 256)))))
+
+abbrev pub markOf : ℕ → Dated → ℕ
+markOf style date = markFrom style (dateKind date) (dateDay date) (dateLast date)
+
+-- ---- the forms
+
+-- where the label starts
+abbrev pub labelAt : Form → ℕ
+labelAt Leg = 34
+labelAt Station = 16
+labelAt Narrow = 25
+labelAt Wide = 25
+
+-- what ends the codes
+abbrev pub tailOf : Form → List ℕ → List ℕ
+tailOf Leg s = pointBytes toLe32 (pointOf be32 (drop 22 s))
+tailOf Station s = pointBytes toLe32 (pointOf be32 (drop 4 s))
+tailOf Narrow s = dimensionBytes toLe16 (dimensionsOf 4 be32 (drop 9 s))
+tailOf Wide s = dimensionBytes toLe32 (dimensionsOf 4 be32 (drop 9 s))
+
+abbrev pub tailSize : Form → ℕ
+tailSize Leg = 12
+tailSize Station = 12
+tailSize Narrow = 8
+tailSize Wide = 16
+
+-- the position that the record leaves
+abbrev pub positionAfter : Form → List ℕ → Position → Position
+positionAfter Leg s old = Stands (pointOf be32 (drop 22 s))
+positionAfter Station s old = old
+positionAfter Narrow s old = old
+positionAfter Wide s old = old
+
+-- ---- what is told
+
+-- a record of this size is at the front of s; in this setting, after another label, its codes are the code, a label part and the tail; it
+-- leaves style and date as they are, and has no fault
+pub record Goes (version : ℕ) (s : List ℕ) (setting : Setting) (size code : ℕ) (form : Form) : Type 0 where
+  pub fields : Fields
+  pub told : EntryTold (Whole size fields (labelAt form)) version s
+  pub codes-are : (last label : List ℕ) → same last label ≡ false
+      → codes (stateOf setting last) (recordOf fields label) ≡ code ∷ (labelCodes last label (common last label) ++ tailOf form s)
+  pub leaves : (last label : List ℕ) → after (stateOf setting last) (recordOf fields label)
+      ≡ stateOf (record { style = setting .style; date = setting .date; position = positionAfter form s (setting .position) }) label
+  pub sayable : (label : List ℕ) → unsayable (setting .style) (recordOf fields label) ≡ false
+
+-- the same in every setting with this mark and position
+pub record Headed (version : ℕ) (s : List ℕ) (mark : ℕ) (position : Position) (size code : ℕ) (form : Form) : Type 0 where
+  pub inside : labelAt form ≤ size
+  pub goes : (style : ℕ) (date : Dated) → style ≤ 5 → GoodDated date → mark ≡ markOf style date
+      → Goes version s (record { style = style; date = date; position = position }) size code form
+
+abbrev pub HeadTold : Head → ℕ → List ℕ → ℕ → Position → Type 0
+HeadTold NoHead version s mark position = Unit
+HeadTold (Known code form) version s mark position = Headed version s mark position (2 + be16 s) code form
+
+-- a leg is the same in each version, a station in each state too, and a cross-section's position does not count
+abbrev pub LegTold : Head → List ℕ → ℕ → Position → Type 0
+LegTold r s mark position = (version : ℕ) → HeadTold r version s mark position
+
+abbrev pub StationTold : Head → List ℕ → Type 0
+StationTold r s = (version mark : ℕ) (position : Position) → HeadTold r version s mark position
+
+abbrev pub SectionTold : Head → List ℕ → ℕ → Type 0
+SectionTold r s mark = (position : Position) → HeadTold r 2 s mark position
+
+-- its label keeps so many bytes of the previous one, and the label part takes one byte
+pub record Plainly (version : ℕ) (s : List ℕ) (mark : ℕ) (position : Position) (last : List ℕ) (size kept code : ℕ) (form : Form) : Type 0 where
+  pub headed : Headed version s mark position size code form
+  pub within : size ≤ length s
+  pub kept-is : kept ≡ common last (labelOf size (labelAt form) s)
+  pub kept-first : kept ≤ length last
+  pub kept-second : labelAt form + kept ≤ size
+  pub short : shortPart (length last - kept) (size - labelAt form - kept) ≡ true
+  pub few-dropped : length last - kept ≤ 15
+  pub few-added : size - labelAt form - kept ≤ 15
+  pub other : same last (labelOf size (labelAt form) s) ≡ false
+
+abbrev pub Found : Plain → ℕ → List ℕ → ℕ → Position → List ℕ → Type 0
+Found Other version s mark position last = Unit
+Found (Item size kept code form) version s mark position last = Plainly version s mark position last size kept code form
