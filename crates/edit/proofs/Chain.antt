@@ -11,13 +11,16 @@ use Rattle.format.specs.Writing.{v8}
 use Rattle.tally.proofs.Left.{Left, left-more}
 use Rattle.edit.specs.Pens.{Written, none, more}
 
-pub written-then : {st st′ st″ : State} {d d′ d″ : List ℕ} {t t′ t″ : Tally} {rs ts : List Record} → Written st d t rs st′ d′ t′ → Written st′ d′ t′ ts st″ d″ t″ → Written st d t (rs ++ ts) st″ d″ t″
+pub written-then : {st st′ st″ : State} {d d′ d″ : List ℕ} {t t′ t″ : Tally} {rs ts : List Record} → Written st d t rs st′ d′ t′
+    → Written st′ d′ t′ ts st″ d″ t″ → Written st d t (rs ++ ts) st″ d″ t″
 written-then none w = w
 written-then (more A v) w = more A (written-then v w)
 
 -- what is left once they are written
-pub left-written : {st st′ : State} {d d′ : List ℕ} {t t′ : Tally} {rs : List Record} → Written st d t rs st′ d′ t′ → (x₀ : Result) (head : ℕ) (d₀ : List ℕ) (x : Result)
-    → Left v8 x₀ head d₀ d t st (record { records = rs ++ x .records; verdict = x .verdict }) → length d ≡ length d₀ → (Left v8 x₀ head d₀ d′ t′ st′ x) × (length d′ ≡ length d₀)
+pub left-written : {st st′ : State} {d d′ : List ℕ} {t t′ : Tally} {rs : List Record} → Written st d t rs st′ d′ t′
+    → (x₀ : Result) (head : ℕ) (d₀ : List ℕ) (x : Result)
+    → Left v8 x₀ head d₀ d t st (record { records = rs ++ x .records; verdict = x .verdict }) → length d ≡ length d₀
+    → (Left v8 x₀ head d₀ d′ t′ st′ x) × (length d′ ≡ length d₀)
 left-written none x₀ head d₀ x L k = (L, k)
 left-written (more {st = st} {d = d} {d′ = d₁} {t = t} {t′ = t₁} {r = r} {rs = rs} A w) x₀ head d₀ x L k =
     left-written w x₀ head d₀ x (left-more v8 x₀ head d₀ d d₁ t t₁ st r (record { records = rs ++ x .records; verdict = x .verdict }) L k A) (A .kept ∙ k)

@@ -1,4 +1,6 @@
+mod Behind
 mod Chain
 mod NewRun
-mod OldRun
+mod SameState
+mod Tail
 mod Whole

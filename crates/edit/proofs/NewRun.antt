@@ -3,11 +3,10 @@ use Prim.Native.Nat.{ℕ, _+_, _-_, _≤_, _<_}
 use mathlib.Core.Path.{_≡_, refl, sym, ap, _∙_}
 use mathlib.Core.List.{List, [], _∷_, _++_, append-assoc, append-nil}
 use native.Mathlib.Omega.{arith}
-use native.Mathlib.Numerals.{add-one}
 use lib.ListN.{length, take, drop}
 use Rattle.format.specs.State.{Record}
 use Rattle.format.specs.Sheet.{sheetVersion, recordsFrom, recordsOf}
-use Rattle.format.specs.Refusals.{refusalAt, Result}
+use Rattle.format.specs.Refusals.{Result}
 use Rattle.format.specs.declared.Verdict.the-variants.{Good, Refusal}
 use Rattle.format.specs.Fields.{recordOf}
 use Rattle.format.specs.declared.Fields.{Fields}
@@ -20,7 +19,9 @@ use Rattle.format.specs.Codes.{codesLimit}
 use Rattle.format.specs.Writing.{v8}
 use Rattle.tally.proofs.Left.{adds-few}
 use Rattle.edit.specs.Pens.{penState, PenFits, Emits, Written, none, more, PutsNew}
+use Rattle.edit.specs.Runs.{flawVerdict}
 use Rattle.edit.specs.declared.Pen.{Pen}
+use Rattle.edit.specs.declared.Flaw.the-variants.{Unflawed, At}
 use Rattle.edit.proofs.Chain.{written-then}
 
 -- ---- the first bad record
@@ -36,13 +37,15 @@ unfolding recordsOf
 judging-first new = record { place = 0; inside = omega arith; counted = omega arith; verdict = refl }
 
 module _ (new : List ℕ) (at number : ℕ) (G : Judging new at number) where
-  pub flaw-none : length new ≤ at → refusalAt 12 0 ≡ recordsOf sheetVersion new .verdict
+  pub flaw-none : length new ≤ at → flawVerdict Unflawed ≡ recordsOf sheetVersion new .verdict
   flaw-none h = sym (ap (λ (x : Result). x .verdict) (none-at sheetVersion new at (G .place) number h)) ∙ G .verdict
 
-  pub flaw-here : (h : at < length new) → EntryTold Flawed sheetVersion (take (length new - at) (drop at new)) → refusalAt 12 (number + 1) ≡ recordsOf sheetVersion new .verdict
-  flaw-here h T = rw (add-one number) (sym (ap (λ (x : Result). x .verdict) (flawed-at sheetVersion new at h T (G .place) number)) ∙ G .verdict)
+  pub flaw-here : (h : at < length new) → EntryTold Flawed sheetVersion (take (length new - at) (drop at new))
+      → flawVerdict (At number) ≡ recordsOf sheetVersion new .verdict
+  flaw-here h T = sym (ap (λ (x : Result). x .verdict) (flawed-at sheetVersion new at h T (G .place) number)) ∙ G .verdict
 
-  pub judging-more : (h : at < length new) (n : ℕ) (f : Fields) (k : ℕ) → EntryTold (Whole n f k) sheetVersion (take (length new - at) (drop at new)) → Judging new (at + n) (number + 1)
+  pub judging-more : (h : at < length new) (n : ℕ) (f : Fields) (k : ℕ) → EntryTold (Whole n f k) sheetVersion (take (length new - at) (drop at new))
+      → Judging new (at + n) (number + 1)
   judging-more h n f k T =
       let z = found-size sheetVersion new at h n f k T in
       record {
@@ -77,7 +80,8 @@ module _ (new : List ℕ) (pen : Pen) (l d : List ℕ) (at : ℕ) (next : Pen) (
   putting-fits h k = record { few-bytes = G .few-bytes; few-records = omega (arith, G .few-records, G .inside) }
 
   -- a well-formed replacement has no bad record
-  pub never-flawed : recordsOf sheetVersion new .verdict ≡ Good → (h : at < length new) → EntryTold Flawed sheetVersion (take (length new - at) (drop at new)) → ⊥
+  pub never-flawed : recordsOf sheetVersion new .verdict ≡ Good → (h : at < length new)
+      → EntryTold Flawed sheetVersion (take (length new - at) (drop at new)) → ⊥
   never-flawed e h T =
       let q : Refusal 12 (G .number) ≡ Good = sym (ap (λ (x : Result). x .verdict) (flawed-at sheetVersion new at h T (G .place) (G .number))) ∙ G .verdict ∙ e in
       let z : _≡_ {A = ℕ} 0 1 = cc in
@@ -88,7 +92,8 @@ module _ (new : List ℕ) (pen : Pen) (l d : List ℕ) (at : ℕ) (next : Pen) (
       let e : recordsOf sheetVersion new .records ≡ G .so-far = G .records ∙ ap (λ (x : Result). G .so-far ++ x .records) (none-at sheetVersion new at (G .place) (G .number) h) ∙ append-nil (G .so-far) in
       record { written = rw e (G .written); fits = G .fits; few-bytes = G .few-bytes; few-records = omega (arith, G .few-records, G .inside) }
 
-  pub putting-more : (h : at < length new) (n : ℕ) (f : Fields) (k : ℕ) → EntryTold (Whole n f k) sheetVersion (take (length new - at) (drop at new)) → (next′ : Pen) (l″ d″ : List ℕ)
+  pub putting-more : (h : at < length new) (n : ℕ) (f : Fields) (k : ℕ) → EntryTold (Whole n f k) sheetVersion (take (length new - at) (drop at new))
+      → (next′ : Pen) (l″ d″ : List ℕ)
       → Emits next l′ (recordOf f (part new (at + k) (at + n))) d′ d″ next′ l″ → Putting new pen l d (at + n) next′ l″ d″
   putting-more h n f k T next′ l″ d″ E =
       let r = recordOf f (part new (at + k) (at + n)) in

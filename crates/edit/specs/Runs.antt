@@ -1,48 +1,45 @@
 -- An edit of an old file, from its parts to the answer. Assumes nothing.
-use Prim.Native.Nat.{ℕ, _+_, _≤_}
+use Prim.Native.Nat.{ℕ, _≤_}
 use mathlib.Core.Path.{_≡_}
-use mathlib.Core.Bool.{true}
 use mathlib.Core.List.{List}
-use lib.ListN.{length}
-use Rattle.format.specs.Header.{Header, fileLimit}
+use lib.ListN.{length, take}
+use Rattle.format.specs.Header.{Header}
 use Rattle.format.specs.Sheet.{sheetVersion, recordsOf}
 use Rattle.format.specs.Refusals.{Result, bufferOf}
-use Rattle.format.specs.declared.Verdict.the-variants.{Good}
-use Rattle.format.specs.Reading.{itemsOf}
+use Rattle.format.specs.declared.Verdict.{Verdict}
+use Rattle.format.specs.declared.Verdict.the-variants.{Good, Refusal}
 use Rattle.format.specs.Writing.{v8, fileOf, writtenOutcome}
-use Rattle.format.specs.Editing.{houseWritten, edited, editOutcome, editBuffer}
+use Rattle.format.specs.Editing.{edited, editOutcome, editBuffer}
 use Rattle.format.specs.Answers.{answerOf}
 use Rattle.format.specs.declared.Answer.{Answer}
-use Rattle.header.specs.Head.{saying, Opens}
-use Rattle.edit.specs.declared.Old.{Old}
-use Rattle.edit.specs.declared.Run.{Run}
+use Rattle.house.specs.Judging.{OldOpens, oldResult, Cuts}
+use Rattle.house.specs.declared.Run.{Run}
+use Rattle.edit.specs.declared.Splice.{Splice}
+use Rattle.edit.specs.declared.Flaw.{Flaw}
+use Rattle.edit.specs.declared.Flaw.the-variants.{Unflawed, At}
 
--- the old file's header
-abbrev pub oldHeader : List ℕ → Old → Header
-oldHeader file old = saying (old .extended) (old .title) (old .time) file
-
--- it is whole
-abbrev pub OldOpens : List ℕ → Old → Type 0
-OldOpens file old = Opens file (old .version) (old .place) (old .extended) (old .title) (old .time)
+-- 12, with the record's number within the replacement as its place
+abbrev pub flawVerdict : Flaw → Verdict
+flawVerdict Unflawed = Good
+flawVerdict (At n) = Refusal 12 n
 
 -- the records of the edited sheet, of a replacement with nothing wrong in it
-abbrev pub editedAt : ℕ → List ℕ → ℕ → Run → List ℕ → Result
-editedAt version file start run new = record { records = edited (itemsOf version start file .records) (run .first) (run .count) (recordsOf sheetVersion new .records); verdict = Good }
+abbrev pub editedAt : List ℕ → Splice → List ℕ → Result
+editedAt file cut new = record { records = edited (oldResult file (cut .old) .records) (cut .run .first) (cut .run .count) (recordsOf sheetVersion new .records); verdict = Good }
 
--- the run is one of the old file's, and the replacement is well-formed
-pub record Cuts (version : ℕ) (file : List ℕ) (start : ℕ) (run : Run) (new : List ℕ) : Type 0 where
-  pub inside : start ≤ length file
-  pub small : length file ≤ fileLimit
-  pub all : run .first + (run .count + run .rest) ≡ length (itemsOf version start file .records)
-  pub few : length (itemsOf version start file .records) ≤ length file
+-- a house-written file with a run of its records; the labels before the run and behind it are in b and b′
+pub record CutAt (file : List ℕ) (cut : Splice) (b b′ : List ℕ) : Type 0 where
+  pub opens : OldOpens file (cut .old)
+  pub cuts : Cuts file (cut .old) (cut .run) (cut .front) b (cut .back) b′ (cut .rest)
+
+-- and a replacement that is well-formed
+pub record Spliced (file : List ℕ) (cut : Splice) (new b b′ : List ℕ) : Type 0 where
+  pub at : CutAt file cut b b′
   pub well-formed : recordsOf sheetVersion new .verdict ≡ Good
 
--- a house-written file of so many records
-pub record HouseOf (file : List ℕ) (old : Old) (records : ℕ) : Type 0 where
-  pub readable : itemsOf (old .version) (old .place) file .verdict ≡ Good
-  pub counted : records ≡ length (itemsOf (old .version) (old .place) file .records)
-  pub few : records ≤ length file
-  pub house : houseWritten file (oldHeader file old) (itemsOf (old .version) (old .place) file .records) ≡ true
+-- where there is room for them, the old bytes before the run stand at the front of d
+abbrev pub FrontStands : List ℕ → ℕ → List ℕ → Type 0
+FrontStands file at d = at ≤ length d → take at d ≡ take at file
 
 -- a header and records are written into d, which leaves d′
 pub record Writes (h : Header) (x : Result) (d d′ : List ℕ) (r : Answer) : Type 0 where
@@ -50,6 +47,6 @@ pub record Writes (h : Header) (x : Result) (d d′ : List ℕ) (r : Answer) : T
   pub buffer : d′ ≡ bufferOf (writtenOutcome v8 h x (length d)) (fileOf v8 h (x .records)) d
 
 -- the answer and the buffer are those of the edit
-pub record Edits (file : List ℕ) (first count : ℕ) (new d d′ : List ℕ) (r : Answer) : Type 0 where
-  pub answer : answerOf r ≡ editOutcome file first count new (length d)
-  pub buffer : d′ ≡ editBuffer file first count new d
+pub record Edits (file : List ℕ) (run : Run) (new d d′ : List ℕ) (r : Answer) : Type 0 where
+  pub answer : answerOf r ≡ editOutcome file (run .first) (run .count) new (length d)
+  pub buffer : d′ ≡ editBuffer file (run .first) (run .count) new d

@@ -1,32 +1,41 @@
-// Editing: a run of a house-written file's records is replaced, and the edited sheet is
-// written as writing it afresh would.
+// Editing: a run of a house-written file's records is replaced. The edited file is the old
+// bytes before the run, the replacement's codes, the records behind the run written anew
+// until reading the old file and writing the new one are in the same state, and from
+// there on the old bytes.
 use format::Answer;
+use format::FILE_LIMIT;
 use format::Fields;
 use format::LABEL_LIMIT;
+use format::Position;
 use format::SHEET_VERSION;
 use format::Setting;
 use header::Head;
 use house::Judged;
-use records::Found;
+use house::Old;
+use house::Run;
+use house::Taken;
+use label::Label;
 use records::Place;
 use tally::Tally;
 ghost use mathlib.Core.Path.{_≡_};
 ghost use Prim.Native.Nat.{_+_, _≤_};
-ghost use lib.ListN.{length, take};
+ghost use lib.ListN.{length, take, drop};
 ghost use Rattle.format.specs.Answers.{answerOf};
+ghost use Rattle.format.specs.Codes.{codesLimit, closing};
 ghost use Rattle.format.specs.Editing.{editOutcome, editBuffer};
 ghost use Rattle.format.specs.Fields.{recordOf, stateOf};
-ghost use Rattle.format.specs.Sheet.{sheetVersion, recordsOf};
-ghost use Rattle.format.specs.declared.Verdict.the-variants.{Good};
-ghost use Rattle.format.specs.WellFormed.{WellFormed};
-ghost use Rattle.format.specs.Refusals.{refusalAt};
-ghost use Rattle.format.specs.Writing.{v8};
-ghost use Rattle.format.specs.Codes.{codesLimit, closing};
 ghost use Rattle.format.specs.Header.{fileLimit};
-ghost use Rattle.tally.specs.Tallies.{Fits, Adds, Finished, Rest, Passed};
-ghost use Rattle.edit.specs.Pens.{PenFits, Emits, Before, Passes, Ready, WentOn, PutsNew};
-ghost use Rattle.edit.specs.Runs.{oldHeader, editedAt, Cuts, OldOpens, HouseOf, Writes, Edits};
 ghost use Rattle.format.specs.Label.{labelLimit};
+ghost use Rattle.format.specs.Sheet.{sheetVersion, recordsOf};
+ghost use Rattle.format.specs.WellFormed.{WellFormed};
+ghost use Rattle.format.specs.Writing.{v8};
+ghost use Rattle.format.specs.declared.Verdict.the-variants.{Good};
+ghost use Rattle.records.specs.Places.{stateAt};
+ghost use Rattle.house.specs.Judging.{oldHeader, OldOpens};
+ghost use Rattle.tally.specs.Tallies.{Fits, Adds, Finished, Rest, Passed};
+ghost use Rattle.wire.specs.Laid.{laidIf};
+ghost use Rattle.edit.specs.Pens.{penState, samePosition, sameState, PenFits, Emits, PutsNew, Behind, WentOn};
+ghost use Rattle.edit.specs.Runs.{editedAt, flawVerdict, CutAt, Spliced, FrontStands, Writes, Edits};
 
 // What the codes of the next record find, with the counts so far. The label's bytes are
 // lent beside it.
@@ -36,26 +45,27 @@ struct Pen {
     len: usize,
 }
 
-// Where reading the old file stands, and the pen.
+// Where reading the old file stands, with so many records to follow, and the pen.
 struct Went {
     place: Place,
     pen: Pen,
+    left: usize,
 }
 
-// The old file's header, as opening it found it.
-struct Old {
-    version: u8,
-    place: usize,
-    extended: u8,
-    title: usize,
-    time: usize,
-}
-
-// A run of `count` records from `first` on, with `rest` records behind it.
-struct Run {
-    first: usize,
-    count: usize,
+// An old file with a run of its records: where reading stands before the run and behind
+// it, with `rest` records to follow.
+struct Splice {
+    old: Old,
+    run: Run,
+    front: Place,
+    back: Place,
     rest: usize,
+}
+
+// Whether a replacement has a bad record.
+enum Flaw {
+    Unflawed,
+    At { number: usize },
 }
 
 // ---- one record
@@ -115,64 +125,81 @@ fn put_named(
     put_one(out, pen, last, &own[..n], fields)
 }
 
-// ---- runs of records
+// ---- the records behind the run
 
-// The next `limit` records of the old file.
-fn put_old(
+// Whether both positions are unset, or are one place.
+fn same_position(a: Position, b: Position) -> bool
+    ensures { λ r. ⌜ r ≡ samePosition a b ⌝ }
+{
+    match a {
+        Position::Unset => match b {
+            Position::Unset => true,
+            Position::Stands { point: _ } => false,
+        },
+        Position::Stands { point } => codes::stands_at(b, point),
+    }
+}
+
+// Whether reading the old file and writing the new one are in the same state: style,
+// date, position and label are all that a record finds.
+fn level(place: Place, name: &[u8; LABEL_LIMIT], pen: Pen, last: &[u8; LABEL_LIMIT]) -> bool
+    requires { ⌜ (place .len ≤ labelLimit) × (length (now name) ≡ labelLimit) × PenFits pen (now last) ⌝ }
+    ensures { λ r. ⌜ r ≡ sameState (stateAt place (now (name .entry))) (penState pen (now (last .entry))) ⌝ }
+{
+    let read = place.setting;
+    let written = pen.setting;
+    let old_date = read.date;
+    let date = written.date;
+    let old_position = read.position;
+    let position = written.position;
+    if read.style != written.style {
+        return false;
+    }
+    if !codes::same_date(old_date, date) {
+        return false;
+    }
+    if !same_position(old_position, position) {
+        return false;
+    }
+    let own = &name[..];
+    let other = &last[..];
+    let n = place.len;
+    let m = pen.len;
+    wire::same_bytes(&own[..n], &other[..m])
+}
+
+// The records behind the run, written anew until the states are the same.
+fn put_behind(
     file: &[u8],
-    version: u8,
-    from: Place,
+    from: Went,
     name: &mut [u8; LABEL_LIMIT],
     out: &mut [u8],
-    pen: Pen,
     last: &mut [u8; LABEL_LIMIT],
-    limit: usize,
 ) -> Went
-    requires { ⌜ Ready version (now file) from (now name) pen (now last) limit ⌝ }
-    ensures { λ r. ⌜ WentOn version (now (file .entry)) from (now (name .entry)) pen (now (last .entry)) (now (out .entry)) limit r (now (name .exit)) (now (last .exit)) (now (out .exit)) ⌝ }
+    requires { ⌜ Behind (now file) from (now name) (now last) ⌝ }
+    ensures { λ r. ⌜ WentOn (now (file .entry)) from (now (name .entry)) (now (last .entry)) (now (out .entry)) r (now (name .exit)) (now (last .exit)) (now (out .exit)) ⌝ }
 {
-    let mut place = from;
-    let mut next = pen;
-    let mut left = limit;
+    let mut room = house::room();
+    let mut spare = label::blank();
+    let mut place = from.place;
+    let mut pen = from.pen;
+    let mut left = from.left;
     while 0 < left {
-        let found = records::next_record(file, version, place, name);
-        let Found::Record { place: to, fields } = found else {
-            return Went { place, pen: next };
+        if level(place, name, pen, last) {
+            return Went { place, pen, left };
+        }
+        let taken = house::take_record(file, place, name, &mut spare.bytes, &mut room);
+        let Taken::Record { place: to, fields } = taken else {
+            return Went { place, pen, left };
         };
-        next = put_named(out, next, last, name, to.len, fields);
+        pen = put_named(out, pen, last, name, to.len, fields);
         place = to;
         left -= 1;
     }
-    Went { place, pen: next }
+    Went { place, pen, left }
 }
 
-// Passes over the next `limit` records of the old file.
-fn pass_over(
-    file: &[u8],
-    version: u8,
-    from: Place,
-    name: &mut [u8; LABEL_LIMIT],
-    limit: usize,
-) -> Place
-    requires { ⌜ Before version (now file) from (now name) limit ⌝ }
-    ensures { λ r. ⌜ Passes version (now (file .entry)) from (now (name .entry)) limit r (now (name .exit)) ⌝ }
-{
-    let mut place = from;
-    let mut left = limit;
-    while 0 < left {
-        let found = records::next_record(file, version, place, name);
-        let Found::Record {
-            place: to,
-            fields: _,
-        } = found
-        else {
-            return place;
-        };
-        place = to;
-        left -= 1;
-    }
-    place
-}
+// ---- the replacement
 
 // The records of a replacement that is well-formed.
 fn put_new(new: &[u8], out: &mut [u8], pen: Pen, last: &mut [u8; LABEL_LIMIT]) -> Pen
@@ -194,10 +221,9 @@ fn put_new(new: &[u8], out: &mut [u8], pen: Pen, last: &mut [u8; LABEL_LIMIT]) -
     next
 }
 
-// The first bad record of a replacement, as its number and one; 0 where all are
-// well-formed.
-fn first_flaw(new: &[u8]) -> usize
-    ensures { λ r. ⌜ refusalAt 12 r ≡ recordsOf sheetVersion (now (new .entry)) .verdict ⌝ }
+// The first bad record of a replacement.
+fn first_flaw(new: &[u8]) -> Flaw
+    ensures { λ r. ⌜ flawVerdict r ≡ recordsOf sheetVersion (now (new .entry)) .verdict ⌝ }
 {
     let mut at: usize = 0;
     let mut number: usize = 0;
@@ -209,74 +235,60 @@ fn first_flaw(new: &[u8]) -> usize
             from: _,
         } = entry
         else {
-            return number + 1;
+            return Flaw::At { number };
         };
         number += 1;
         at += size;
     }
-    0
+    Flaw::Unflawed
 }
 
 // ---- the edited file
 
-// The records of the edited sheet and the closing codes, written where they fit into
-// out from `head` on: the answer, for room enough.
-fn put_edited(
-    file: &[u8],
-    version: u8,
-    start: usize,
-    run: Run,
-    new: &[u8],
-    out: &mut [u8],
-    head: usize,
-) -> Answer
-    requires { ⌜ Cuts version (now file) start run (now new) × (head ≤ 8192) ⌝ }
-    ensures { λ r. ⌜ Rest v8 (editedAt version (now (file .entry)) start run (now (new .entry))) head (now (out .entry)) (now (out .exit)) r ⌝ }
+// Bytes laid into out from `at` on, where they fit.
+fn lay(out: &mut [u8], at: usize, s: &[u8])
+    requires { ⌜ (at ≤ fileLimit + codesLimit) × (length (now s) ≤ fileLimit) ⌝ }
+    ensures { λ _. ⌜ now (out .exit) ≡ laidIf (now (out .entry)) at (now (s .entry)) ⌝ }
 {
-    let mut name = label::blank();
-    let mut last = label::blank();
-    let place = records::first_place(start);
-    let setting = place.setting;
-    let count = Tally {
-        bytes: head,
-        records: 0,
-        fault: 0,
-    };
-    let pen = Pen {
-        count,
-        setting,
-        len: 0,
-    };
-    let first = run.first;
-    let before = put_old(
-        file,
-        version,
-        place,
-        &mut name.bytes,
-        out,
-        pen,
-        &mut last.bytes,
-        first,
-    );
-    let written = before.pen;
-    let replaced = put_new(new, out, written, &mut last.bytes);
-    let reached = before.place;
-    let behind = pass_over(file, version, reached, &mut name.bytes, run.count);
-    let rest = run.rest;
-    let after = put_old(
-        file,
-        version,
-        behind,
-        &mut name.bytes,
-        out,
-        replaced,
-        &mut last.bytes,
-        rest,
-    );
-    close(out, after.pen)
+    let end = at + s.len();
+    if out.len() < end {
+        return;
+    }
+    wire::copy_words(s, &mut out[at..]);
 }
 
-// The end of the edited file.
+// The end of the edited file: the old bytes from `at` on, which hold `left` records, and
+// the answer, for room enough.
+fn put_tail(file: &[u8], at: usize, out: &mut [u8], count: Tally, left: usize) -> Answer
+    requires { ⌜ (at ≤ length (now file)) × (length (now file) ≤ fileLimit) × (count .bytes ≤ fileLimit + codesLimit) × (count .records + left ≤ 18446744073709551615) ⌝ }
+    ensures { λ r. ⌜ Finished v8 (now (out .entry)) (now (out .exit)) (drop at (now (file .entry))) (record { bytes = count .bytes; records = count .records + left; fault = count .fault }) r ⌝ }
+{
+    let fault = count.fault;
+    if fault != 0 {
+        return Answer::Refused {
+            number: 13,
+            place: fault - 1,
+        };
+    }
+    let total = count.bytes;
+    let tail = &file[at..];
+    let bytes = total + tail.len();
+    let records = count.records + left;
+    lay(out, total, tail);
+    if FILE_LIMIT < bytes {
+        return Answer::Refused {
+            number: 16,
+            place: 0,
+        };
+    }
+    Answer::Done {
+        bytes,
+        records,
+        version: 8,
+    }
+}
+
+// The same where no record is left: the closing codes.
 fn close(out: &mut [u8], pen: Pen) -> Answer
     requires { ⌜ Fits v8 (pen .count) ⌝ }
     ensures { λ r. ⌜ Finished v8 (now (out .entry)) (now (out .exit)) (closing (pen .setting .style)) (pen .count) r ⌝ }
@@ -286,25 +298,83 @@ fn close(out: &mut [u8], pen: Pen) -> Answer
     tally::finish(out, setting.style, count.bytes, count.records, count.fault)
 }
 
-// A pass over the edited sheet: the answer, for room enough, and each piece written
-// where it fits.
-fn pass(file: &[u8], old: Old, run: Run, new: &[u8], out: &mut [u8]) -> Answer
-    requires { ⌜ OldOpens (now file) old × Cuts (old .version) (now file) (old .place) run (now new) ⌝ }
-    ensures { λ r. ⌜ Passed v8 (oldHeader (now (file .entry)) old) (editedAt (old .version) (now (file .entry)) (old .place) run (now (new .entry))) (now (out .entry)) (now (out .exit)) r ⌝ }
+// The edited file from the run on, behind the old bytes before it.
+fn put_edited(
+    file: &[u8],
+    cut: Splice,
+    new: &[u8],
+    out: &mut [u8],
+    before: Label,
+    behind: Label,
+) -> Answer
+    requires { ⌜ Spliced (now file) cut (now new) (before .bytes) (behind .bytes) × FrontStands (now file) (cut .front .at) (now out) ⌝ }
+    ensures { λ r. ⌜ Rest v8 (editedAt (now (file .entry)) cut (now (new .entry))) (cut .old .place) (now (out .entry)) (now (out .exit)) r ⌝ }
 {
-    let title = 24 + old.title;
-    let from = title + 1;
-    let time = from + old.time;
-    let head = ends::put_header(out, old.extended, &file[24..title], &file[from..time]);
-    put_edited(file, old.version, old.place, run, new, out, head)
+    let mut last = before;
+    let mut name = behind;
+    let front = cut.front;
+    let run = cut.run;
+    let count = Tally {
+        bytes: front.at,
+        records: run.first,
+        fault: 0,
+    };
+    let setting = front.setting;
+    let pen = Pen {
+        count,
+        setting,
+        len: front.len,
+    };
+    let replaced = put_new(new, out, pen, &mut last.bytes);
+    let back = cut.back;
+    let from = Went {
+        place: back,
+        pen: replaced,
+        left: cut.rest,
+    };
+    let met = put_behind(file, from, &mut name.bytes, out, &mut last.bytes);
+    let left = met.left;
+    let written = met.pen;
+    if left == 0 {
+        return close(out, written);
+    }
+    let place = met.place;
+    let total = written.count;
+    put_tail(file, place.at, out, total, left)
+}
+
+// A pass over the edited file: the answer, for room enough, and each piece written where
+// it fits.
+fn pass(
+    file: &[u8],
+    cut: Splice,
+    new: &[u8],
+    out: &mut [u8],
+    before: Label,
+    behind: Label,
+) -> Answer
+    requires { ⌜ Spliced (now file) cut (now new) (before .bytes) (behind .bytes) ⌝ }
+    ensures { λ r. ⌜ Passed v8 (oldHeader (now (file .entry)) (cut .old)) (editedAt (now (file .entry)) cut (now (new .entry))) (now (out .entry)) (now (out .exit)) r ⌝ }
+{
+    let front = cut.front;
+    let end = front.at;
+    lay(out, 0, &file[..end]);
+    put_edited(file, cut, new, out, before, behind)
 }
 
 // Writes the edited file. The first pass, lent no bytes, gives the answer.
-fn write_edited(file: &[u8], old: Old, run: Run, new: &[u8], out: &mut [u8]) -> Answer
-    requires { ⌜ OldOpens (now file) old × Cuts (old .version) (now file) (old .place) run (now new) ⌝ }
-    ensures { λ r. ⌜ Writes (oldHeader (now (file .entry)) old) (editedAt (old .version) (now (file .entry)) (old .place) run (now (new .entry))) (now (out .entry)) (now (out .exit)) r ⌝ }
+fn write_edited(
+    file: &[u8],
+    cut: Splice,
+    new: &[u8],
+    out: &mut [u8],
+    before: Label,
+    behind: Label,
+) -> Answer
+    requires { ⌜ Spliced (now file) cut (now new) (before .bytes) (behind .bytes) ⌝ }
+    ensures { λ r. ⌜ Writes (oldHeader (now (file .entry)) (cut .old)) (editedAt (now (file .entry)) cut (now (new .entry))) (now (out .entry)) (now (out .exit)) r ⌝ }
 {
-    let answer = pass(file, old, run, new, &mut out[..0]);
+    let answer = pass(file, cut, new, &mut out[..0], before, behind);
     match answer {
         Answer::Refused { number, place } => Answer::Refused { number, place },
         Answer::Done {
@@ -318,7 +388,7 @@ fn write_edited(file: &[u8], old: Old, run: Run, new: &[u8], out: &mut [u8]) -> 
                     place: bytes,
                 };
             }
-            pass(file, old, run, new, &mut out[..bytes]);
+            pass(file, cut, new, &mut out[..bytes], before, behind);
             Answer::Done {
                 bytes,
                 records,
@@ -328,80 +398,58 @@ fn write_edited(file: &[u8], old: Old, run: Run, new: &[u8], out: &mut [u8]) -> 
     }
 }
 
-// The edit of a file that was opened: 14, 15 and 12 of the replacement come before the
-// writer's refusals.
-fn edit_opened(
+// The edit of a house-written file: 12 of the replacement comes before the writer's
+// refusals.
+fn edit_house(
     file: &[u8],
-    old: Old,
-    first: usize,
-    count: usize,
+    cut: Splice,
     new: &[u8],
     out: &mut [u8],
+    before: Label,
+    behind: Label,
 ) -> Answer
-    requires { ⌜ OldOpens (now file) old ⌝ }
-    ensures { λ r. ⌜ Edits (now (file .entry)) first count (now (new .entry)) (now (out .entry)) (now (out .exit)) r ⌝ }
+    requires { ⌜ CutAt (now file) cut (before .bytes) (behind .bytes) ⌝ }
+    ensures { λ r. ⌜ Edits (now (file .entry)) (cut .run) (now (new .entry)) (now (out .entry)) (now (out .exit)) r ⌝ }
 {
-    let judged = house::judge(
-        file,
-        old.version,
-        old.place,
-        old.extended,
-        old.title,
-        old.time,
-    );
-    match judged {
-        Judged::Refused { number, place } => Answer::Refused { number, place },
-        Judged::Whole { records, house } => {
-            if !house {
-                return Answer::Refused {
-                    number: 14,
-                    place: 0,
-                };
-            }
-            edit_house(file, old, records, first, count, new, out)
-        }
+    let flaw = first_flaw(new);
+    match flaw {
+        Flaw::At { number } => Answer::Refused {
+            number: 12,
+            place: number,
+        },
+        Flaw::Unflawed => write_edited(file, cut, new, out, before, behind),
     }
 }
 
-// The edit of a house-written file of so many records.
-fn edit_house(
-    file: &[u8],
-    old: Old,
-    records: usize,
-    first: usize,
-    count: usize,
-    new: &[u8],
-    out: &mut [u8],
-) -> Answer
-    requires { ⌜ OldOpens (now file) old × HouseOf (now file) old records ⌝ }
-    ensures { λ r. ⌜ Edits (now (file .entry)) first count (now (new .entry)) (now (out .entry)) (now (out .exit)) r ⌝ }
+// The edit of a file that was opened: the reader's refusals, 14 and 15 come first.
+fn edit_opened(file: &[u8], old: Old, run: Run, new: &[u8], out: &mut [u8]) -> Answer
+    requires { ⌜ OldOpens (now file) old ⌝ }
+    ensures { λ r. ⌜ Edits (now (file .entry)) run (now (new .entry)) (now (out .entry)) (now (out .exit)) r ⌝ }
 {
-    if records < first {
-        return Answer::Refused {
+    let mut before = label::blank();
+    let mut behind = label::blank();
+    let judged = house::judge(file, old, run, &mut before.bytes, &mut behind.bytes);
+    match judged {
+        Judged::Refused { number, place } => Answer::Refused { number, place },
+        Judged::Foreign => Answer::Refused {
+            number: 14,
+            place: 0,
+        },
+        Judged::Short { records } => Answer::Refused {
             number: 15,
             place: records,
-        };
+        },
+        Judged::Cut { front, back, rest } => {
+            let cut = Splice {
+                old,
+                run,
+                front,
+                back,
+                rest,
+            };
+            edit_house(file, cut, new, out, before, behind)
+        }
     }
-    let behind = records - first;
-    if behind < count {
-        return Answer::Refused {
-            number: 15,
-            place: records,
-        };
-    }
-    let flaw = first_flaw(new);
-    if flaw != 0 {
-        return Answer::Refused {
-            number: 12,
-            place: flaw - 1,
-        };
-    }
-    let run = Run {
-        first,
-        count,
-        rest: behind - count,
-    };
-    write_edited(file, old, run, new, out)
 }
 
 // Replaces `count` records of a house-written file, from `first` on, by those of `new`,
@@ -427,7 +475,7 @@ pub fn edit(file: &[u8], first: usize, count: usize, new: &[u8], out: &mut [u8])
                 title,
                 time,
             };
-            edit_opened(file, old, first, count, new, out)
+            edit_opened(file, old, Run { first, count }, new, out)
         }
     }
 }

@@ -1,2 +1,5 @@
-mod Match
-pub mod Turn
+mod Briefly
+pub mod One
+pub mod Splice
+pub mod Walk
+pub mod Whole

@@ -94,7 +94,7 @@ pub fn next_record(file: &[u8], version: u8, from: Place, bytes: &mut [u8; LABEL
 }
 
 // A label in a buffer that held another, of len bytes: answers its length.
-fn swap_label(bytes: &mut [u8; LABEL_LIMIT], len: usize, name: &[u8]) -> usize
+pub fn swap_label(bytes: &mut [u8; LABEL_LIMIT], len: usize, name: &[u8]) -> usize
     requires { ⌜ (len ≤ labelLimit) × (length (now bytes) ≡ labelLimit) × (length (now name) ≤ labelLimit) ⌝ }
     ensures { λ r. ⌜ Swaps (now (bytes .exit)) (now (name .entry)) r ⌝ }
 {

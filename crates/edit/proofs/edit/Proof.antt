@@ -27,7 +27,9 @@ same-length : tie.Need-same-length
 same-length c = search needs
 
 returns-2 : tie.Need-returns-2
-returns-2 c = search needs
+returns-2 c =
+    let E = c .before .before .edit-opened .ensures in
+    (E .answer, E .buffer)
 
 pub edit-spec : {M : Type 1} → statement M
 edit-spec =

@@ -41,10 +41,6 @@ enum-known-entry c = search needs
 enum-told : tie.Need-enum-told Inv-loop μ-loop
 enum-told c = search needs
 
-add-result : tie.Need-add-result Inv-loop μ-loop
-add-result c =
-    omega (arith, c .before .before .before .before .before .loop .inv .counted, c .before .before .before .before .before .loop .inv .inside, c .before .before .before .before .before .before .before .good)
-
 returns : tie.Need-returns Inv-loop μ-loop
 returns c =
     flaw-here _ _ _ (c .before .before .before .before .before .loop .inv) (c .before .before .before .before .loop-test .taken) (rw (c .enum-told .given .1) at (c .before .before .read-entry .ensures))
@@ -82,7 +78,6 @@ first-flaw-spec =
     read-entry-requires
     enum-known-entry
     enum-told
-    add-result
     returns
     add-number
     add-at

@@ -1,86 +1,42 @@
 -- `edit::pass` meets its contract. Assumes nothing.
-use native.Mathlib.Omega.{arith}
-use lib.ListN.{length-take, length-drop}
-use Rattle.edit.proofs.Whole.{pass-edited}
+use mathlib.Core.Path.{sym}
+use lib.Seq.{length-take-le}
+use Rattle.edit.proofs.Whole.{front-laid, pass-spliced}
 use borrow.Author.Needs.{needs}
+use native.Mathlib.Omega.{arith}
 use Rattle.edit.proofs.pass.Statement.{statement}
 use Rattle.edit.proofs.pass.Tie as tie
 
-add-title : tie.Need-add-title
-add-title c =
-    let r = c .before .before .before .before .pre .0 .room in
-    omega (arith, r .title-fits, r .time-fits, r .place-least, r .inside, r .file-fits)
+slice-aggregate-lay : tie.Need-slice-aggregate-lay
+slice-aggregate-lay c =
+    sym (length-take-le _ _ (c .before .before .before .before .before .before .pre .at .cuts .before .inside .place-inside))
 
-add-from : tie.Need-add-from
-add-from c =
-    let r = c .before .before .before .before .pre .0 .room in
-    omega (arith, r .title-fits, r .time-fits, r .place-least, r .inside, r .file-fits)
-
-add-time : tie.Need-add-time
-add-time c =
-    let r = c .before .before .before .before .before .pre .0 .room in
-    omega (arith, r .title-fits, r .time-fits, r .place-least, r .inside, r .file-fits)
-
-sub-put-header : tie.Need-sub-put-header
-sub-put-header c =
-    let r = c .before .before .before .before .before .before .pre .0 .room in
-    omega (arith, r .title-fits, r .time-fits, r .place-least, r .inside, r .file-fits)
-
-part-put-header-start : tie.Need-part-put-header-start
-part-put-header-start c =
-    let r = c .before .before .before .before .before .before .pre .0 .room in
-    omega (arith, r .title-fits, r .time-fits, r .place-least, r .inside, r .file-fits)
-
-part-put-header-end : tie.Need-part-put-header-end
-part-put-header-end c =
-    let r = c .before .before .before .before .before .before .pre .0 .room in
-    omega (arith, r .title-fits, r .time-fits, r .place-least, r .inside, r .file-fits)
-
-sub-put-header-2 : tie.Need-sub-put-header-2
-sub-put-header-2 c =
-    let r = c .before .before .before .before .before .before .before .pre .0 .room in
-    omega (arith, r .title-fits, r .time-fits, r .place-least, r .inside, r .file-fits)
-
-part-put-header-start-2 : tie.Need-part-put-header-start-2
-part-put-header-start-2 c =
-    let r = c .before .before .before .before .before .before .before .pre .0 .room in
-    omega (arith, r .title-fits, r .time-fits, r .place-least, r .inside, r .file-fits)
-
-part-put-header-end-2 : tie.Need-part-put-header-end-2
-part-put-header-end-2 c =
-    let r = c .before .before .before .before .before .before .before .pre .0 .room in
-    omega (arith, r .title-fits, r .time-fits, r .place-least, r .inside, r .file-fits)
-
-put-header-requires : tie.Need-put-header-requires
-put-header-requires c κs =
-    let r = c .before .before .before .before .before .before .before .before .pre .0 .room in
-    (r .flag, simp (length-take, length-drop) (omega (arith, r .title-fits)), simp (length-take, length-drop) (omega (arith, r .time-fits)))
+lay-requires : tie.Need-lay-requires
+lay-requires c κs =
+    let a = c .before .before .before .before .before .before .args in
+    let i = c .before .before .before .before .before .before .pre .at .cuts .before .inside .place-inside in
+    let l = length-take-le (a .cut .front .at) (a .file .now) i in
+    (omega arith, omega (arith, l, i, c .before .before .before .before .before .before .pre .at .opens .room .file-fits))
 
 put-edited-requires : tie.Need-put-edited-requires
 put-edited-requires c κs =
-    (c .before .before .before .before .before .before .before .before .before .before .before .before .pre .1, omega (arith, c .before .before .before .put-header .ensures .most))
+    let a = c .before .before .before .before .before .before .before .before .before .before .args in
+    (c .before .before .before .before .before .before .before .before .before .before .pre, rw (c .before .before .before .lay .ensures) (front-laid (c .before .before .before .before .before .before .before .before .before .before .pre .at) (λ i. c .before .before .before .before .before .before .before .before .before .shared-slice-known .given i .fits) (a .new .now) (a .out .now)))
 
 same-length : tie.Need-same-length
 same-length c = search needs
 
 returns : tie.Need-returns
 returns c =
-    pass-edited (c .before .before .before .before .before .before .before .before .before .before .before .before .before .before .before .args .file .now) (c .before .before .before .before .before .before .before .before .before .before .before .before .before .before .before .args .old) _ _ _ _ _ _ (c .before .before .before .before .before .before .put-header .ensures) (c .before .before .put-edited .ensures)
+    let a = c .before .before .before .before .before .before .before .before .before .before .before .before .before .args in
+    pass-spliced (c .before .before .before .before .before .before .before .before .before .before .before .before .before .pre .at) (λ i. c .before .before .before .before .before .before .before .before .before .before .before .before .shared-slice-known .given i .fits) (a .new .now) (a .out .now) _ _ (rw (c .before .before .before .before .before .before .lay .ensures) at (c .before .before .put-edited .ensures))
 
 pub pass-spec : {M : Type 1} → statement M
 pass-spec =
     tie.close
     (tie.spec
-    add-title
-    add-from
-    add-time
-    sub-put-header
-    part-put-header-start
-    part-put-header-end
-    sub-put-header-2
-    part-put-header-start-2
-    part-put-header-end-2
-    put-header-requires
+    slice-aggregate-lay
+    lay-requires
     put-edited-requires
     same-length
     returns)

@@ -1,97 +1,91 @@
 -- `house::judge` meets its contract. Assumes nothing.
-use borrow.Author.Needs.{needs}
+use borrow.Author.Tests.{not-true, not-false}
+use Rattle.house.specs.Judging.{Begins}
 use native.Mathlib.Omega.{arith}
-use mathlib.Core.Path.{sym, ap, _∙_}
-use lib.Seq.{length-take-le}
-use Rattle.house.specs.Judging.{matchedTo}
-use Rattle.house.proofs.Match.{front-of, matched-few, header-matches}
+use mathlib.Core.Path.{sym, _∙_}
+use Rattle.house.proofs.Whole.{header-ours, header-foreign, fails-judges, begins-first, begins-ready, begins-refused, begins-foreign, first-then, first-short}
+use borrow.Author.Needs.{needs}
 use Rattle.house.proofs.judge.Statement.{statement}
 use Rattle.house.proofs.judge.Tie as tie
+use Rattle.house.proofs.judge.Reads as reads
 
-add-ends : tie.Need-add-ends
-add-ends c = search needs
+begun : (y : tie.After-first-place) → Begins (y .before .before .before .before .args .file .now) (y .before .before .before .before .args .old) 0 (y .first-place .result) (y .before .before .before .before .args .before .now)
+begun y =
+    let p = y .before .before .before .before .pre in
+    begins-first _ _ (p .0) (header-ours _ _ (p .0) (sym (y .before .before .our-header .ensures) ∙ not-false _ (y .before .if1 .left))) _ _ (y .first-place .ensures) (p .1)
 
-add-from : tie.Need-add-from
-add-from c = search needs
+our-header-requires : tie.Need-our-header-requires
+our-header-requires c κs = c .before .pre .0
 
-add-stops : tie.Need-add-stops
-add-stops c = search needs
-
-room-requires : tie.Need-room-requires
-room-requires c κs = search needs
-
-slice-aggregate-put-header : tie.Need-slice-aggregate-put-header
-slice-aggregate-put-header c = search needs
-
-sub-put-header : tie.Need-sub-put-header
-sub-put-header c = search needs
-
-part-put-header-start : tie.Need-part-put-header-start
-part-put-header-start c = search needs
-
-part-put-header-end : tie.Need-part-put-header-end
-part-put-header-end c = search needs
-
-sub-put-header-2 : tie.Need-sub-put-header-2
-sub-put-header-2 c = search needs
-
-part-put-header-start-2 : tie.Need-part-put-header-start-2
-part-put-header-start-2 c = search needs
-
-part-put-header-end-2 : tie.Need-part-put-header-end-2
-part-put-header-end-2 c = search needs
-
-put-header-requires : tie.Need-put-header-requires
-put-header-requires c κs = search needs
-
-array-share-prefix-room : tie.Need-array-share-prefix-room
-array-share-prefix-room c = search needs
-
-slice-aggregate-matched : tie.Need-slice-aggregate-matched
-slice-aggregate-matched c =
-    let P = c .before .before .put-header .ensures in
-    let w = c .before .before .before .before .before .before .room .ensures in
-    sym (length-take-le _ _ (omega (arith, P .most, P .kept, w)))
-
-matched-requires : tie.Need-matched-requires
-matched-requires c κs =
-    let P = c .before .before .put-header .ensures in
-    let w = c .before .before .before .before .before .before .room .ensures in
-    let l = length-take-le (c .before .before .put-header .result) (c .before .before .put-header .last .0) (omega (arith, P .most, P .kept, w)) in
-    (omega arith, omega (arith, l, P .most))
-
-judge-records-requires : tie.Need-judge-records-requires
-judge-records-requires c κs =
-    let r = c .before .before .before .before .before .before .before .before .before .pre .1 in
-    (r .file-fits, r .inside, rw (c .matched .ensures) (matched-few _ _ (r .file-fits) _))
+foreign-requires : tie.Need-foreign-requires
+foreign-requires c κs = c .before .before .before .pre .0 .room .inside
 
 returns : tie.Need-returns
 returns c =
-    let a = c .before .before .before .before .before .before .before .before .before .before .args in
-    let r = c .before .before .before .before .before .before .before .before .before .before .pre .1 in
-    let P = c .before .before .before .before .put-header .ensures in
-    let w = c .before .before .before .before .before .before .before .before .room .ensures in
-    let e = c .before .matched .ensures ∙ ap (matchedTo _ 0) (front-of P (omega (arith, P .most, w))) in
-    c .judge-records .ensures _ (header-matches (a .file .now) (a .extended) (a .title) (a .time) (r .file-fits) _ e)
+    fails-judges (c .before .before .before .before .args .file .now) (c .before .before .before .before .args .old) (c .before .before .before .before .pre .0) (c .before .before .before .before .args .run) (c .foreign .result) _ _ (c .foreign .ensures) (header-foreign _ _ (c .before .before .before .before .pre .0) (sym (c .before .before .our-header .ensures) ∙ not-true _ (c .before .if1 .taken)))
+
+first-place-requires : tie.Need-first-place-requires
+first-place-requires c κs = search needs
+
+judge-records-requires : tie.Need-judge-records-requires
+judge-records-requires c κs =
+    begins-ready (begun (c .before)) (λ i. c .before .before .before .before .shared-slice-known .given i .fits)
+
+enum-known-one : tie.Need-enum-known-one
+enum-known-one c = search needs
+
+enum-told : tie.Need-enum-told
+enum-told c = search needs
+
+foreign-requires-2 : tie.Need-foreign-requires-2
+foreign-requires-2 c κs =
+    c .before .before .before .before .before .before .before .before .pre .0 .room .inside
+
+enum-known-one-2 : tie.Need-enum-known-one-2
+enum-known-one-2 c = search needs
+
+enum-known-one-3 : tie.Need-enum-known-one-3
+enum-known-one-3 c = search needs
+
+judge-run-requires : tie.Need-judge-run-requires
+judge-run-requires c κs =
+    let T = rw (c .before .before .before .one3 .given .1) at (c .before .before .before .before .before .judge-records .ensures) in
+    (first-then (begun (c .before .before .before .before .before .before .before)) T, c .before .before .before .before .before .before .before .before .before .before .before .pre .2)
+
+returns-2 : tie.Need-returns-2
+returns-2 c =
+    let T = rw (c .before .one .given .1) at (c .before .before .before .judge-records .ensures) in
+    begins-refused (begun (c .before .before .before .before .before)) _ _ T
+
+returns-3 : tie.Need-returns-3
+returns-3 c =
+    let T = rw (c .before .enum-told .given .1) at (c .before .before .before .judge-records .ensures) in
+    fails-judges (c .before .before .before .before .before .before .before .before .before .args .file .now) (c .before .before .before .before .before .before .before .before .before .args .old) (c .before .before .before .before .before .before .before .before .before .pre .0) (c .before .before .before .before .before .before .before .before .before .args .run) (c .foreign2 .result) _ _ (c .foreign2 .ensures) (begins-foreign (begun (c .before .before .before .before .before)) T)
+
+returns-4 : tie.Need-returns-4
+returns-4 c =
+    let T = rw (c .before .one2 .given .1) at (c .before .before .before .judge-records .ensures) in
+    first-short (begun (c .before .before .before .before .before)) (c .before .before .before .before .before .before .before .before .before .args .run) (T .0) (omega (arith, T .1))
+
+returns-5 : tie.Need-returns-5
+returns-5 c = c .judge-run .ensures
 
 pub judge-spec : {M : Type 1} → statement M
 judge-spec =
     tie.close
     (tie.spec
-    add-ends
-    add-from
-    add-stops
-    room-requires
-    slice-aggregate-put-header
-    sub-put-header
-    part-put-header-start
-    part-put-header-end
-    sub-put-header-2
-    part-put-header-start-2
-    part-put-header-end-2
-    put-header-requires
-    array-share-prefix-room
-    slice-aggregate-matched
-    matched-requires
+    our-header-requires
+    foreign-requires
+    returns
+    first-place-requires
     judge-records-requires
-    returns)
+    enum-known-one
+    enum-told
+    foreign-requires-2
+    enum-known-one-2
+    enum-known-one-3
+    judge-run-requires
+    returns-2
+    returns-3
+    returns-4
+    returns-5)
