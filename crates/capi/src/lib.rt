@@ -1,16 +1,26 @@
 // The library for C and Rust: each answer as numbers.
 ghost use mathlib.Core.Path.{_≡_};
 ghost use lib.ListN.{length};
+ghost use Rattle.format.specs.Header.{openingOf};
 ghost use Rattle.format.specs.Reading.{readOutcome, readBuffer};
 ghost use Rattle.format.specs.Writing.{v8, writeOutcome, writeBuffer};
 ghost use Rattle.format.specs.Conversion.{convertOutcome, convertBuffer};
 ghost use Rattle.format.specs.Times.{compareOf, laterPart};
-ghost use Rattle.format.specs.Answers.{laterOf};
-ghost use Rattle.told.specs.Numbers.{outcomeNumbers};
+ghost use Rattle.format.specs.Editing.{editOutcome, editBuffer};
+ghost use Rattle.format.specs.Stepping.{openStand, stepOf, stepBuffer};
+ghost use Rattle.format.specs.Answers.{laterOf, openOutcome};
+ghost use Rattle.step.specs.Standing.{Opens};
+ghost use Rattle.step.specs.Going.{nextRecord, nextBuffer};
+ghost use Rattle.held.specs.Numbers.{heldOf, stateStand};
+ghost use Rattle.told.specs.Numbers.{outcomeNumbers, openNumbers, stepNumbers};
 ghost use Rattle.capi.specs.Compares.{comparedOf};
 use format::Handed;
+use format::LABEL_LIMIT;
 use format::Later;
+use held::STAND_NUMBERS;
 use told::AnswerNumbers;
+use told::OpenNumbers;
+use told::StepNumbers;
 
 // Which file is later: 1 the first, 2 the second, with the place and the length of its
 // time line; 0 neither; or 3 and the file that is refused, 1 or 2, with the refusal's
@@ -106,4 +116,79 @@ pub extern "C" fn cockledrift_compare(first: &[u8], second: &[u8]) -> Compared
     let l = timeline::compare(first, second);
     let line = timeline::later_part(first, second);
     tell_later(l, line)
+}
+
+// Replaces `count` records of a house-written v8 file, from `first` on, by those of `new`,
+// and writes the edited file into the lent buffer.
+#[no_mangle]
+pub extern "C" fn cockledrift_edit(
+    file: &[u8],
+    first: usize,
+    count: usize,
+    new: &[u8],
+    out: &mut [u8],
+) -> AnswerNumbers
+    ensures answer { λ r. ⌜ r ≡ outcomeNumbers (editOutcome (now (file .entry)) first count (now (new .entry)) (length (now (out .entry)))) ⌝ }
+    ensures file { λ _. ⌜ now (out .exit) ≡ editBuffer (now (file .entry)) first count (now (new .entry)) (now (out .entry)) ⌝ }
+{
+    let a = edit::edit(file, first, count, new, out);
+    told::tell(a)
+}
+
+// Opens a step reader: where it stands is laid into the lent state. A refused opening
+// gives a reader too, whose every step answers that refusal. The label's buffer may hold
+// anything.
+#[no_mangle]
+pub extern "C" fn cockledrift_open(file: &[u8], state: &mut [u64; STAND_NUMBERS]) -> OpenNumbers
+    ensures answer { λ r. ⌜ r ≡ openNumbers (openOutcome (openingOf (now (file .entry)))) ⌝ }
+    ensures stand { λ _. ⌜ Opens (heldOf (now (state .exit))) (openStand (now (file .entry))) ⌝ }
+{
+    let stand = step::open_at(file);
+    let numbers = held::numbers_of(stand);
+    *state = numbers;
+    let o = step::opened(file);
+    told::tell_open(o)
+}
+
+// One step of a reader, from whatever the state and the label's buffer hold: exactly one
+// item, or the end or the refusal again.
+#[no_mangle]
+pub extern "C" fn cockledrift_step(
+    file: &[u8],
+    state: &mut [u64; STAND_NUMBERS],
+    label: &mut [u8; LABEL_LIMIT],
+    out: &mut [u8],
+) -> StepNumbers
+    ensures answer { λ r. ⌜ r ≡ stepNumbers (stepOf (stateStand (now (state .entry)) (now (label .entry))) (now (file .entry)) (length (now (out .entry))) .answer) ⌝ }
+    ensures stand { λ _. ⌜ stateStand (now (state .exit)) (now (label .exit)) ≡ stepOf (stateStand (now (state .entry)) (now (label .entry))) (now (file .entry)) (length (now (out .entry))) .stand ⌝ }
+    ensures record { λ _. ⌜ now (out .exit) ≡ stepBuffer (stateStand (now (state .entry)) (now (label .entry))) (now (file .entry)) (now (out .entry)) ⌝ }
+{
+    let stand = held::held_of(state);
+    let t = step::step_at(file, stand, label, out);
+    let next = t.stand;
+    let answer = t.answer;
+    let numbers = held::numbers_of(next);
+    *state = numbers;
+    told::tell_step(answer)
+}
+
+// Steps on to the next record, the end or a refusal: never answers 2.
+#[no_mangle]
+pub extern "C" fn cockledrift_next(
+    file: &[u8],
+    state: &mut [u64; STAND_NUMBERS],
+    label: &mut [u8; LABEL_LIMIT],
+    out: &mut [u8],
+) -> StepNumbers
+    ensures answer { λ r. ⌜ r ≡ stepNumbers (nextRecord (stateStand (now (state .entry)) (now (label .entry))) (now (file .entry)) (length (now (out .entry))) .answer) ⌝ }
+    ensures stand { λ _. ⌜ stateStand (now (state .exit)) (now (label .exit)) ≡ nextRecord (stateStand (now (state .entry)) (now (label .entry))) (now (file .entry)) (length (now (out .entry))) .stand ⌝ }
+    ensures record { λ _. ⌜ now (out .exit) ≡ nextBuffer (stateStand (now (state .entry)) (now (label .entry))) (now (file .entry)) (now (out .entry)) ⌝ }
+{
+    let stand = held::held_of(state);
+    let t = step::next_at(file, stand, label, out);
+    let reached = t.stand;
+    let found = t.answer;
+    let numbers = held::numbers_of(reached);
+    *state = numbers;
+    told::tell_step(found)
 }

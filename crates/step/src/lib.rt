@@ -1,22 +1,26 @@
-// Stepping through a file, an item at a time: where a reader stands is a value, and a
-// step takes it and answers the next one.
+// Stepping through a file, an item at a time. Where a reader stands is a small value: the
+// label's bytes stand in a buffer beside it, which is lent to each step and never copied.
 ghost use mathlib.Core.Path.{_≡_};
 ghost use Prim.Native.Nat.{ℕ, _+_, _≤_};
-ghost use lib.ListN.{length};
+ghost use lib.ListN.{length, take};
 ghost use Rattle.format.specs.Header.{openingOf};
 ghost use Rattle.format.specs.Stepping.{openStand, stepOf, stepBuffer};
 ghost use Rattle.format.specs.Answers.{openOutcome, openedOf, steppedOf};
+ghost use Rattle.format.specs.Fields.{stateOf};
 ghost use Rattle.format.specs.Label.{labelLimit};
-ghost use Rattle.step.specs.Standing.{standSeen, lesser, sliceLimit, Fresh, EndStepped, behindItem, RecordStepped, Steps};
+ghost use Rattle.format.specs.Reading.{next};
+ghost use Rattle.step.specs.Standing.{lesser, sliceLimit, Fresh, EndStepped, behindItem, roomFor, Peeks, Recorded, Within, After, Opens, Steps};
+ghost use Rattle.step.specs.Going.{Goes};
 ghost use Rattle.step.specs.declared.Phase.the-variants.{Going};
+use decode::Item;
 use format::Fields;
+use format::Kept;
 use format::LABEL_LIMIT;
 use format::Opened;
 use format::Setting;
 use format::Stepped;
 use header::Head;
 use item::Step;
-use label::Label;
 
 // Whether a reader goes on; or is at the end, or at a refusal, for good.
 pub enum Phase {
@@ -25,12 +29,13 @@ pub enum Phase {
     Refused { number: u8, place: usize },
 }
 
-// Where a reader stands: its phase, the version, the next item's place, and the state.
+// Where a reader stands: its phase, the version, the next item's place, the label's
+// length, and the rest of the state.
 pub struct Stand {
     pub phase: Phase,
     pub version: u8,
     pub place: usize,
-    pub label: Label,
+    pub len: usize,
     pub setting: Setting,
 }
 
@@ -39,6 +44,15 @@ pub struct Taken {
     pub answer: Stepped,
     pub stand: Stand,
 }
+
+// Whether a buffer has room for the record of an item, and else how much it needs.
+enum Room {
+    Enough,
+    Lacks { bytes: usize },
+}
+
+// A buffer of this size has room for every record.
+const RECORD_LIMIT: usize = 34 + LABEL_LIMIT;
 
 // What opening answers: the version and the first item's place, or the refusal.
 pub fn opened(file: &[u8]) -> Opened
@@ -71,21 +85,20 @@ fn lesser(a: usize, b: usize) -> usize
 fn fresh(phase: Phase, version: u8, place: usize) -> Stand
     ensures { λ r. ⌜ Fresh r phase version place ⌝ }
 {
-    let label = label::blank();
     let setting = format::start_setting();
     Stand {
         phase,
         version,
         place,
-        label,
+        len: 0,
         setting,
     }
 }
 
-// Where a reader of the file stands at first. After a refused opening every step answers
-// that refusal.
+// Where a reader of the file stands at first, whatever the label's buffer holds. After a
+// refused opening every step answers that refusal.
 pub fn open_at(file: &[u8]) -> Stand
-    ensures { λ r. ⌜ standSeen r ≡ openStand (now (file .entry)) ⌝ }
+    ensures { λ r. ⌜ Opens r (openStand (now (file .entry))) ⌝ }
 {
     let o = opened(file);
     match o {
@@ -106,13 +119,13 @@ fn last_step(stand: Stand, answer: Stepped, phase: Phase) -> Taken
 {
     let version = stand.version;
     let place = stand.place;
-    let label = stand.label;
+    let len = stand.len;
     let setting = stand.setting;
     let halted = Stand {
         phase,
         version,
         place,
-        label,
+        len,
         setting,
     };
     Taken {
@@ -138,64 +151,130 @@ fn end_step(stand: Stand, left: usize) -> Taken
 }
 
 // The stand behind an item of so many bytes.
-fn behind(stand: Stand, size: usize, label: Label, setting: Setting) -> Stand
+fn behind(stand: Stand, size: usize, len: usize, setting: Setting) -> Stand
     requires { ⌜ stand .place + size ≤ sliceLimit ⌝ }
-    ensures { λ r. ⌜ r ≡ behindItem stand size label setting ⌝ }
+    ensures { λ r. ⌜ r ≡ behindItem stand size len setting ⌝ }
 {
     Stand {
         phase: Phase::Going,
         version: stand.version,
         place: stand.place + size,
-        label,
+        len,
         setting,
     }
 }
 
-// A step over an item that makes a record, behind which the reader stands at next: 11
-// leaves it where it was.
-fn record_step(stand: Stand, next: Stand, out: &mut [u8], fields: Fields, kept: usize) -> Taken
-    requires { ⌜ (next .label .len ≤ labelLimit) × (length (next .label .bytes) ≡ labelLimit) ⌝ }
-    ensures { λ r. ⌜ RecordStepped stand next fields kept (now (out .entry)) r (now (out .exit)) ⌝ }
+// What the item at the front of s comes to, before the label is touched, where it makes a
+// record or its label is refused. For any other the answer is one that makes no record.
+fn peek(version: u8, s: &[u8], bytes: &[u8; LABEL_LIMIT], len: usize, setting: Setting) -> Step
+    requires { ⌜ (len ≤ labelLimit) × (length (now bytes) ≡ labelLimit) ⌝ }
+    ensures { λ r. ⌜ Peeks r (next version (now (s .entry)) (stateOf setting (take len (now (bytes .entry))))) ⌝ }
 {
-    let label = next.label;
-    let bytes = record::record_size(fields, label.len);
-    if out.len() < bytes {
-        let answer = Stepped::Refused {
-            number: 11,
-            place: bytes,
-        };
-        return Taken { answer, stand };
+    let it = decode::decode(version, s);
+    match it {
+        Item::Error { traverse } => Step::Made {
+            size: 21,
+            len,
+            setting,
+            fields: Fields::Error { traverse },
+            kept: 0,
+        },
+        Item::Relabel {
+            size,
+            cut,
+            from: _,
+            count,
+            body,
+        } => {
+            let kept = label::kept_of(bytes, len, cut);
+            let Kept::Keeps { bytes: keep } = kept else {
+                return Step::Bad { number: 6 };
+            };
+            if LABEL_LIMIT - keep < count {
+                return Step::Bad { number: 7 };
+            }
+            item::made_step(size, keep + count, setting, body, keep)
+        }
+        _ => Step::End,
     }
-    record::lay_record(out, 0, fields, &label.bytes, label.len);
-    let answer = Stepped::Record { bytes, kept };
+}
+
+// Whether a buffer of so many bytes has room for the record of the item at the front of
+// s, if it makes one.
+fn room_for(
+    version: u8,
+    s: &[u8],
+    bytes: &[u8; LABEL_LIMIT],
+    len: usize,
+    setting: Setting,
+    room: usize,
+) -> Room
+    requires { ⌜ (len ≤ labelLimit) × (length (now bytes) ≡ labelLimit) ⌝ }
+    ensures { λ r. ⌜ r ≡ roomFor (next version (now (s .entry)) (stateOf setting (take len (now (bytes .entry))))) room ⌝ }
+{
+    if RECORD_LIMIT <= room {
+        return Room::Enough;
+    }
+    let seen = peek(version, s, bytes, len, setting);
+    let Step::Made {
+        size: _,
+        len: m,
+        setting: _,
+        fields,
+        kept: _,
+    } = seen
+    else {
+        return Room::Enough;
+    };
+    let n = record::record_size(fields, m);
+    if room < n {
+        return Room::Lacks { bytes: n };
+    }
+    Room::Enough
+}
+
+// A step over an item for whose record there is room: the reader then stands at next.
+fn record_step(
+    next: Stand,
+    bytes: &[u8; LABEL_LIMIT],
+    out: &mut [u8],
+    fields: Fields,
+    kept: usize,
+) -> Taken
+    requires { ⌜ (next .len ≤ labelLimit) × (length (now bytes) ≡ labelLimit) ⌝ }
+    ensures { λ r. ⌜ Recorded next (now (bytes .entry)) fields kept (now (out .entry)) r (now (out .exit)) ⌝ }
+{
+    let len = next.len;
+    let size = record::record_size(fields, len);
+    record::lay_record(out, 0, fields, bytes, len);
+    let answer = Stepped::Record { bytes: size, kept };
     Taken {
         answer,
         stand: next,
     }
 }
 
-// One step from a stand before an item. A place past the file finds no bytes, and a
-// label's length past its buffer counts as all of it.
-fn step_item(file: &[u8], stand: Stand, out: &mut [u8]) -> Taken
-    requires { ⌜ stand .phase ≡ Going ⌝ }
-    ensures { λ r. ⌜ Steps stand (now (file .entry)) (now (out .entry)) r (now (out .exit)) ⌝ }
+// A step over an item that came to `it`, from whose place on `left` bytes are left.
+fn after_item(
+    stand: Stand,
+    it: Step,
+    left: usize,
+    bytes: &[u8; LABEL_LIMIT],
+    out: &mut [u8],
+) -> Taken
+    requires { ⌜ Within stand it × (length (now bytes) ≡ labelLimit) ⌝ }
+    ensures { λ r. ⌜ After stand it left (now (bytes .entry)) (now (out .entry)) r (now (out .exit)) ⌝ }
 {
-    let mut label = stand.label;
     let place = stand.place;
-    let at = lesser(place, file.len());
-    let old = lesser(label.len, LABEL_LIMIT);
-    let rest = &file[at..];
-    let it = item::take_item(stand.version, rest, &mut label.bytes, old, stand.setting);
     match it {
         Step::Bad { number } => last_step(
             stand,
             Stepped::Refused { number, place },
             Phase::Refused { number, place },
         ),
-        Step::End => end_step(stand, rest.len()),
+        Step::End => end_step(stand, left),
         Step::On { size, len, setting } => {
-            label.len = len;
-            let next = behind(stand, size, label, setting);
+            let next = behind(stand, size, len, setting);
             let answer = Stepped::Nothing;
             Taken {
                 answer,
@@ -209,21 +288,53 @@ fn step_item(file: &[u8], stand: Stand, out: &mut [u8]) -> Taken
             fields,
             kept,
         } => {
-            label.len = len;
-            let next = behind(stand, size, label, setting);
-            record_step(stand, next, out, fields, kept)
+            let next = behind(stand, size, len, setting);
+            record_step(next, bytes, out, fields, kept)
         }
     }
 }
 
+// One step from a stand before an item. A place past the file finds no bytes, and a
+// label's length past its buffer counts as all of it. Whether there is room is known
+// before the label is touched.
+fn step_item(file: &[u8], stand: Stand, bytes: &mut [u8; LABEL_LIMIT], out: &mut [u8]) -> Taken
+    requires { ⌜ (stand .phase ≡ Going) × (length (now bytes) ≡ labelLimit) ⌝ }
+    ensures { λ r. ⌜ Steps stand (now (bytes .entry)) (now (file .entry)) (now (out .entry)) r (now (bytes .exit)) (now (out .exit)) ⌝ }
+{
+    let at = lesser(stand.place, file.len());
+    let old = lesser(stand.len, LABEL_LIMIT);
+    let rest = &file[at..];
+    let room = room_for(stand.version, rest, bytes, old, stand.setting, out.len());
+    if let Room::Lacks { bytes: needed } = room {
+        let answer = Stepped::Refused {
+            number: 11,
+            place: needed,
+        };
+        return Taken { answer, stand };
+    }
+    let it = item::take_item(stand.version, rest, bytes, old, stand.setting);
+    after_item(stand, it, rest.len(), bytes, out)
+}
+
+// An array's length, which its type says.
+fn full(bytes: &[u8; LABEL_LIMIT]) -> usize
+    ensures { λ r. ⌜ (r ≡ labelLimit) × (length (now (bytes .entry)) ≡ labelLimit) ⌝ }
+{
+    let whole = &bytes[..];
+    whole.len()
+}
+
 // One step: exactly one item, or the end or the refusal again. 11 leaves the stand as it
 // was.
-pub fn step_at(file: &[u8], stand: Stand, out: &mut [u8]) -> Taken
-    ensures { λ r. ⌜ Steps stand (now (file .entry)) (now (out .entry)) r (now (out .exit)) ⌝ }
+pub fn step_at(file: &[u8], stand: Stand, bytes: &mut [u8; LABEL_LIMIT], out: &mut [u8]) -> Taken
+    ensures { λ r. ⌜ Steps stand (now (bytes .entry)) (now (file .entry)) (now (out .entry)) r (now (bytes .exit)) (now (out .exit)) ⌝ }
 {
     let phase = stand.phase;
     match phase {
-        Phase::Going => step_item(file, stand, out),
+        Phase::Going => {
+            full(bytes);
+            step_item(file, stand, bytes, out)
+        }
         Phase::Ended => Taken {
             answer: Stepped::End,
             stand,
@@ -235,6 +346,27 @@ pub fn step_at(file: &[u8], stand: Stand, out: &mut [u8]) -> Taken
     }
 }
 
+// Steps on to the next record, the end or a refusal, and passes it straight on. Each item
+// on the way takes a byte of the file, so there are no more steps than bytes and one.
+pub fn next_at(file: &[u8], stand: Stand, bytes: &mut [u8; LABEL_LIMIT], out: &mut [u8]) -> Taken
+    ensures { λ r. ⌜ Goes stand (now (bytes .entry)) (now (file .entry)) (now (out .entry)) r (now (bytes .exit)) (now (out .exit)) ⌝ }
+{
+    let mut here = stand;
+    let mut left = file.len();
+    loop {
+        let t = step_at(file, here, bytes, out);
+        let answer = t.answer;
+        let Stepped::Nothing = answer else {
+            return t;
+        };
+        if left == 0 {
+            return t;
+        }
+        here = t.stand;
+        left -= 1;
+    }
+}
+
 // A step reader: the file that it was given, and where it stands in it.
 pub struct Reader<'a> {
     pub file: &'a [u8],
@@ -243,17 +375,21 @@ pub struct Reader<'a> {
 
 // A reader of the file, before its first item.
 pub fn open<'a>(file: &'a [u8]) -> Reader<'a>
-    ensures { λ r. ⌜ (r .file ≡ file .entry) × (standSeen (r .stand) ≡ openStand (now (file .entry))) ⌝ }
+    ensures { λ r. ⌜ (r .file ≡ file .entry) × Opens (r .stand) (openStand (now (file .entry))) ⌝ }
 {
     let stand = open_at(file);
     Reader { file, stand }
 }
 
-// One step of a reader, whatever its fields hold.
-pub fn step<'s, 'a>(reader: &'s mut Reader<'a>, out: &mut [u8]) -> Stepped
-    ensures { λ r. ⌜ Steps (now (reader .entry) .stand) (now (now (reader .entry) .file)) (now (out .entry)) (record { answer = r; stand = now (reader .exit) .stand }) (now (out .exit)) × (now (reader .exit) .file ≡ now (reader .entry) .file) ⌝ }
+// One step of a reader, whatever its fields and the label's buffer hold.
+pub fn step<'s, 'a>(
+    reader: &'s mut Reader<'a>,
+    bytes: &mut [u8; LABEL_LIMIT],
+    out: &mut [u8],
+) -> Stepped
+    ensures { λ r. ⌜ Steps (now (reader .entry) .stand) (now (bytes .entry)) (now (now (reader .entry) .file)) (now (out .entry)) (record { answer = r; stand = now (reader .exit) .stand }) (now (bytes .exit)) (now (out .exit)) × (now (reader .exit) .file ≡ now (reader .entry) .file) ⌝ }
 {
-    let t = step_at(reader.file, reader.stand, out);
+    let t = step_at(reader.file, reader.stand, bytes, out);
     reader.stand = t.stand;
     t.answer
 }

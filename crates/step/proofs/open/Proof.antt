@@ -38,7 +38,7 @@ use denote.Triple.Table.{entered, cited}
 use denote.Triple.Walked.{says, Stays, stay-none-slice, walkOf, goes-none-slice, Walks, ends-at, walked, walk-meets}
 use denote.Exit.{yes}
 use Rattle.format.specs.Stepping.{openStand}
-use Rattle.step.specs.Standing.{standSeen}
+use Rattle.step.specs.Standing.{Opens}
 use Rattle.step.specs.declared.Reader.{Reader}
 use Rattle.step.specs.declared.Stand.{Stand}
 use Rattle.step.proofs.Reader as T
@@ -93,7 +93,7 @@ module _ {M : Type 1} (𝓤 : URA M) (H : Heap 𝓤) (A : Atoms 𝓤) (W : Given
 
   -- what is known of the call's result
   abbrev Heard : Stand → Type 0
-  Heard r = standSeen r ≡ openStand (s .now)
+  Heard r = Opens r (openStand (s .now))
 
   asked : ent 𝓤 (onEntry 𝓤 H A open-at.signature (κ, tt) (q, tt) (s, tt) at) (OpenAt 𝓤 H A mem run .pre to)
   asked = qed W ((‵ (flft κ q) ⊛ ‵ ftrue) ∷ ‵ (owns (ShrSlice (named 0) κ u8 ∷ []) (s, tt) at) ∷ []) ∵ join ! $ frame ! $ done !

@@ -1,0 +1,235 @@
+// Where a step reader stands, as numbers that its caller holds from one step to the next.
+// Any numbers are some stand: nothing that a caller puts there is unsafe.
+use format::Dated;
+use format::Point;
+use format::Position;
+use format::Setting;
+use step::Phase;
+use step::Stand;
+ghost use mathlib.Core.Path.{_≡_};
+ghost use Prim.Native.Nat.{_%_, _<_};
+ghost use Rattle.held.specs.Numbers.{phaseOf, dateOf, positionOf, heldOf};
+
+// How many numbers a stand takes.
+pub const STAND_NUMBERS: usize = 14;
+
+// 0 going, 1 at the end, any other refused with a number and a place.
+struct PhaseNumbers {
+    kind: u64,
+    number: u64,
+    place: u64,
+}
+
+// 0 no date, 1 a day, any other a range.
+struct DateNumbers {
+    kind: u64,
+    day: u64,
+    last: u64,
+}
+
+// 0 unset, any other a place.
+struct PlaceNumbers {
+    kind: u64,
+    x: u64,
+    y: u64,
+    z: u64,
+}
+
+// ---- numbers as narrower ones, and back
+
+fn low8(x: u64) -> u8
+    ensures { λ r. ⌜ r ≡ x % 256 ⌝ }
+{
+    (x % 256) as u8
+}
+
+fn low16(x: u64) -> u16
+    ensures { λ r. ⌜ r ≡ x % 65536 ⌝ }
+{
+    (x % 65536) as u16
+}
+
+fn low32(x: u64) -> u32
+    ensures { λ r. ⌜ r ≡ x % 4294967296 ⌝ }
+{
+    (x % 4294967296) as u32
+}
+
+fn wide8(x: u8) -> u64
+    ensures { λ r. ⌜ (r ≡ x) × (r < 256) ⌝ }
+{
+    x as u64
+}
+
+fn wide16(x: u16) -> u64
+    ensures { λ r. ⌜ (r ≡ x) × (r < 65536) ⌝ }
+{
+    x as u64
+}
+
+fn wide32(x: u32) -> u64
+    ensures { λ r. ⌜ (r ≡ x) × (r < 4294967296) ⌝ }
+{
+    x as u64
+}
+
+// ---- the stand that numbers say
+
+fn phase_of(kind: u64, number: u64, place: u64) -> Phase
+    ensures { λ r. ⌜ r ≡ phaseOf kind number place ⌝ }
+{
+    if kind == 0 {
+        return Phase::Going;
+    }
+    if kind == 1 {
+        return Phase::Ended;
+    }
+    Phase::Refused {
+        number: low8(number),
+        place: place as usize,
+    }
+}
+
+fn date_of(kind: u64, day: u64, last: u64) -> Dated
+    ensures { λ r. ⌜ r ≡ dateOf kind day last ⌝ }
+{
+    if kind == 0 {
+        return Dated::Undated;
+    }
+    if kind == 1 {
+        return Dated::Day { day: low16(day) };
+    }
+    Dated::Range {
+        first: low16(day),
+        last: low16(last),
+    }
+}
+
+fn position_of(kind: u64, x: u64, y: u64, z: u64) -> Position
+    ensures { λ r. ⌜ r ≡ positionOf kind x y z ⌝ }
+{
+    if kind == 0 {
+        return Position::Unset;
+    }
+    let point = Point {
+        x: low32(x),
+        y: low32(y),
+        z: low32(z),
+    };
+    Position::Stands { point }
+}
+
+pub fn held_of(s: &[u64; STAND_NUMBERS]) -> Stand
+    ensures { λ r. ⌜ r ≡ heldOf (now (s .entry)) ⌝ }
+{
+    let phase = phase_of(s[0], s[1], s[2]);
+    let date = date_of(s[7], s[8], s[9]);
+    let position = position_of(s[10], s[11], s[12], s[13]);
+    let setting = Setting {
+        style: low8(s[6]),
+        date,
+        position,
+    };
+    Stand {
+        phase,
+        version: low8(s[3]),
+        place: s[4] as usize,
+        len: s[5] as usize,
+        setting,
+    }
+}
+
+// ---- the numbers of a stand
+
+fn phase_numbers(phase: Phase) -> PhaseNumbers
+    ensures { λ r. ⌜ phaseOf (r .kind) (r .number) (r .place) ≡ phase ⌝ }
+{
+    match phase {
+        Phase::Going => PhaseNumbers {
+            kind: 0,
+            number: 0,
+            place: 0,
+        },
+        Phase::Ended => PhaseNumbers {
+            kind: 1,
+            number: 0,
+            place: 0,
+        },
+        Phase::Refused { number, place } => PhaseNumbers {
+            kind: 2,
+            number: wide8(number),
+            place: place as u64,
+        },
+    }
+}
+
+fn date_numbers(date: Dated) -> DateNumbers
+    ensures { λ r. ⌜ dateOf (r .kind) (r .day) (r .last) ≡ date ⌝ }
+{
+    match date {
+        Dated::Undated => DateNumbers {
+            kind: 0,
+            day: 0,
+            last: 0,
+        },
+        Dated::Day { day } => DateNumbers {
+            kind: 1,
+            day: wide16(day),
+            last: 0,
+        },
+        Dated::Range { first, last } => DateNumbers {
+            kind: 2,
+            day: wide16(first),
+            last: wide16(last),
+        },
+    }
+}
+
+fn place_numbers(position: Position) -> PlaceNumbers
+    ensures { λ r. ⌜ positionOf (r .kind) (r .x) (r .y) (r .z) ≡ position ⌝ }
+{
+    match position {
+        Position::Unset => PlaceNumbers {
+            kind: 0,
+            x: 0,
+            y: 0,
+            z: 0,
+        },
+        Position::Stands { point } => PlaceNumbers {
+            kind: 1,
+            x: wide32(point.x),
+            y: wide32(point.y),
+            z: wide32(point.z),
+        },
+    }
+}
+
+pub fn numbers_of(stand: Stand) -> [u64; STAND_NUMBERS]
+    ensures { λ r. ⌜ heldOf r ≡ stand ⌝ }
+{
+    let here = stand.phase;
+    let setting = stand.setting;
+    let day = setting.date;
+    let point = setting.position;
+    let phase = phase_numbers(here);
+    let date = date_numbers(day);
+    let position = place_numbers(point);
+    let version = wide8(stand.version);
+    let style = wide8(setting.style);
+    [
+        phase.kind,
+        phase.number,
+        phase.place,
+        version,
+        stand.place as u64,
+        stand.len as u64,
+        style,
+        date.kind,
+        date.day,
+        date.last,
+        position.kind,
+        position.x,
+        position.y,
+        position.z,
+    ]
+}
