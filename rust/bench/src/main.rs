@@ -1,8 +1,10 @@
-//! The proved reader, writer and editor against the second implementation's, in
-//! time: one run, one thread, the two taking turns.
+//! The proved reader, writer and editor against the second implementation's, and
+//! steps to the end and an edit against the proved reader, in time: one run, one
+//! thread, the two taking turns.
 //!
 //! An argument asks for another number of repetitions.
 
+use compare::proved;
 use generate::coder::{Coder, Form};
 use generate::Rng;
 use second::Answer;
@@ -33,15 +35,18 @@ fn edits(repeats: usize) {
     let mut file = vec![0; needed(second::write, &sheet)];
     second::write(&sheet, &mut file);
     println!("v8: house-written file {} bytes", file.len());
-    let editing = Pair { proved: proved_edit, second: second_edit };
-    report("edit", survex3d::HAS_EDIT, &file, needed(second_edit, &file), editing, repeats);
+    let room = needed(second_edit, &file);
+    let editing = Pair { proved: proved_edit, other: second_edit, against: "second" };
+    report("edit", &file, room, editing, repeats);
+    let reading = Pair { proved: proved_edit, other: proved::read, against: "read" };
+    times("edit", &file, &mut vec![0x5a; room.max(sheet.len())], reading, repeats);
 }
 
 /// A station `a` at the origin, with its length bytes.
 const STATION: [u8; 17] = [0, 15, 2, 0, 0, 0, 0, 0, 0, 0, 0, 0, 0, 0, 0, 0, b'a'];
 
 fn proved_edit(file: &[u8], out: &mut [u8]) -> Answer {
-    survex3d::edit(file, 300_000, 10, &STATION, out)
+    proved::edit(file, 300_000, 10, &STATION, out)
 }
 
 fn second_edit(file: &[u8], out: &mut [u8]) -> Answer {
@@ -53,12 +58,66 @@ fn versions(version: &str, what: &str, file: &[u8], repeats: usize) {
     let sheet = read_sheet(file);
     let bytes = (file.len(), sheet.len());
     println!("{version}: file {} bytes of {what}, sheet {} bytes", bytes.0, bytes.1);
-    let reading = Pair { proved: survex3d::read, second: second::read };
-    report("read", survex3d::HAS_READ, file, sheet.len(), reading, repeats);
-    if survex3d::HAS_WRITE {
-        let writing = Pair { proved: survex3d::write, second: second::write };
-        let needed = needed(second::write, &sheet);
-        report("write", true, &sheet, needed, writing, repeats);
+    let reading = Pair { proved: proved::read, other: second::read, against: "second" };
+    report("read", file, sheet.len(), reading, repeats);
+    let writing = Pair { proved: proved::write, other: second::write, against: "second" };
+    report("write", &sheet, needed(second::write, &sheet), writing, repeats);
+    for (what, proved) in [("steps", steps::by_steps as Function), ("records", steps::by_records)] {
+        let stepping = Pair { proved, other: proved::read, against: "read" };
+        report(what, file, sheet.len(), stepping, repeats);
+    }
+}
+
+/// Steps to the end, each record behind the last in the sheet.
+mod steps {
+    use compare::proved::Reader;
+    use second::{Answer, Opened, Step};
+
+    pub fn by_steps(file: &[u8], sheet: &mut [u8]) -> Answer {
+        gathered(file, sheet, |reader, out| reader.step(out))
+    }
+
+    pub fn by_records(file: &[u8], sheet: &mut [u8]) -> Answer {
+        gathered(file, sheet, |reader, out| reader.next(out))
+    }
+
+    fn gathered(
+        file: &[u8],
+        sheet: &mut [u8],
+        step: impl Fn(&mut Reader, &mut [u8]) -> Step,
+    ) -> Answer {
+        let (mut reader, opened) = Reader::open(file);
+        let Opened::At { version, .. } = opened else { panic!("{opened:?}") };
+        let (mut bytes, mut records) = (front(file, version, sheet), 0);
+        loop {
+            match step(&mut reader, &mut sheet[bytes..]) {
+                Step::Record { bytes: size, .. } => {
+                    bytes += size;
+                    records += 1;
+                }
+                Step::Nothing => {}
+                Step::End => return Answer::Done { bytes, records, version },
+                refused => panic!("{refused:?}"),
+            }
+        }
+    }
+
+    /// The sheet's version byte and header, which no step answers.
+    fn front(file: &[u8], version: u8, sheet: &mut [u8]) -> usize {
+        let mut lines = file[24..].split(|byte| *byte == b'\n');
+        let mut line = || lines.next().expect("a line");
+        let (title, time) = (line(), line());
+        let flags = if version == 8 { file[26 + title.len() + time.len()] } else { 0 };
+        let length = 4 + title.len() + time.len();
+        let be16 = |number: usize| (number as u16).to_be_bytes();
+        let mut bytes = vec![2];
+        bytes.extend(be16(length));
+        bytes.extend([0, flags >> 7]);
+        bytes.extend(be16(title.len()));
+        bytes.extend(title);
+        bytes.extend(time);
+        sheet[..bytes.len()].copy_from_slice(&bytes);
+        bytes.len()
     }
 }
 
@@ -117,35 +176,42 @@ fn read_sheet(file: &[u8]) -> Vec<u8> {
 #[derive(Clone, Copy)]
 struct Pair {
     proved: Function,
-    second: Function,
+    other: Function,
+    against: &'static str,
 }
 
-fn report(what: &str, has: bool, input: &[u8], length: usize, pair: Pair, repeats: usize) {
+/// The times of two that answer the same and leave the same bytes.
+fn report(what: &str, input: &[u8], length: usize, pair: Pair, repeats: usize) {
     let mut lent = vec![0x5a; length];
     agree(input, &mut lent, pair);
-    let (mut proved, mut second) = (Vec::new(), Vec::new());
+    times(what, input, &mut lent, pair, repeats);
+}
+
+fn times(what: &str, input: &[u8], lent: &mut [u8], pair: Pair, repeats: usize) {
+    let (mut proved, mut other) = (Vec::new(), Vec::new());
     for turn in 0..repeats {
         if turn % 2 == 0 {
-            proved.push(timed(pair.proved, input, &mut lent));
-            second.push(timed(pair.second, input, &mut lent));
+            proved.push(timed(pair.proved, input, lent));
+            other.push(timed(pair.other, input, lent));
         } else {
-            second.push(timed(pair.second, input, &mut lent));
-            proved.push(timed(pair.proved, input, &mut lent));
+            other.push(timed(pair.other, input, lent));
+            proved.push(timed(pair.proved, input, lent));
         }
     }
     let ratio = |one: Duration, other: Duration| one.as_secs_f64() / other.as_secs_f64();
-    let mut turns: Vec<f64> = proved.iter().zip(&second).map(|(a, b)| ratio(*a, *b)).collect();
+    let mut turns: Vec<f64> = proved.iter().zip(&other).map(|(a, b)| ratio(*a, *b)).collect();
     turns.sort_by(f64::total_cmp);
     proved.sort();
-    second.sort();
+    other.sort();
     let middle = repeats / 2;
-    let name = if has { "proved" } else { "second, standing in," };
-    line(&format!("{what}, {name}"), proved[middle], proved[0]);
-    line(&format!("{what}, second"), second[middle], second[0]);
-    let (median, best) = (ratio(proved[middle], second[middle]), ratio(proved[0], second[0]));
+    line(&format!("{what}, proved"), proved[middle], proved[0]);
+    line(&format!("{what}, {}", pair.against), other[middle], other[0]);
+    let (median, best) = (ratio(proved[middle], other[middle]), ratio(proved[0], other[0]));
     let turn = turns[middle];
     println!(
-        "  {what}: ratio of medians {median:.3}, of bests {best:.3}, median by turns {turn:.3}"
+        "  {what} against {}: ratio of medians {median:.3}, of bests {best:.3}, \
+         median by turns {turn:.3}",
+        pair.against
     );
 }
 
@@ -155,7 +221,7 @@ fn agree(input: &[u8], lent: &mut [u8], pair: Pair) {
     let bytes = lent.to_vec();
     assert!(matches!(proved, Answer::Done { .. }), "{proved:?}");
     lent.fill(0);
-    assert_eq!((pair.second)(input, lent), proved);
+    assert_eq!((pair.other)(input, lent), proved);
     assert!(bytes == lent, "the bytes differ");
 }
 

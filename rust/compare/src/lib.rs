@@ -2,6 +2,7 @@
 //! bytes in, the same answers and the same lent bytes out.
 
 mod lent;
+pub mod proved;
 mod run;
 
 pub use lent::{disagree, hex, same, Call, Difference, Fills};
@@ -12,7 +13,7 @@ use second::{Answer, Later};
 
 /// Reading, at several buffer lengths. Answers what an ample buffer gives.
 pub fn read(file: &[u8]) -> Result<Answer, Difference> {
-    read_by(&survex3d::read, file)
+    read_by(&proved::read, file)
 }
 
 type Reader<'r> = &'r dyn Fn(&[u8], &mut [u8]) -> Answer;
@@ -27,7 +28,7 @@ pub fn read_by(proved: Reader, file: &[u8]) -> Result<Answer, Difference> {
 
 /// Writing, likewise.
 pub fn write(sheet: &[u8]) -> Result<Answer, Difference> {
-    write_by(&survex3d::write, sheet)
+    write_by(&proved::write, sheet)
 }
 
 pub fn write_by(proved: Reader, sheet: &[u8]) -> Result<Answer, Difference> {
@@ -35,23 +36,6 @@ pub fn write_by(proved: Reader, sheet: &[u8]) -> Result<Answer, Difference> {
     one_buffer(needed, sheet.len() + 100, &|out, _| proved(sheet, out), &|out, _| {
         second::write(sheet, out)
     })
-}
-
-/// The sheet of a file and the v8 file that the proved library writes of it.
-pub fn converted(file: &[u8]) -> Result<(Vec<u8>, Vec<u8>), Answer> {
-    let sheet = grown(&|sheet| survex3d::read(file, sheet))?;
-    let written = grown(&|out| survex3d::write(&sheet, out))?;
-    Ok((sheet, written))
-}
-
-/// A buffer as long as 11 asks for, filled by a second call.
-fn grown(call: &dyn Fn(&mut [u8]) -> Answer) -> Result<Vec<u8>, Answer> {
-    let length = need(call(&mut [])).ok_or_else(|| call(&mut []))?;
-    let mut lent = vec![0; length];
-    match call(&mut lent) {
-        Answer::Done { .. } => Ok(lent),
-        refused => Err(refused),
-    }
 }
 
 /// The length that 11 asks for; nothing after another refusal.
@@ -86,7 +70,7 @@ type Converter<'r> = &'r dyn Fn(&[u8], &mut [u8], &mut [u8]) -> Answer;
 
 /// Converting, with both buffers at several lengths.
 pub fn convert(file: &[u8]) -> Result<Answer, Difference> {
-    convert_by(&survex3d::convert, file)
+    convert_by(&proved::convert, file)
 }
 
 pub fn convert_by(proved: Converter, file: &[u8]) -> Result<Answer, Difference> {
@@ -111,7 +95,7 @@ type Editor<'r> = &'r dyn Fn(&[u8], usize, usize, &[u8], &mut [u8]) -> Answer;
 
 /// Editing, at several buffer lengths.
 pub fn edit(file: &[u8], edit: &Edit) -> Result<Answer, Difference> {
-    edit_by(&survex3d::edit, file, edit)
+    edit_by(&proved::edit, file, edit)
 }
 
 pub fn edit_by(proved: Editor, file: &[u8], edit: &Edit) -> Result<Answer, Difference> {
@@ -124,7 +108,7 @@ pub fn edit_by(proved: Editor, file: &[u8], edit: &Edit) -> Result<Answer, Diffe
 
 /// Which is later: the answer, and the very same part of the same file.
 pub fn later<'a>(first: &'a [u8], other: &'a [u8]) -> Result<(Later, &'a [u8]), String> {
-    later_by(survex3d::compare(first, other), second::compare(first, other))
+    later_by(proved::compare(first, other), second::compare(first, other))
 }
 
 pub fn later_by<'a>(

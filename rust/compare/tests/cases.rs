@@ -12,11 +12,7 @@ fn read(file: &[u8]) -> Result<Vec<u8>, (u8, usize)> {
     match compare::read(file) {
         Err(difference) => disagree("reading", file, &difference),
         Ok(Answer::Refused { number, place }) => Err((number, place)),
-        Ok(Answer::Done { bytes, .. }) => {
-            let mut sheet = vec![0; bytes];
-            survex3d::read(file, &mut sheet);
-            Ok(sheet)
-        }
+        Ok(Answer::Done { .. }) => Ok(cockledrift::read_vec(file).expect("a sheet")),
     }
 }
 
@@ -25,11 +21,7 @@ fn write(sheet: &[u8]) -> Vec<u8> {
     match compare::write(sheet) {
         Err(difference) => disagree("writing", sheet, &difference),
         Ok(Answer::Refused { number, place }) => panic!("refused {number} at {place}"),
-        Ok(Answer::Done { bytes, .. }) => {
-            let mut file = vec![0; bytes];
-            survex3d::write(sheet, &mut file);
-            file
-        }
+        Ok(Answer::Done { .. }) => cockledrift::write_vec(sheet).expect("a file"),
     }
 }
 

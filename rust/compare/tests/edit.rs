@@ -1,7 +1,7 @@
 //! Editing: at least 200,000 edits, each at several buffer lengths. What an
 //! edit writes is house-written again.
 
-use compare::{disagree, edits_wanted, seed, Tally};
+use compare::{disagree, edits_wanted, proved, seed, Tally};
 use generate::edits::round;
 use generate::sheets::{self, records_of};
 use generate::{files, record, Edit, EditKind, Rng, SheetKind};
@@ -32,9 +32,9 @@ fn try_edit(tally: &mut Tally<EditKind>, what: &str, kind: EditKind, file: &[u8]
 /// An edit of the new file that changes nothing gives the same file.
 fn stays(what: &str, file: &[u8], edit: &Edit, bytes: usize, records: usize) {
     let mut new = vec![0; bytes];
-    survex3d::edit(file, edit.first, edit.count, &edit.new, &mut new);
+    proved::edit(file, edit.first, edit.count, &edit.new, &mut new);
     let mut again = vec![0; bytes];
-    let answer = survex3d::edit(&new, records, 0, &[], &mut again);
+    let answer = proved::edit(&new, records, 0, &[], &mut again);
     assert_eq!(answer, Answer::Done { bytes, records, version: 8 }, "{what}");
     assert_eq!(again, new, "{what}");
 }

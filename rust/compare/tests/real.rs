@@ -37,10 +37,8 @@ fn read(path: &Path) -> (u8, Read) {
     let version = file[22] - b'0';
     match answer {
         Answer::Refused { number, place } => (version, Err((number, place))),
-        Answer::Done { bytes, records, .. } => {
-            let mut sheet = vec![0; bytes];
-            survex3d::read(&file, &mut sheet);
-            (version, Ok((sheet, records)))
+        Answer::Done { records, .. } => {
+            (version, Ok((cockledrift::read_vec(&file).expect("a sheet"), records)))
         }
     }
 }
@@ -76,7 +74,8 @@ fn written_files_agree_with_dump3d() {
     for path in written {
         let name = path.file_name().unwrap();
         let file = fs::read(folder().join(name)).unwrap();
-        let (sheet, bytes) = compare::converted(&file).expect("a file that reads");
+        let sheet = cockledrift::read_vec(&file).expect("a file that reads");
+        let bytes = cockledrift::write_vec(&sheet).expect("a sheet that was read");
         assert!(bytes == fs::read(&path).unwrap(), "{} is written otherwise", path.display());
         let text = fs::read_to_string(path.with_extension("dump")).unwrap();
         let (said, ours) = (dump::said(&text), dump::told(&sheet, 8));

@@ -1,7 +1,7 @@
 //! Writing: at least 100,000 sheets, each at several buffer lengths; what is
 //! written reads back as the same sheet, in version 2.
 
-use compare::{disagree, seed, sheets_wanted, Tally};
+use compare::{disagree, proved, seed, sheets_wanted, Tally};
 use generate::record::twin;
 use generate::sheets::{fixed, round};
 use generate::SheetKind;
@@ -24,13 +24,13 @@ fn try_sheet(tally: &mut Tally<SheetKind>, what: &str, kind: SheetKind, sheet: &
 /// Write, then read: the same sheet, by both, or the version 2 twin of a version 1 sheet.
 fn reads_back(what: &str, sheet: &[u8], bytes: usize, records: usize) {
     let mut file = vec![0; bytes];
-    survex3d::write(sheet, &mut file);
+    proved::write(sheet, &mut file);
     if let Err(difference) = compare::read(&file) {
         disagree(&format!("reading what is written for {what}"), &file, &difference);
     }
     let due = twin(sheet);
     let mut again = vec![0; due.len()];
-    let answer = survex3d::read(&file, &mut again);
+    let answer = proved::read(&file, &mut again);
     assert_eq!(answer, Answer::Done { bytes: due.len(), records, version: 8 }, "{what}");
     assert_eq!(again, due, "{what}");
 }

@@ -1,0 +1,97 @@
+//! What reading, writing, converting and editing answer.
+
+#![forbid(unsafe_code)]
+
+use crate::library::AnswerNumbers;
+use std::error::Error;
+use std::fmt;
+
+/// What reading, writing, converting and editing answer.
+pub type Answer = Result<Done, Refusal>;
+
+/// What was done.
+#[derive(Clone, Copy, PartialEq, Eq, Hash, Debug)]
+pub struct Done {
+    /// The bytes written to the front of the lent buffer.
+    pub bytes: usize,
+    /// The records of the sheet, its header left out.
+    pub records: usize,
+    /// The version of the file read, or of the file written.
+    pub version: u8,
+}
+
+/// A refusal, by its number and place.
+///
+/// ```
+/// let refusal = cockledrift::read(b"Survey", &mut []).unwrap_err();
+/// assert_eq!((refusal.number, refusal.place), (1, 0));
+/// assert_eq!(refusal.to_string(), "refused 1 at 0: no 3d file");
+/// ```
+#[derive(Clone, Copy, PartialEq, Eq, Hash, Debug)]
+pub struct Refusal {
+    /// What is wrong: `docs/FORMAT.md` has the table.
+    pub number: u8,
+    /// Where it applies. For most numbers that is a place in the file; 11 has
+    /// the length needed, 12 and 13 a record's number and 15 the record count.
+    pub place: usize,
+}
+
+impl Refusal {
+    /// The length that the lent buffer needs, where its being too small is the
+    /// only thing that is wrong (11).
+    ///
+    /// ```
+    /// let file = b"Survex 3D Image File\nv8\nA\n@0\n\0\0\0";
+    /// let refusal = cockledrift::read(file, &mut []).unwrap_err();
+    /// assert_eq!(refusal.needed(), Some(10));
+    /// ```
+    pub fn needed(&self) -> Option<usize> {
+        (self.number == 11).then_some(self.place)
+    }
+
+    /// What the number says, in a few words.
+    pub fn reason(&self) -> &'static str {
+        match self.number {
+            1 => "no 3d file",
+            2 => "no version from 3 to 8",
+            3 => "a bad title or time line, or no v8 byte",
+            4 => "a reserved code or bit",
+            5 => "an item is unfinished, or the end is missing",
+            6 => "the label is too short to drop from",
+            7 => "the label is over 4,096 bytes",
+            8 => "a leg with no position to start from",
+            9 => "the last day is before the first, or a day is over 65535",
+            10 => "bytes after the end",
+            11 => "the buffer is too small",
+            12 => "the sheet breaks the layout",
+            13 => "the style cannot be unsaid",
+            14 => "not what the writer gives for this file's sheet",
+            15 => "the run ends past the last record",
+            16 => "the file is over 16,777,216 bytes",
+            17 => "the time line is not readable",
+            _ => "no such number",
+        }
+    }
+}
+
+impl fmt::Display for Refusal {
+    fn fmt(&self, to: &mut fmt::Formatter) -> fmt::Result {
+        write!(to, "refused {} at {}: {}", self.number, self.place, self.reason())
+    }
+}
+
+impl Error for Refusal {}
+
+/// A number of the interface that is a byte.
+pub(crate) fn byte(number: u64) -> u8 {
+    u8::try_from(number).expect("the library tells no number over 255")
+}
+
+/// The answer that these numbers tell.
+pub(crate) fn told(numbers: AnswerNumbers) -> Answer {
+    let AnswerNumbers { number, bytes, records, version } = numbers;
+    match byte(number) {
+        0 => Ok(Done { bytes, records, version: byte(version) }),
+        number => Err(Refusal { number, place: bytes }),
+    }
+}

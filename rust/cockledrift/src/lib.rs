@@ -1,0 +1,52 @@
+//! Survex 3d files (cave surveys), versions 3 to 8, through a library in which
+//! every function is proved to meet its contract.
+//!
+//! A 3d file is read into a *sheet*, a list of records in bytes, and a sheet is
+//! written as a v8 file; a v8 file that was written here can be edited without
+//! its sheet; two files are compared by their time lines; a [`Reader`] goes through
+//! a file item by item. What the bytes of files and sheets mean, and what each
+//! refusal says, is in `docs/FORMAT.md`.
+//!
+//! Every function takes lent slices and allocates nothing, but for those that
+//! end in `_vec`. No input makes one panic or go on for ever: bad bytes get a
+//! [`Refusal`], which has a number and a place.
+//!
+//! ```
+//! # fn main() -> Result<(), cockledrift::Refusal> {
+//! let file = b"Survex 3D Image File\nv8\nA\n@0\n\0\0\0";
+//! let mut sheet = [0; 100];
+//! let done = cockledrift::read(file, &mut sheet)?;
+//! assert_eq!((done.bytes, done.records, done.version), (10, 0, 8));
+//! assert_eq!(sheet[..done.bytes], *b"\x02\0\x07\0\0\0\x01A@0");
+//! assert_eq!(cockledrift::write_vec(&sheet[..done.bytes])?, file);
+//! # Ok(())
+//! # }
+//! ```
+//!
+//! # Lent buffers
+//!
+//! A refusal leaves every lent buffer as it was; success writes from the front
+//! and leaves the rest. Only [`convert`] has a third case, which it tells. To
+//! learn how long a buffer has to be, lend an empty one: the refusal that comes
+//! back has [`Refusal::needed`].
+
+#![deny(missing_docs, unsafe_code)]
+#![forbid(improper_ctypes, unsafe_op_in_unsafe_fn, unused_must_use)]
+
+mod answer;
+mod compare;
+mod convert;
+mod edit;
+mod library;
+mod read;
+mod room;
+mod step;
+mod write;
+
+pub use answer::{Answer, Done, Refusal};
+pub use compare::{compare, Later, RefusedFile, Which};
+pub use convert::convert;
+pub use edit::{edit, edit_vec};
+pub use read::{read, read_vec};
+pub use step::{Opened, Reader, Record, Step, RECORD_LIMIT};
+pub use write::{write, write_vec};

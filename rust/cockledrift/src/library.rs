@@ -1,0 +1,155 @@
+//! The proved library's C interface, and the only unsafe code here: each
+//! function lends its slices for the time of a call and hands back the numbers
+//! that the library tells. What they mean is left to the module of each subject.
+//!
+//! No pointer comes back from the library: a number that it tells serves only to
+//! index what was lent, which Rust checks.
+
+#![allow(unsafe_code)]
+
+/// An answer: number 0 is success; any other is a refusal's, with its place in
+/// `bytes`.
+#[repr(C)]
+pub struct AnswerNumbers {
+    pub number: u64,
+    pub bytes: usize,
+    pub records: usize,
+    pub version: u64,
+}
+
+/// Which file is later: 1, 2 or 0 for neither, with the place and the length of
+/// the later time line; or 3 for a refusal of `file`, with its number and place.
+#[repr(C)]
+#[derive(Debug)]
+pub struct ComparedNumbers {
+    pub which: u64,
+    pub file: u64,
+    pub number: u64,
+    pub place: usize,
+    pub length: usize,
+}
+
+/// How many numbers say where a step reader stands.
+pub const STAND_NUMBERS: usize = 14;
+
+/// The bytes of a label's buffer.
+pub const LABEL_LIMIT: usize = 4096;
+
+/// An opening: number 0, with the version and the first item's place; or the
+/// refusal's number and place.
+#[repr(C)]
+pub struct OpenNumbers {
+    pub number: u64,
+    pub place: usize,
+    pub version: u64,
+}
+
+/// A step: 1 a record with its bytes and the label's bytes that were kept, 2
+/// nothing, 3 the end, 4 a refusal with its number, and its place in `bytes`.
+#[repr(C)]
+#[derive(Debug)]
+pub struct StepNumbers {
+    pub what: u64,
+    pub bytes: usize,
+    pub kept: usize,
+    pub number: u64,
+}
+
+// A slice takes two arguments, its first byte and its length; an array one.
+extern "C" {
+    fn cockledrift_read(file: *const u8, n: usize, sheet: *mut u8, m: usize) -> AnswerNumbers;
+    fn cockledrift_write(sheet: *const u8, n: usize, out: *mut u8, m: usize) -> AnswerNumbers;
+    fn cockledrift_convert(
+        file: *const u8,
+        n: usize,
+        sheet: *mut u8,
+        m: usize,
+        out: *mut u8,
+        k: usize,
+    ) -> AnswerNumbers;
+    fn cockledrift_edit(
+        file: *const u8,
+        n: usize,
+        first: usize,
+        count: usize,
+        new: *const u8,
+        m: usize,
+        out: *mut u8,
+        k: usize,
+    ) -> AnswerNumbers;
+    fn cockledrift_compare(a: *const u8, n: usize, b: *const u8, m: usize) -> ComparedNumbers;
+    fn cockledrift_open(file: *const u8, n: usize, stand: *mut Stand) -> OpenNumbers;
+    fn cockledrift_step(
+        file: *const u8,
+        n: usize,
+        stand: *mut Stand,
+        label: *mut Label,
+        out: *mut u8,
+        m: usize,
+    ) -> StepNumbers;
+    fn cockledrift_next(
+        file: *const u8,
+        n: usize,
+        stand: *mut Stand,
+        label: *mut Label,
+        out: *mut u8,
+        m: usize,
+    ) -> StepNumbers;
+}
+
+/// Where a step reader stands, and the buffer of its label.
+pub type Stand = [u64; STAND_NUMBERS];
+pub type Label = [u8; LABEL_LIMIT];
+
+/// A lent buffer's two arguments.
+fn lend(buffer: &mut [u8]) -> (*mut u8, usize) {
+    (buffer.as_mut_ptr(), buffer.len())
+}
+
+pub fn read(file: &[u8], sheet: &mut [u8]) -> AnswerNumbers {
+    let (sheet, room) = lend(sheet);
+    // SAFETY: each pointer goes with the length of its own slice, which outlives the call.
+    unsafe { cockledrift_read(file.as_ptr(), file.len(), sheet, room) }
+}
+
+pub fn write(sheet: &[u8], out: &mut [u8]) -> AnswerNumbers {
+    let (out, room) = lend(out);
+    // SAFETY: each pointer goes with the length of its own slice, which outlives the call.
+    unsafe { cockledrift_write(sheet.as_ptr(), sheet.len(), out, room) }
+}
+
+pub fn convert(file: &[u8], sheet: &mut [u8], out: &mut [u8]) -> AnswerNumbers {
+    let (sheet, sheet_room) = lend(sheet);
+    let (out, room) = lend(out);
+    // SAFETY: each pointer goes with the length of its own slice, which outlives the call.
+    unsafe { cockledrift_convert(file.as_ptr(), file.len(), sheet, sheet_room, out, room) }
+}
+
+pub fn edit(file: &[u8], first: usize, count: usize, new: &[u8], out: &mut [u8]) -> AnswerNumbers {
+    let (from, size) = (file.as_ptr(), file.len());
+    let (out, room) = lend(out);
+    // SAFETY: each pointer goes with the length of its own slice, which outlives the call.
+    unsafe { cockledrift_edit(from, size, first, count, new.as_ptr(), new.len(), out, room) }
+}
+
+pub fn compare(first: &[u8], second: &[u8]) -> ComparedNumbers {
+    // SAFETY: each pointer goes with the length of its own slice, which outlives the call.
+    unsafe { cockledrift_compare(first.as_ptr(), first.len(), second.as_ptr(), second.len()) }
+}
+
+pub fn open(file: &[u8], stand: &mut Stand) -> OpenNumbers {
+    // SAFETY: the file's pointer goes with its length; both outlive the call.
+    unsafe { cockledrift_open(file.as_ptr(), file.len(), stand) }
+}
+
+pub fn step(file: &[u8], stand: &mut Stand, label: &mut Label, out: &mut [u8]) -> StepNumbers {
+    let (out, room) = lend(out);
+    // SAFETY: each slice's pointer goes with its length; all that is lent outlives the call.
+    unsafe { cockledrift_step(file.as_ptr(), file.len(), stand, label, out, room) }
+}
+
+pub fn next(file: &[u8], stand: &mut Stand, label: &mut Label, out: &mut [u8]) -> StepNumbers {
+    let (out, room) = lend(out);
+    // SAFETY: each slice's pointer goes with its length; all that is lent outlives the call.
+    unsafe { cockledrift_next(file.as_ptr(), file.len(), stand, label, out, room) }
+}

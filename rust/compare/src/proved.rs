@@ -1,0 +1,89 @@
+//! The proved library with the second implementation's types: the one place
+//! where the two sets of types meet.
+
+use second::{Answer, Later, Opened, Step};
+
+/// An answer of the proved library.
+fn answer(answer: cockledrift::Answer) -> Answer {
+    match answer {
+        Ok(cockledrift::Done { bytes, records, version }) => {
+            Answer::Done { bytes, records, version }
+        }
+        Err(cockledrift::Refusal { number, place }) => Answer::Refused { number, place },
+    }
+}
+
+pub fn read(file: &[u8], sheet: &mut [u8]) -> Answer {
+    answer(cockledrift::read(file, sheet))
+}
+
+pub fn write(sheet: &[u8], out: &mut [u8]) -> Answer {
+    answer(cockledrift::write(sheet, out))
+}
+
+pub fn convert(file: &[u8], sheet: &mut [u8], out: &mut [u8]) -> Answer {
+    answer(cockledrift::convert(file, sheet, out))
+}
+
+pub fn edit(file: &[u8], first: usize, count: usize, new: &[u8], out: &mut [u8]) -> Answer {
+    answer(cockledrift::edit(file, first, count, new, out))
+}
+
+pub fn compare<'a>(first: &'a [u8], second: &'a [u8]) -> (Later, &'a [u8]) {
+    match cockledrift::compare(first, second) {
+        Ok(cockledrift::Later::First(line)) => (Later::First, line),
+        Ok(cockledrift::Later::Second(line)) => (Later::Second, line),
+        Ok(cockledrift::Later::Same) => (Later::Same, &[]),
+        Err(cockledrift::RefusedFile { file, refusal }) => (refused(file, refusal), &[]),
+    }
+}
+
+fn refused(file: cockledrift::Which, refusal: cockledrift::Refusal) -> Later {
+    let file = match file {
+        cockledrift::Which::First => 1,
+        cockledrift::Which::Second => 2,
+    };
+    Later::Refused { file, number: refusal.number, place: refusal.place }
+}
+
+/// The proved step reader.
+#[derive(Clone)]
+pub struct Reader<'f>(cockledrift::Reader<'f>);
+
+impl<'f> Reader<'f> {
+    pub fn open(file: &'f [u8]) -> (Reader<'f>, Opened) {
+        let (reader, opened) = cockledrift::Reader::open(file);
+        let opened = match opened {
+            Ok(cockledrift::Opened { version, place }) => Opened::At { version, place },
+            Err(cockledrift::Refusal { number, place }) => Opened::Refused { number, place },
+        };
+        (Reader(reader), opened)
+    }
+
+    pub fn with(file: &'f [u8], stand: [u64; 14], label: [u8; 4096]) -> Reader<'f> {
+        Reader(cockledrift::Reader::with(file, stand, label))
+    }
+
+    pub fn stand(&self) -> [u64; 14] {
+        *self.0.stand().0
+    }
+
+    pub fn step(&mut self, out: &mut [u8]) -> Step {
+        match self.0.step(out) {
+            Ok(cockledrift::Step::Record(cockledrift::Record { bytes, kept })) => {
+                Step::Record { bytes, kept }
+            }
+            Ok(cockledrift::Step::Nothing) => Step::Nothing,
+            Ok(cockledrift::Step::End) => Step::End,
+            Err(cockledrift::Refusal { number, place }) => Step::Refused { number, place },
+        }
+    }
+
+    pub fn next(&mut self, out: &mut [u8]) -> Step {
+        match self.0.next(out) {
+            Ok(Some(cockledrift::Record { bytes, kept })) => Step::Record { bytes, kept },
+            Ok(None) => Step::End,
+            Err(cockledrift::Refusal { number, place }) => Step::Refused { number, place },
+        }
+    }
+}
