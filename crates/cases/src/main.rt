@@ -1,5 +1,5 @@
-// Cases 11, 12 and 13 of document 01 and the dates of cross-sections (#106), run through
-// the proved functions.
+// Cases 11, 12 and 13 of document 01 (13 with the zones of #101) and the dates of
+// cross-sections (#106), run through the proved functions.
 use format::Answer;
 use format::Later;
 use listing::Printed;
@@ -35,7 +35,7 @@ fn run_read(file: &[u8]) {
     }
 }
 
-// Compares two files and prints which is later, and its time line.
+// Compares two files and prints which is later, with its time line, or which is refused.
 fn run_compare<'a>(first: &'a [u8], second: &'a [u8]) {
     let which = timeline::compare(first, second);
     match which {
@@ -49,10 +49,14 @@ fn run_compare<'a>(first: &'a [u8], second: &'a [u8]) {
             io::write_all(1, b"same");
         }
         Later::FirstRefused { number, place } => {
+            io::write_all(1, b"first ");
             print_refusal(number, place);
+            return;
         }
         Later::SecondRefused { number, place } => {
+            io::write_all(1, b"second ");
             print_refusal(number, place);
+            return;
         }
     }
     io::write_all(1, timeline::later_line(first, second));
@@ -76,13 +80,16 @@ fn main() {
     run_read(
         b"Survex 3D Image File\nv8\nA\n@0\n\x00\x30\x01a\x00\x00\x00\x00\x00\x00\x00\x00\x11\x07\x00\x31\x11a\x00\x00\x00\x00\x00\x00\x00\x00\x12\x07\x00\x02\x30\x11a\x00\x00\x00\x00\x00\x00\x00\x00\x00\x00",
     );
-    // 13: a text form equals its seconds, whatever its zone.
+    // 13: a text form equals its seconds. #101: in a zone other than `GMT` and `UTC` it gives 17.
     let text = b"Survex 3D Image File\nv7\nA\nSun,2002.03.17 14:01:07 GMT\n";
-    let zone = b"Survex 3D Image File\nv7\nA\nSun,2002.03.17 14:01:07 BST\n";
+    let world = b"Survex 3D Image File\nv7\nA\nSun,2002.03.17 14:01:07 UTC\n";
+    let summer = b"Survex 3D Image File\nv7\nA\nSun,2002.03.17 14:01:07 BST\n";
     let number = b"Survex 3D Image File\nv7\nA\n@1016373667\n";
     let next = b"Survex 3D Image File\nv7\nA\n@1016373668\n";
     run_compare(text, number);
-    run_compare(zone, number);
+    run_compare(world, number);
+    run_compare(summer, number);
+    run_compare(number, summer);
     run_compare(text, next);
     run_compare(next, text);
 }

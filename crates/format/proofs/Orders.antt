@@ -18,7 +18,7 @@ use Rattle.format.specs.Codes.{common, lengthCodes, partCodes, labelCode
 use Rattle.format.specs.Writing.{v8, codesAll, afterAll, encodeAll, fileOf, recordsVerdict, sizeVerdict, filedOutcome, writtenOutcome, writeOutcome}
 use Rattle.format.specs.Editing.{houseWritten, edited, houseVerdict, runVerdict, editVerdict, editResult, editOutcome}
 use Rattle.format.specs.Stepping.{Stand, before, stopped, openStand, wrote, ends, refuses, recorded, stepOf, ranOut, stops, gathered}
-use Rattle.format.specs.Times.{isDigit, allDigits, decimalFrom, decimal, leap, monthLengths, monthLength, monthDays, yearDays, dayNumber, realDate, atForm, textMarks, textDigits, textDay, textClock, textForm, textSeconds, secondsOf, stampOf}
+use Rattle.format.specs.Times.{isDigit, allDigits, decimalFrom, decimal, leap, monthLengths, monthLength, monthDays, yearDays, dayNumber, realDate, atForm, textMarks, textDigits, textDay, textClock, textZone, textForm, textSeconds, secondsOf, stampOf}
 use Rattle.format.specs.declared.Stamp.the-variants.{Unstamped, Stamped}
 use Rattle.format.specs.declared.Verdict.{Verdict}
 use Rattle.format.specs.declared.Verdict.the-variants.{Good, Refusal}
@@ -42,10 +42,10 @@ extendedHeader title time = record { extended = 1; title = title; time = time }
 abbrev pub caseHeader : Header
 caseHeader = header (65 ∷ []) (64 ∷ 48 ∷ [])
 
--- `Sun,2002.03.17 hh:01:07 GMT`, of the two digits of the hour
-abbrev pub sunday : ℕ → ℕ → List ℕ
-sunday a b =
-    83 ∷ 117 ∷ 110 ∷ 44 ∷ 50 ∷ 48 ∷ 48 ∷ 50 ∷ 46 ∷ 48 ∷ 51 ∷ 46 ∷ 49 ∷ 55 ∷ 32 ∷ a ∷ b ∷ 58 ∷ 48 ∷ 49 ∷ 58 ∷ 48 ∷ 55 ∷ 32 ∷ 71 ∷ 77 ∷ 84 ∷ []
+-- `Sun,2002.03.17 hh:01:07 Z`, of the two digits of the hour and the bytes of the zone
+abbrev pub sunday : ℕ → ℕ → List ℕ → List ℕ
+sunday a b zone =
+    83 ∷ 117 ∷ 110 ∷ 44 ∷ 50 ∷ 48 ∷ 48 ∷ 50 ∷ 46 ∷ 48 ∷ 51 ∷ 46 ∷ 49 ∷ 55 ∷ 32 ∷ a ∷ b ∷ 58 ∷ 48 ∷ 49 ∷ 58 ∷ 48 ∷ 55 ∷ 32 ∷ zone
 
 -- our file of a normal leg along the origin: style, MOVE, LINE, the end (58 bytes)
 abbrev pub oneLeg : List ℕ
@@ -178,12 +178,16 @@ table =
     ∷ record { given = stamp (stampOf (case1 [])); due = stamp (Stamped 0 26 2) }
     ∷ record { given = stamp (stampOf (case3 [])); due = stamp (Unstamped 17 26) }
     ∷ record { given = stamp (stampOf (headed 8 (65 ∷ []) (84 ∷ []) (0x01 ∷ []))); due = stamp (Unstamped 4 28) }
-    ∷ record { given = stamp (stampOf (headed 3 [] (sunday 50 51) [])); due = stamp (Stamped 1016406067 25 27) }
-    ∷ record { given = stamp (stampOf (headed 3 [] (sunday 50 52) [])); due = stamp (Unstamped 17 25) }
+    ∷ record { given = stamp (stampOf (headed 3 [] (sunday 50 51 (71 ∷ 77 ∷ 84 ∷ [])) [])); due = stamp (Stamped 1016406067 25 27) }
+    ∷ record { given = stamp (stampOf (headed 3 [] (sunday 50 52 (71 ∷ 77 ∷ 84 ∷ [])) [])); due = stamp (Unstamped 17 25) }
+    -- #101: "17 is widened, its place in the order stays": the zone `BST` gives it, after 4 for the v8 byte; `UTC` does not
+    ∷ record { given = stamp (stampOf (headed 3 [] (sunday 50 51 (85 ∷ 84 ∷ 67 ∷ [])) [])); due = stamp (Stamped 1016406067 25 27) }
+    ∷ record { given = stamp (stampOf (headed 3 [] (sunday 50 51 (66 ∷ 83 ∷ 84 ∷ [])) [])); due = stamp (Unstamped 17 25) }
+    ∷ record { given = stamp (stampOf (headed 8 [] (sunday 50 51 (66 ∷ 83 ∷ 84 ∷ [])) (0x01 ∷ []))); due = stamp (Unstamped 4 53) }
     ∷ []
 
 pub orders : givens table ≡ dues table
-unfolding pick le16 le32 be16 be32 toLe16 toLe32 toBe16 toBe32 widened same magic lineEnd endsInReturn goodLine extendedByte closedHeader timeLine titleLine goodVersion headerOf openingOf labelStep sized lengthSize lengthValue longPart newPart labelledItem stationItem lineItem moveItem dayItem spanItem daysItem v7DateItem oldMiddleItem oldLowItem newLowItem newHighItem itemOf dateOf badDates iter iterUp layout layoutAll headerLayout sheetOf goodDate dateFrom legEntry bodyEntry framed entryOf recordsStep recordsFrom recordsOf goodText goodHeader goodFront frontHeader behindFront versionResult versionOf sheetResult next ended readStep run itemsOf readOutcome common lengthCodes partCodes labelCodes sameDate samePoint styleIf dateIf moveIf lineCodes closing headerCodes codesAll afterAll encodeAll fileOf recordsVerdict sizeVerdict filedOutcome writtenOutcome writeOutcome houseWritten edited houseVerdict runVerdict editVerdict editResult editOutcome openStand recorded gathered isDigit allDigits decimalFrom decimal leap monthLengths monthLength monthDays yearDays dayNumber realDate atForm textMarks textDigits textDay textClock textForm textSeconds secondsOf stampOf
+unfolding pick le16 le32 be16 be32 toLe16 toLe32 toBe16 toBe32 widened same magic lineEnd endsInReturn goodLine extendedByte closedHeader timeLine titleLine goodVersion headerOf openingOf labelStep sized lengthSize lengthValue longPart newPart labelledItem stationItem lineItem moveItem dayItem spanItem daysItem v7DateItem oldMiddleItem oldLowItem newLowItem newHighItem itemOf dateOf badDates iter iterUp layout layoutAll headerLayout sheetOf goodDate dateFrom legEntry bodyEntry framed entryOf recordsStep recordsFrom recordsOf goodText goodHeader goodFront frontHeader behindFront versionResult versionOf sheetResult next ended readStep run itemsOf readOutcome common lengthCodes partCodes labelCodes sameDate samePoint styleIf dateIf moveIf lineCodes closing headerCodes codesAll afterAll encodeAll fileOf recordsVerdict sizeVerdict filedOutcome writtenOutcome writeOutcome houseWritten edited houseVerdict runVerdict editVerdict editResult editOutcome openStand recorded gathered isDigit allDigits decimalFrom decimal leap monthLengths monthLength monthDays yearDays dayNumber realDate atForm textMarks textDigits textDay textClock textZone textForm textSeconds secondsOf stampOf
 orders = refl
 
 -- 16 comes before all that a header can be refused for

@@ -1,10 +1,10 @@
 -- Time lines, document 01, "Which is later", with refusal 17. Assumes nothing.
 use Prim.Native.Nat.{ℕ, zero, suc, _+_, _-_, _*_, _%_}
 use mathlib.Core.List.{List, [], _∷_}
-use mathlib.Core.Bool.{Bool, true, _&&_}
+use mathlib.Core.Bool.{Bool, true, _&&_, _||_}
 use lib.ListN.{length, getD, take, drop}
 use lib.Dec.{eqb, ltb, leb}
-use Rattle.format.specs.Bytes.{pick}
+use Rattle.format.specs.Bytes.{pick, same}
 use Rattle.format.specs.Header.{Opening, shut, opened, openingOf}
 use Rattle.format.specs.declared.Spelled.{Spelled}
 use Rattle.format.specs.declared.Spelled.the-variants.{Number, Unreadable}
@@ -92,9 +92,12 @@ textDay line = realDate (decimal (field line 4 4)) (decimal (field line 9 2)) (d
 unfoldable pub textClock : List ℕ → Bool
 textClock line = leb (decimal (field line 15 2)) 23 && (leb (decimal (field line 18 2)) 59 && leb (decimal (field line 21 2)) 59)
 
--- "and one or more zone bytes, which are not judged"
+-- #101: "only when its zone is exactly `GMT` or `UTC`"; the zone is all that stands behind the last mark
+unfoldable pub textZone : List ℕ → Bool
+textZone line = same (drop 24 line) (71 ∷ 77 ∷ 84 ∷ []) || same (drop 24 line) (85 ∷ 84 ∷ 67 ∷ [])
+
 unfoldable pub textForm : List ℕ → Bool
-textForm line = leb 25 (length line) && ((textMarks line && textDigits line) && (textDay line && textClock line))
+textForm line = textZone line && ((textMarks line && textDigits line) && (textDay line && textClock line))
 
 unfoldable pub textSeconds : List ℕ → ℕ
 textSeconds line =

@@ -1,16 +1,17 @@
 -- The two forms of a time line, put together from their pieces. Assumes nothing.
 use Prim.Native.Nat.{ℕ, _+_, _*_, _≤_, _<_}
 use mathlib.Core.Path.{_≡_, refl, sym, ap, ap₂, _∙_}
-use mathlib.Core.List.{List}
-use mathlib.Core.Bool.{Bool, true, false, _&&_}
+use mathlib.Core.List.{List, [], _∷_}
+use mathlib.Core.Bool.{Bool, true, false, _&&_, _||_}
 use native.Mathlib.Omega.{arith}
-use lib.ListN.{length, getD, drop}
+use lib.ListN.{length, getD, drop, length-drop}
+use lib.Seq.{drop-cons, drop-length}
 use lib.Dec.{eqb, leb}
-use borrow.Author.Tests.{le-leb, leb-true}
-use Rattle.format.specs.Bytes.{pick}
-use Rattle.format.specs.Times.{allDigits, decimal, field, dayNumber, atForm, textMarks, textDigits, textDay, textClock, textForm, textSeconds, secondsOf}
+use borrow.Author.Tests.{leb-true, eq-eqb}
+use Rattle.format.specs.Bytes.{pick, same}
+use Rattle.format.specs.Times.{allDigits, decimal, field, dayNumber, atForm, textMarks, textDigits, textDay, textClock, textZone, textForm, textSeconds, secondsOf}
 use Rattle.format.specs.declared.Spelled.the-variants.{Unreadable, Number}
-use Rattle.format.proofs.Basics.{both, and-true, pick-true, pick-false}
+use Rattle.format.proofs.Basics.{both, and-true, pick-true, pick-false, same-true}
 use Rattle.format.specs.declared.Spelled.{Spelled}
 use Rattle.seconds.specs.Reading.{spelled, dateOf, clockOf}
 use Rattle.seconds.proofs.Digits.{told, untold, and-no}
@@ -35,6 +36,65 @@ pub last-mark : (line : List ℕ) → getD line 3 0 ≡ 44 → getD line 8 0 ≡
     → eqb (getD line 23 0) 32 ≡ textMarks line
 unfolding textMarks
 last-mark line a b c d e f = rw (a, b, c, d, e, f)
+
+-- ---- the zone: the last three of 27 bytes
+
+pub zone-length : (line : List ℕ) → textZone line ≡ true → length line ≡ 27
+unfolding textZone
+zone-length line e = go (same (drop 24 line) (71 ∷ 77 ∷ 84 ∷ [])) refl e
+  where
+    long : (s : List ℕ) → length s ≡ 3 → drop 24 line ≡ s → length line ≡ 27
+    long s l q =
+        let d = length-drop 24 line in
+        let k : length (drop 24 line) ≡ 3 = ap length q ∙ l in
+        omega arith
+
+    go : (b : Bool) → same (drop 24 line) (71 ∷ 77 ∷ 84 ∷ []) ≡ b → (b || same (drop 24 line) (85 ∷ 84 ∷ 67 ∷ [])) ≡ true → length line ≡ 27
+    go true p f = long _ refl (same-true _ _ p)
+    go false p f = long _ refl (same-true _ _ f)
+
+pub other-length : (line : List ℕ) → (length line ≡ 27 → ⊥) → false ≡ textZone line
+other-length line h = go (textZone line) refl
+  where
+    go : (b : Bool) → textZone line ≡ b → false ≡ b
+    go true e = absurd (h (zone-length line e))
+    go false e = refl
+
+abbrev pub lastThree : List ℕ → List ℕ
+lastThree line = getD line 24 0 ∷ getD line 25 0 ∷ getD line 26 0 ∷ []
+
+pub zone-is : (line : List ℕ) → length line ≡ 27 → textZone line ≡ (same (lastThree line) (71 ∷ 77 ∷ 84 ∷ []) || same (lastThree line) (85 ∷ 84 ∷ 67 ∷ []))
+unfolding textZone
+zone-is line e =
+    let x : drop 24 line ≡ getD line 24 0 ∷ drop 25 line = drop-cons line 24 0 (omega arith) in
+    let y : drop 25 line ≡ getD line 25 0 ∷ drop 26 line = drop-cons line 25 0 (omega arith) in
+    let z : drop 26 line ≡ getD line 26 0 ∷ drop 27 line = drop-cons line 26 0 (omega arith) in
+    let n : drop 27 line ≡ [] = rw e at (drop-length line) in
+    rw (x, y, z, n)
+
+-- two lists of three bytes are compared byte by byte
+three : (s : List ℕ) → length s ≡ 3 → s ≡ getD s 0 0 ∷ getD s 1 0 ∷ getD s 2 0 ∷ []
+three [] e = absurd (omega arith)
+three (a ∷ []) e = absurd (omega arith)
+three (a ∷ b ∷ []) e = absurd (omega arith)
+three (a ∷ b ∷ c ∷ []) e = refl
+three (a ∷ b ∷ c ∷ d ∷ s) e = absurd (omega arith)
+
+pub same-three : (s t : List ℕ) → length s ≡ 3 → length t ≡ 3
+    → same s t ≡ pick (eqb (getD s 0 0) (getD t 0 0)) (pick (eqb (getD s 1 0) (getD t 1 0)) (eqb (getD s 2 0) (getD t 2 0)) false) false
+unfolding same pick
+same-three s t m n = ap₂ same (three s m) (three t n) ∙ last (eqb (getD s 2 0) (getD t 2 0))
+  where
+    last : (b : Bool)
+        → pick (eqb (getD s 0 0) (getD t 0 0)) (pick (eqb (getD s 1 0) (getD t 1 0)) (pick b true false) false) false
+        ≡ pick (eqb (getD s 0 0) (getD t 0 0)) (pick (eqb (getD s 1 0) (getD t 1 0)) b false) false
+    last true = refl
+    last false = refl
+
+-- where the first two agree, the third decides
+pub third-decides : (s t : List ℕ) → length s ≡ 3 → length t ≡ 3 → getD s 0 0 ≡ getD t 0 0 → getD s 1 0 ≡ getD t 1 0 → eqb (getD s 2 0) (getD t 2 0) ≡ same s t
+unfolding pick
+third-decides s t m n e f = sym (same-three s t m n ∙ simp (eq-eqb _ _ e, eq-eqb _ _ f))
 
 -- the numbers of a time line in the text form
 pub record Whole (line : List ℕ) (days time : ℕ) : Type 0 where
@@ -69,10 +129,10 @@ module _ (line : List ℕ) where
       let s : decimal (field line 21 2) ≤ 59 = leb-true _ _ (q .1) in
       omega arith
 
-  module _ (l : 25 ≤ length line) (m : textMarks line ≡ true) where
+  module _ (z : textZone line ≡ true) (m : textMarks line ≡ true) where
     form-is : textForm line ≡ ((dateDigits && clockDigits) && (textDay line && textClock line))
     unfolding textForm textDigits
-    form-is = simp (le-leb 25 (length line) l, m)
+    form-is = simp (z, m)
 
     pub no-date : Unreadable ≡ dateOf line → Unreadable ≡ spelled (textForm line) (textSeconds line)
     unfolding dateOf

@@ -3,7 +3,8 @@ use format::Spelled;
 ghost use mathlib.Core.Path.{_≡_};
 ghost use Prim.Native.Nat.{_-_, _≤_, _<_};
 ghost use lib.ListN.{length, drop};
-ghost use Rattle.format.specs.Times.{leap, monthLength, monthDays, yearDays, dayNumber, realDate, decimal, atForm, textMarks, textForm, textSeconds, secondsOf};
+ghost use Rattle.format.specs.Bytes.{same};
+ghost use Rattle.format.specs.Times.{leap, monthLength, monthDays, yearDays, dayNumber, realDate, decimal, atForm, textMarks, textZone, textForm, textSeconds, secondsOf};
 ghost use Rattle.seconds.specs.Reading.{spelled, numberFrom, dateOf, clockOf};
 
 // The lengths of the months of a plain year and of a leap year.
@@ -11,6 +12,11 @@ const MONTHS: [[u8; 12]; 2] = [
     [31, 28, 31, 30, 31, 30, 31, 31, 30, 31, 30, 31],
     [31, 29, 31, 30, 31, 30, 31, 31, 30, 31, 30, 31],
 ];
+
+// The zones of a clock that is Greenwich time all the year.
+const GMT: [u8; 3] = [b'G', b'M', b'T'];
+
+const UTC: [u8; 3] = [b'U', b'T', b'C'];
 
 // A byte as a number to compute with.
 fn wide(x: u8) -> u64
@@ -215,11 +221,38 @@ fn at_form(line: &[u8]) -> Spelled
     number(&line[1..])
 }
 
+// Whether two zones of three bytes are the same.
+fn same_zone(a: [u8; 3], b: [u8; 3]) -> bool
+    ensures { λ r. ⌜ r ≡ same a b ⌝ }
+{
+    if a[0] != b[0] {
+        return false;
+    }
+    if a[1] != b[1] {
+        return false;
+    }
+    a[2] == b[2]
+}
+
+// Whether the zone, all that stands behind the last space, is `GMT` or `UTC`.
+fn known_zone(line: &[u8]) -> bool
+    ensures { λ r. ⌜ r ≡ textZone (now (line .entry)) ⌝ }
+{
+    if line.len() != 27 {
+        return false;
+    }
+    let zone = [line[24], line[25], line[26]];
+    if same_zone(zone, GMT) {
+        return true;
+    }
+    same_zone(zone, UTC)
+}
+
 // The seconds of a time line `Www,YYYY.MM.DD hh:mm:ss Z`.
 fn text_form(line: &[u8]) -> Spelled
     ensures { λ r. ⌜ r ≡ spelled (textForm (now (line .entry))) (textSeconds (now (line .entry))) ⌝ }
 {
-    if line.len() < 25 {
+    if !known_zone(line) {
         return Spelled::Unreadable;
     }
     if !marks(line) {

@@ -163,11 +163,16 @@ fn case_12() {
 fn case_13() {
     let timed = |version, time: &[u8]| Head { time, ..Head::short(version) }.bytes();
     let plain = timed(8, b"@1016373667");
-    for text in [&b"Sun,2002.03.17 14:01:07 GMT"[..], b"Sun,2002.03.17 14:01:07 BST"] {
+    for text in [&b"Sun,2002.03.17 14:01:07 GMT"[..], b"Sun,2002.03.17 14:01:07 UTC"] {
         let text = timed(3, text);
         assert_eq!(compare::later(&text, &plain), Ok((Later::Same, &[][..])));
         assert_eq!(compare::later(&plain, &text), Ok((Later::Same, &[][..])));
     }
+    // #101: "case 13's `BST` line now gives 17".
+    let summer = timed(3, b"Sun,2002.03.17 14:01:07 BST");
+    let refused = |file| Ok((Later::Refused { file, number: 17, place: 26 }, &[][..]));
+    assert_eq!(compare::later(&summer, &plain), refused(1));
+    assert_eq!(compare::later(&plain, &summer), refused(2));
     let next = timed(7, b"@1016373668");
     assert_eq!(compare::later(&plain, &next), Ok((Later::Second, &b"@1016373668"[..])));
 }

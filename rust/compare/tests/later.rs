@@ -24,7 +24,7 @@ fn version(number: usize) -> u8 {
     3 + (number % 6) as u8
 }
 
-/// The text form of every day is the same as its seconds, whatever the zone.
+/// The text form of every day is the same as its seconds, in either zone.
 #[test]
 fn every_day_is_its_seconds() {
     let mut count = 0;
@@ -32,7 +32,8 @@ fn every_day_is_its_seconds() {
         let seconds = number * 86400 + number % 86400;
         let moment = times::moment(seconds);
         assert_eq!((moment.year, moment.month, moment.day), (year, month, day));
-        let text = times::file(version(count), &moment.text("Day", "UTC"));
+        let zone = times::ZONES[count / 7 % 2];
+        let text = times::file(version(count), &moment.text("Day", zone));
         let plain = times::file(version(count / 6), format!("@{seconds}").as_bytes());
         assert_eq!(both_ways(&text, &plain), (Later::Same, &[][..]));
         count += 1;
@@ -45,7 +46,8 @@ fn every_day_is_its_seconds() {
 fn one_second_apart() {
     for (number, before) in times::ends().enumerate() {
         let forms = |seconds: u64| {
-            [times::moment(seconds).text("xxx", "Z"), format!("@{seconds}").into_bytes()]
+            let zone = times::ZONES[number / 4 % 2];
+            [times::moment(seconds).text("xxx", zone), format!("@{seconds}").into_bytes()]
         };
         // The very last second has no text after it.
         let last = before == 47_482 * 86400 - 1;
@@ -79,6 +81,31 @@ fn lines_at_their_limits() {
     }
     println!("lines: {}; first, second, same, refused: {seen:?}", lines.len());
     assert!(seen.iter().all(|&count| count > 0));
+}
+
+/// Any zone but `GMT` and `UTC` gives 17 at the line, and one that makes the
+/// line too long, or ends it in a carriage return, the header's 3 before it.
+#[test]
+fn only_two_zones() {
+    let plain = times::file(8, format!("@{}", times::NOON_SECONDS).as_bytes());
+    let (mut readable, mut header, mut line) = (0, 0, 0);
+    for (count, zone) in times::zones().iter().enumerate() {
+        let file = times::file(version(count), &times::in_zone(zone));
+        // A linefeed ends the line.
+        let zone = zone.split(|&byte| byte == b'\n').next().unwrap();
+        let (number, seen) = if zone == b"GMT" || zone == b"UTC" {
+            (None, &mut readable)
+        } else if zone.len() > 40 || zone.ends_with(b"\r") {
+            (Some(3), &mut header)
+        } else {
+            (Some(17), &mut line)
+        };
+        let refused = |number| Later::Refused { file: 1, number, place: 26 };
+        assert_eq!(both_ways(&file, &plain).0, number.map_or(Later::Same, refused), "{zone:?}");
+        *seen += 1;
+    }
+    println!("zones: {readable} readable, {header} refused with 3 and {line} with 17");
+    assert!(readable > 0 && header > 0 && line > 0);
 }
 
 /// Seeded pairs of readable lines, now and then with a damaged one.

@@ -69,6 +69,42 @@ pub fn fields() -> Vec<Vec<u8>> {
     moments.iter().map(|moment| moment.text("Sun", "GMT")).collect()
 }
 
+/// The zones that the text form is readable in.
+pub const ZONES: [&str; 2] = ["GMT", "UTC"];
+
+/// Zones that are `GMT`, `UTC` or nearly so: each byte changed to every other,
+/// any three of their letters, one byte less, one more, none, and long ones.
+pub fn zones() -> Vec<Vec<u8>> {
+    let mut zones = vec![b"BST".to_vec(), b"CET".to_vec(), b"UTC+1".to_vec(), b"Z".to_vec()];
+    for good in ZONES.map(str::as_bytes) {
+        for place in 0..good.len() {
+            zones.extend((0..=255).map(|new| crate::damage::changed(good, place, new)));
+            zones.push([&good[..place], &good[place + 1..]].concat());
+            zones.push(good[..place].to_vec());
+        }
+        for place in 0..=good.len() {
+            let more = b" \r\n\0GMTUC+10;\xff".iter();
+            zones.extend(more.map(|&byte| [&good[..place], &[byte], &good[place..]].concat()));
+        }
+        // 40 bytes of zone fill a time line.
+        zones.extend((0..=41).map(|length| good.iter().cycle().take(length).copied().collect()));
+        zones.extend((0..=41).map(|length| [good, &vec![b' '; length]].concat()));
+    }
+    let letters = b"GMTUCgmtuc ";
+    for (first, second) in letters.iter().flat_map(|&a| letters.map(|b| (a, b))) {
+        zones.extend(letters.map(|third| vec![first, second, third]));
+    }
+    zones
+}
+
+/// The seconds since 1970 of the moment that `in_zone` spells.
+pub const NOON_SECONDS: u64 = 1_016_373_667;
+
+/// A line of one moment with this zone.
+pub fn in_zone(zone: &[u8]) -> Vec<u8> {
+    [&NOON.text("Sun", ""), zone].concat()
+}
+
 /// The text form cut, lengthened and with each byte changed; zones and names.
 pub fn spoiled() -> Vec<Vec<u8>> {
     let good = NOON.text("Sun", "GMT");
@@ -120,7 +156,7 @@ pub fn readable(rng: &mut Rng) -> (Vec<u8>, u64) {
     // 47,482 days from 1970 to 2099.
     let seconds = rng.below(47_482 * 86400) as u64;
     let name = rng.pick(&["Sun", "Mon", "xyz", ",,,"]);
-    let zone = rng.pick(&["GMT", "BST", "Z", " ", "UTC+1"]);
+    let zone = rng.pick(&ZONES);
     (moment(seconds).text(name, zone), seconds)
 }
 

@@ -58,12 +58,12 @@ fn plain_seconds(line: &[u8]) -> Option<u64> {
     number(digits).filter(|&seconds| seconds <= u64::from(u32::MAX))
 }
 
-/// "`Www,YYYY.MM.DD hh:mm:ss Z`: three bytes for the day name, [...] and one
-/// or more zone bytes, which are not judged"
+/// "`Www,YYYY.MM.DD hh:mm:ss Z`: three bytes for the day name", "readable only
+/// when its zone is exactly `GMT` or `UTC`"
 fn calendar_seconds(line: &[u8]) -> Option<u64> {
     let (stamp, zone) = line.split_first_chunk::<24>()?;
     let marks = [stamp[3], stamp[8], stamp[11], stamp[14], stamp[17], stamp[20], stamp[23]];
-    if marks != *b",.. :: " || zone.is_empty() {
+    if marks != *b",.. :: " || !matches!(zone, b"GMT" | b"UTC") {
         return None;
     }
     let days = days(number(&stamp[4..8])?, number(&stamp[9..11])?, number(&stamp[12..14])?)?;

@@ -1,9 +1,9 @@
 //! Survex 3d files, v3 to v8: reading to a sheet, stepping, writing v8,
 //! editing v8 and comparing time lines.
 //!
-//! An independent second implementation of document 01 and of requests #106
-//! and #107 of document 02, written from these documents and the two published
-//! format pages. It allocates only in `edit`.
+//! An independent second implementation of document 01 and of requests #101,
+//! #106 and #107 of document 02, written from these documents and the two
+//! published format pages. It allocates only in `edit`.
 
 mod edit;
 mod header;

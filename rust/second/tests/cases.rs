@@ -186,10 +186,15 @@ fn case_12_drop_before_position() {
 #[test]
 fn case_13_time_lines() {
     assert_eq!(seconds(b"Sun,2002.03.17 14:01:07 GMT"), Some(1016373667));
-    assert_eq!(seconds(b"Sun,2002.03.17 14:01:07 BST"), Some(1016373667));
     let one = file(8, b"", b"Sun,2002.03.17 14:01:07 GMT", &[]);
     let other = file(3, b"", b"@1016373667", &[]);
     assert_eq!(compare(&one, &other), (Later::Same, &[][..]));
+    // Request #101: "case 13's `BST` line now gives 17".
+    assert_eq!(seconds(b"Sun,2002.03.17 14:01:07 BST"), None);
+    let summer = file(8, b"", b"Sun,2002.03.17 14:01:07 BST", &[]);
+    let no = |file| (Later::Refused { file, number: 17, place: 25 }, &[][..]);
+    assert_eq!(compare(&summer, &other), no(1));
+    assert_eq!(compare(&other, &summer), no(2));
 }
 
 #[test]

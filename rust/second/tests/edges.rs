@@ -527,15 +527,15 @@ fn time_lines_read() {
         (b"@0", 0),
         (b"@4294967295", 4294967295),
         (b"@0000000007", 7),
-        (b"Thu,1970.01.01 00:00:00 U", 0),
-        (b"   ,1970.01.01 00:00:59 U", 59),
+        (b"Thu,1970.01.01 00:00:00 UTC", 0),
+        (b"   ,1970.01.01 00:00:59 GMT", 59),
         (b"Thu,1970.12.31 23:59:59 UTC", 31_535_999),
         (b"Tue,2000.02.29 00:00:00 GMT", 951_782_400),
         (b"Wed,2000.03.01 00:00:00 GMT", 951_868_800),
-        (b"Thu,2099.12.31 23:59:59 \xff\0", 4_102_444_799),
-        (b"Mon,2024.12.31 12:00:00  ", 1_735_646_400),
-        (b"@bc,1970.01.02 00:00:00 Z", 86_400),
-        (b"\0\0\0,1970.02.01 00:01:00 Z", 31 * 86_400 + 60),
+        (b"Thu,2099.12.31 23:59:59 UTC", 4_102_444_799),
+        (b"Mon,2024.12.31 12:00:00 GMT", 1_735_646_400),
+        (b"@bc,1970.01.02 00:00:00 UTC", 86_400),
+        (b"\0\0\0,1970.02.01 00:01:00 GMT", 31 * 86_400 + 60),
     ];
     for (line, time) in good {
         assert_eq!(seconds(line), Some(time), "{}", String::from_utf8_lossy(line));
@@ -576,12 +576,73 @@ fn time_lines_not_read() {
 }
 
 #[test]
+fn zones_other_than_gmt_and_utc_are_not_read() {
+    let at = |zone: &[u8]| [b"Thu,1970.01.01 00:00:00 ", zone].concat();
+    assert_eq!(seconds(&at(b"GMT")), Some(0));
+    assert_eq!(seconds(&at(b"UTC")), Some(0));
+    let bad: [&[u8]; 24] = [
+        b"",
+        b"G",
+        b"GM",
+        b"UT",
+        b"U",
+        b"Z",
+        b"BST",
+        b"CET",
+        b"gmt",
+        b"utc",
+        b"Gmt",
+        b"GMT ",
+        b" GMT",
+        b"GMT\0",
+        b"GMT+1",
+        b"UTC+0",
+        b"GMTUTC",
+        b"GMC",
+        b"UMT",
+        b"GTC",
+        b"UTM",
+        b"TMG",
+        b"   ",
+        b"\xff\0\0",
+    ];
+    for zone in bad {
+        assert_eq!(seconds(&at(zone)), None, "{zone:?}");
+    }
+    for place in 24..27 {
+        for byte in (0..=255).filter(|byte| !b"GMTUC".contains(byte)) {
+            let mut line = at(b"GMT");
+            line[place] = byte;
+            assert_eq!(seconds(&line), None, "{line:?}");
+        }
+    }
+}
+
+#[test]
+fn zones_are_judged_after_the_rest_of_the_header() {
+    let other = file(3, b"", b"@0", &[]);
+    let summer = file(8, b"A", b"Thu,1970.01.01 00:00:00 BST", &[]);
+    let no = |file, number, place| (Later::Refused { file, number, place }, &[][..]);
+    assert_eq!(compare(&summer, b""), no(1, 17, 26));
+    assert_eq!(compare(&other, &summer), no(2, 17, 26));
+    // The v8 byte missing, then with a reserved bit.
+    let (byte, end) = (summer.len() - 1, summer.len() - 1);
+    assert_eq!(compare(&summer[..end], b""), no(1, 3, end));
+    let mut bit = summer.clone();
+    bit[byte] = 0x40;
+    assert_eq!(compare(&bit, b""), no(1, 4, byte));
+    // Reading and writing take any time line.
+    let sheet = sheet_with(0, b"A", b"Thu,1970.01.01 00:00:00 BST", &[]);
+    assert_eq!(read_all(&[&summer[..], &[0, 0]].concat()), Ok((sheet, 0, 8)));
+}
+
+#[test]
 fn every_day_counts_one_more() {
     let mut expected = 0;
     for year in 1970..=2099 {
         for month in 1..=12 {
             for day in 1..=31 {
-                let line = format!("Www,{year:04}.{month:02}.{day:02} 00:00:00 Z");
+                let line = format!("Www,{year:04}.{month:02}.{day:02} 00:00:00 UTC");
                 if let Some(time) = seconds(line.as_bytes()) {
                     assert_eq!(time, expected, "{line}");
                     expected += 86_400;
