@@ -1,14 +1,14 @@
--- The table of month lengths, the days of years and months, and how large the days of a real date are. Assumes nothing.
+-- The rule for the days before a month, the days of years and months, and how large the days of a real date are. Assumes nothing.
 use Prim.Native.Nat.{ℕ, zero, suc, _+_, _-_, _*_, _/_, _%_, _≤_, _<_}
 use mathlib.Core.Path.{_≡_, refl}
-use mathlib.Core.List.{List, [], _∷_}
 use mathlib.Core.Bool.{Bool, true, _&&_}
 use mathlib.Core.Logic.{_⊎_, inl, inr}
 use native.Mathlib.Nat.{le-of-suc-le-suc, not-suc-le-zero, eq-or-lt-of-le}
 use native.Mathlib.Omega.{arith}
 use lib.ListN.{getD}
-use lib.Dec.{eqb, leb}
-use borrow.Author.Tests.{eqb-true, eqb-false, leb-true}
+use lib.Dec.{eqb, ltb, leb}
+use borrow.Author.Tests.{eqb-true, eqb-false, leb-true, lt-ltb, le-ltb}
+use Rattle.format.specs.Bytes.{pick}
 use Rattle.format.specs.Times.{leap, monthLengths, monthLength, monthDays, yearDays, dayNumber, realDate}
 use Rattle.format.proofs.Basics.{both, pick-case}
 
@@ -26,13 +26,31 @@ at (suc n) f t k h = go (eq-or-lt-of-le (le-of-suc-le-suc h)) (at n f (both (f n
     go (inl e) rest = rw e (both (f n) (all n f) t .0)
     go (inr l) rest = rest l
 
--- ---- the table
+-- ---- months
 
--- its two rows are the two lists
-pub rows : (d : List ℕ) (row : ℕ) → row < 2 → getD (monthLengths 0 ∷ monthLengths 1 ∷ []) row d ≡ monthLengths row
-rows d zero h = refl
-rows d (suc zero) h = refl
-rows d (suc (suc row)) h = absurd (omega arith)
+-- #103: the rule that `days_before` computes, tied by one test to the lengths of the months, for every month of both kinds of year;
+-- 13 is the January after
+abbrev rule : ℕ → ℕ → ℕ
+rule row month = pick (ltb month 3) (31 * (month - 1)) (59 + row + (153 * (month - 3) + 2) / 5)
+
+abbrev ruled : ℕ → ℕ → Bool
+ruled row month = eqb (rule row month) (monthDays row (month - 1))
+
+rule-all : all 2 (λ row. all 14 (ruled row)) ≡ true
+unfolding monthLengths monthDays pick
+rule-all = refl
+
+module _ (row month : ℕ) (hr : row < 2) (hm : month ≤ 13) where
+  rule-at : rule row month ≡ monthDays row (month - 1)
+  rule-at = eqb-true (rule row month) (monthDays row (month - 1)) (at 14 (ruled row) (at 2 (λ k. all 14 (ruled k)) rule-all row hr) month (omega arith))
+
+  pub before-march : month < 3 → 31 * (month - 1) ≡ monthDays row (month - 1)
+  unfolding pick
+  before-march h = rw (lt-ltb month 3 h) at rule-at
+
+  pub from-march : 3 ≤ month → 59 + row + (153 * (month - 3) + 2) / 5 ≡ monthDays row (month - 1)
+  unfolding pick
+  from-march h = rw (le-ltb month 3 h) at rule-at
 
 -- no month has more than 31 days, and no month has more than 335 before it
 abbrev small : ℕ → ℕ → Bool

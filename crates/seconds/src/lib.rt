@@ -7,12 +7,6 @@ ghost use Rattle.format.specs.Bytes.{same};
 ghost use Rattle.format.specs.Times.{leap, monthLength, monthDays, yearDays, dayNumber, realDate, decimal, atForm, textMarks, textZone, textForm, textSeconds, secondsOf};
 ghost use Rattle.seconds.specs.Reading.{spelled, numberFrom, dateOf, clockOf};
 
-// The lengths of the months of a plain year and of a leap year.
-const MONTHS: [[u8; 12]; 2] = [
-    [31, 28, 31, 30, 31, 30, 31, 31, 30, 31, 30, 31],
-    [31, 29, 31, 30, 31, 30, 31, 31, 30, 31, 30, 31],
-];
-
 // The zones of a clock that is Greenwich time all the year.
 const GMT: [u8; 3] = [b'G', b'M', b'T'];
 
@@ -50,35 +44,35 @@ fn number(s: &[u8]) -> Spelled
     Spelled::Number { value: n }
 }
 
-// The row of a year in the table: 1 for a leap year. From 1970 to 2099 that is
-// every fourth year.
-fn leap_row(year: u64) -> usize
+// The days that a leap year has more: from 1970 to 2099 every fourth year has one.
+fn leap_day(year: u64) -> u64
     ensures { λ r. ⌜ (r ≡ leap year) × (r < 2) ⌝ }
 {
     if year % 4 == 0 { 1 } else { 0 }
 }
 
-// The length of a month, 1 to 12.
-fn month_length(row: usize, month: u64) -> u64
-    requires { ⌜ (row < 2) × (1 ≤ month) × (month ≤ 12) ⌝ }
-    ensures { λ r. ⌜ r ≡ monthLength row month ⌝ }
+// The days of a year before a month, 1 to 12, or before the next January, 13; extra is the
+// leap day. January has 31 days, and with February it has 59 and the leap day. From March to
+// July the months have 31, 30, 31, 30 and 31 days, from August to December the same again,
+// and January begins it once more: 153 days every five months. So the n-th month after March
+// begins n * 153 / 5 days after it; the 2 rounds that so that a long month comes first.
+fn days_before(extra: u64, month: u64) -> u64
+    requires { ⌜ (extra < 2) × (1 ≤ month) × (month ≤ 13) ⌝ }
+    ensures { λ r. ⌜ r ≡ monthDays extra (month - 1) ⌝ }
 {
-    let column = (month - 1) as usize;
-    wide(MONTHS[row][column])
+    if month < 3 {
+        return 31 * (month - 1);
+    }
+    59 + extra + (153 * (month - 3) + 2) / 5
 }
 
-// The days of a year before a month, 1 to 12.
-fn days_before(row: usize, month: u64) -> u64
-    requires { ⌜ (row < 2) × (1 ≤ month) × (month ≤ 12) ⌝ }
-    ensures { λ r. ⌜ r ≡ monthDays row (month - 1) ⌝ }
+// The length of a month, 1 to 12: the days before the next less those before it.
+fn month_length(extra: u64, month: u64) -> u64
+    requires { ⌜ (extra < 2) × (1 ≤ month) × (month ≤ 12) ⌝ }
+    ensures { λ r. ⌜ r ≡ monthLength extra month ⌝ }
 {
-    let mut days: u64 = 0;
-    let mut m: u64 = 1;
-    while m < month {
-        days += month_length(row, m);
-        m += 1;
-    }
-    days
+    let next = days_before(extra, month + 1);
+    next - days_before(extra, month)
 }
 
 // The days of the first n years from 1970 on.
@@ -108,8 +102,8 @@ fn real_date(year: u64, month: u64, day: u64) -> bool
     if day < 1 {
         return false;
     }
-    let row = leap_row(year);
-    day <= month_length(row, month)
+    let extra = leap_day(year);
+    day <= month_length(extra, month)
 }
 
 // The days from 1 January 1970 to a date.
@@ -117,9 +111,9 @@ fn day_number(year: u64, month: u64, day: u64) -> u64
     requires { ⌜ (1970 ≤ year) × (year ≤ 2099) × (1 ≤ month) × (month ≤ 12) × (1 ≤ day) × (day ≤ 31) ⌝ }
     ensures { λ r. ⌜ r ≡ dayNumber year month day ⌝ }
 {
-    let row = leap_row(year);
+    let extra = leap_day(year);
     let years = days_of_years(year - 1970);
-    let months = days_before(row, month);
+    let months = days_before(extra, month);
     years + (months + (day - 1))
 }
 

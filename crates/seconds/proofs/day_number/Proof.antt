@@ -14,10 +14,10 @@ years-at c = omega (arith, years (c .before .before .args .year - 1970), c .days
 months-at : (c : tie.After-days-before) → c .days-before .result ≤ 335
 months-at c =
     let x = c .before .before .before in
-    omega (arith, months-short _ (x .args .month) (c .before .before .leap-row .ensures .1) (x .pre .2) (x .pre .3), c .days-before .ensures)
+    omega (arith, months-short _ (x .args .month) (c .before .before .leap-day .ensures .1) (x .pre .2) (x .pre .3), c .days-before .ensures)
 
-leap-row-requires : tie.Need-leap-row-requires
-leap-row-requires c κs = search needs
+leap-day-requires : tie.Need-leap-day-requires
+leap-day-requires c κs = search needs
 
 sub-days-of-years : tie.Need-sub-days-of-years
 sub-days-of-years c = search needs
@@ -42,7 +42,7 @@ unfolding dayNumber
 returns c =
     let x = c .before .before .before .args in
     let m = months-at c in
-    rw (c .before .days-of-years .ensures, c .days-before .ensures, c .before .before .leap-row .ensures .0)
+    rw (c .before .days-of-years .ensures, c .days-before .ensures, c .before .before .leap-day .ensures .0)
 
 pub day-number-spec : {M : Type 1} → statement M
-day-number-spec = tie.close (tie.spec leap-row-requires sub-days-of-years days-of-years-requires days-before-requires sub-result add-result add-result-2 returns)
+day-number-spec = tie.close (tie.spec leap-day-requires sub-days-of-years days-of-years-requires days-before-requires sub-result add-result add-result-2 returns)
