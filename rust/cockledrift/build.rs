@@ -13,7 +13,7 @@ struct Archive {
 
 const ARCHIVES: [Archive; 1] = [Archive {
     name: "capi",
-    functions: &["read", "write", "convert", "edit", "compare", "open", "step", "next"],
+    functions: &["read", "write", "write_v7", "convert", "edit", "compare", "open", "step", "next"],
 }];
 
 fn main() {

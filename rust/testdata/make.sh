@@ -39,3 +39,11 @@ for file in *.3d; do
     cargo run -q --release --offline -p cockledrift --example convert < "$file" > "written/$file"
     dump3d -d "written/$file" > "written/${file%.3d}.dump"
 done
+
+# The same as v7, where v7 can carry it.
+for file in *.3d; do
+    if cargo run -q --release --offline -p cockledrift --example convert -- --to 7 < "$file" > "written_v7/$file" 2> /dev/null
+    then dump3d -d "written_v7/$file" > "written_v7/${file%.3d}.dump"
+    else rm "written_v7/$file"
+    fi
+done

@@ -3,7 +3,7 @@ ghost use mathlib.Core.Path.{_≡_};
 ghost use lib.ListN.{length};
 ghost use Rattle.format.specs.Header.{openingOf};
 ghost use Rattle.format.specs.Reading.{readOutcome, readBuffer};
-ghost use Rattle.format.specs.Writing.{v8, writeOutcome, writeBuffer};
+ghost use Rattle.format.specs.Writing.{v8, v7, writeOutcome, writeBuffer};
 ghost use Rattle.format.specs.Conversion.{convertOutcome, convertBuffer};
 ghost use Rattle.format.specs.Times.{compareOf, laterPart};
 ghost use Rattle.format.specs.Editing.{editOutcome, editBuffer};
@@ -51,6 +51,16 @@ pub extern "C" fn cockledrift_write(sheet: &[u8], out: &mut [u8]) -> AnswerNumbe
     ensures file { λ _. ⌜ now (out .exit) ≡ writeBuffer v8 (now (sheet .entry)) (now (out .entry)) ⌝ }
 {
     let a = write::write(sheet, out);
+    told::tell(a)
+}
+
+// Writes a sheet as a v7 file into the lent buffer.
+#[no_mangle]
+pub extern "C" fn cockledrift_write_v7(sheet: &[u8], out: &mut [u8]) -> AnswerNumbers
+    ensures answer { λ r. ⌜ r ≡ outcomeNumbers (writeOutcome v7 (now (sheet .entry)) (length (now (out .entry)))) ⌝ }
+    ensures file { λ _. ⌜ now (out .exit) ≡ writeBuffer v7 (now (sheet .entry)) (now (out .entry)) ⌝ }
+{
+    let a = write_v7::write_v7(sheet, out);
     told::tell(a)
 }
 

@@ -9,7 +9,7 @@ ghost use Rattle.format.specs.Fields.{recordOf, stateOf};
 ghost use Rattle.format.specs.Sheet.{pointBytes, dimensionBytes, traverseBytes};
 ghost use Rattle.format.specs.WellFormed.{WellFormed, GoodDated, GoodLeg, GoodStation, GoodSection};
 ghost use Rattle.format.specs.State.{leg, section as sectionRecord};
-ghost use Rattle.format.specs.Codes.{sameDate, dateCodes, samePoint, standsAt, styleIf, dateIf, moveIf, lineCodes, stationCodes, fitsShort, allShort, sectionCodes, errorCodes, codesLimit, codes};
+ghost use Rattle.format.specs.Codes.{sameDate, datedCodes, v8Dates, samePoint, standsAt, styleIf, dateIf, moveIf, lineCodes, stationCodes, fitsShort, allShort, sectionCodes, errorCodes, codesLimit, codes};
 ghost use Rattle.format.specs.declared.Dated.the-variants.{Range};
 use part::kept_bytes;
 use part::put;
@@ -20,7 +20,7 @@ ghost use Rattle.format.specs.Label.{labelLimit};
 
 // ---- pieces
 
-fn point_bytes(p: format::Point) -> [u8; 12]
+pub fn point_bytes(p: format::Point) -> [u8; 12]
     ensures { λ r. ⌜ r ≡ pointBytes toLe32 p ⌝ }
 {
     let x = number::le32_bytes(p.x);
@@ -43,7 +43,7 @@ fn point_bytes(p: format::Point) -> [u8; 12]
 }
 
 // Dimensions as i16.
-fn short_bytes(d: format::Dimensions) -> [u8; 8]
+pub fn short_bytes(d: format::Dimensions) -> [u8; 8]
     ensures { λ r. ⌜ r ≡ dimensionBytes toLe16 d ⌝ }
 {
     let l = number::le16_bytes(d.left);
@@ -54,7 +54,7 @@ fn short_bytes(d: format::Dimensions) -> [u8; 8]
 }
 
 // Dimensions as i32.
-fn long_bytes(d: format::Dimensions) -> [u8; 16]
+pub fn long_bytes(d: format::Dimensions) -> [u8; 16]
     ensures { λ r. ⌜ r ≡ dimensionBytes toLe32 d ⌝ }
 {
     let l = number::le32_bytes(d.left);
@@ -81,7 +81,7 @@ fn long_bytes(d: format::Dimensions) -> [u8; 16]
     ]
 }
 
-fn traverse_bytes(t: format::Traverse) -> [u8; 20]
+pub fn traverse_bytes(t: format::Traverse) -> [u8; 20]
     ensures { λ r. ⌜ r ≡ traverseBytes toLe32 t ⌝ }
 {
     let l = number::le32_bytes(t.legs);
@@ -179,51 +179,84 @@ fn wide_day(n: u16) -> u32
     n as u32
 }
 
+// v8's codes of dates.
+fn v8_dates() -> format::DateCodes
+    ensures { λ r. ⌜ r ≡ v8Dates ⌝ }
+{
+    format::DateCodes {
+        none: 0x10,
+        day: 0x11,
+        span: 0x12,
+        days: 0x13,
+    }
+}
+
 // A range in one byte for its span where that fits, else two days.
-fn put_range(out: &mut [u8], at: usize, first: u16, last: u16) -> usize
+fn put_range(out: &mut [u8], at: usize, codes: format::DateCodes, first: u16, last: u16) -> usize
     requires { ⌜ (at ≤ 32768) × (first ≤ last) ⌝ }
-    ensures { λ r. ⌜ Lays (now (out .entry)) (now (out .exit)) at (dateCodes (Range first last)) 5 r ⌝ }
+    ensures { λ r. ⌜ Lays (now (out .entry)) (now (out .exit)) at (datedCodes codes (Range first last)) 5 r ⌝ }
 {
     let d = number::le16_bytes(wide_day(first));
     let span = last - first;
     if span <= 255 {
-        let code = [0x12, d[0], d[1], span as u8];
+        let code = [codes.span, d[0], d[1], span as u8];
         return put(out, at, &code);
     }
     let e = number::le16_bytes(wide_day(last));
-    let code = [0x13, d[0], d[1], e[0], e[1]];
+    let code = [codes.days, d[0], d[1], e[0], e[1]];
     put(out, at, &code)
 }
 
-fn put_date(out: &mut [u8], at: usize, date: format::Dated) -> usize
+fn put_date(out: &mut [u8], at: usize, codes: format::DateCodes, date: format::Dated) -> usize
     requires { ⌜ (at ≤ 32768) × GoodDated date ⌝ }
-    ensures { λ r. ⌜ Lays (now (out .entry)) (now (out .exit)) at (dateCodes date) 5 r ⌝ }
+    ensures { λ r. ⌜ Lays (now (out .entry)) (now (out .exit)) at (datedCodes codes date) 5 r ⌝ }
 {
     match date {
         format::Dated::Undated => {
-            let code = [0x10];
+            let code = [codes.none];
             put(out, at, &code)
         }
         format::Dated::Day { day } => {
             let d = number::le16_bytes(wide_day(day));
-            let code = [0x11, d[0], d[1]];
+            let code = [codes.day, d[0], d[1]];
             put(out, at, &code)
         }
-        format::Dated::Range { first, last } => put_range(out, at, first, last),
+        format::Dated::Range { first, last } => put_range(out, at, codes, first, last),
     }
 }
 
-fn put_date_if(out: &mut [u8], at: usize, old: format::Dated, date: format::Dated) -> usize
+// A date in a version's codes, where it differs from the one before.
+pub fn put_date_if(
+    out: &mut [u8],
+    at: usize,
+    codes: format::DateCodes,
+    old: format::Dated,
+    date: format::Dated,
+) -> usize
     requires { ⌜ (at ≤ 32768) × GoodDated date ⌝ }
-    ensures { λ r. ⌜ Lays (now (out .entry)) (now (out .exit)) at (dateIf old date) 5 r ⌝ }
+    ensures { λ r. ⌜ Lays (now (out .entry)) (now (out .exit)) at (dateIf codes old date) 5 r ⌝ }
 {
     if same_date(old, date) {
         return at;
     }
-    put_date(out, at, date)
+    put_date(out, at, codes, date)
 }
 
-fn put_move_if(out: &mut [u8], at: usize, position: format::Position, from: format::Point) -> usize
+// The same in v8's codes.
+fn put_new_date_if(out: &mut [u8], at: usize, old: format::Dated, date: format::Dated) -> usize
+    requires { ⌜ (at ≤ 32768) × GoodDated date ⌝ }
+    ensures { λ r. ⌜ Lays (now (out .entry)) (now (out .exit)) at (dateIf v8Dates old date) 5 r ⌝ }
+{
+    let dates = v8_dates();
+    put_date_if(out, at, dates, old, date)
+}
+
+pub fn put_move_if(
+    out: &mut [u8],
+    at: usize,
+    position: format::Position,
+    from: format::Point,
+) -> usize
     requires { ⌜ at ≤ 32768 ⌝ }
     ensures { λ r. ⌜ Lays (now (out .entry)) (now (out .exit)) at (moveIf position from) 13 r ⌝ }
 {
@@ -281,7 +314,7 @@ fn put_leg(
     let old = setting.date;
     let position = setting.position;
     let a = put_style(out, 0, setting.style, style);
-    let b = put_date_if(out, a, old, date);
+    let b = put_new_date_if(out, a, old, date);
     let c = put_move_if(out, b, position, from);
     put_line(out, c, last, name, flags, to)
 }
@@ -358,7 +391,7 @@ fn put_section(
 {
     let old = setting.date;
     let date = section.date;
-    let at = put_date_if(out, 0, old, date);
+    let at = put_new_date_if(out, 0, old, date);
     put_xsect(out, at, last, name, section)
 }
 

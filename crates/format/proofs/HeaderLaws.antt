@@ -12,6 +12,7 @@ use Rattle.format.specs.Bytes.{pick}
 use Rattle.format.specs.Header.{Header, Opening, shut, opened, magic, titleLimit, timeLimit, fileLimit, lineEnd, goodLine, extendedByte, closedHeader, timeLine, titleLine, goodVersion, headerOf, openingOf}
 use Rattle.format.specs.Sheet.{goodText}
 use Rattle.format.specs.WellFormed.{GoodHeader}
+use Rattle.format.specs.V7Codes.{v7HeaderCodes}
 use Rattle.format.specs.Codes.{headerCodes}
 use Rattle.format.proofs.Basics.{pick-case, pick-true, pick-false, both, and-true, same-refl}
 use Rattle.format.proofs.SheetLaws.{GoodText, text-good, good-text}
@@ -77,16 +78,13 @@ line-good limit s e =
 
 -- ---- a good header's codes, read
 
-module _ (h : Header) (g : GoodHeader h) (rest : List ℕ) where
+-- the two lines, in any version; `digit` is the byte that says it, and `third` what follows the time line
+module _ (h : Header) (g : GoodHeader h) (digit : ℕ) (third : List ℕ) where
   title-text : GoodText titleLimit (h .title)
   title-text = text-good titleLimit (h .title) (g .title-good)
 
   time-text : GoodText timeLimit (h .time)
   time-text = text-good timeLimit (h .time) (g .time-good)
-
-  -- what follows the version, the title line and the time line
-  abbrev third : List ℕ
-  third = h .extended * 128 ∷ rest
 
   abbrev second : List ℕ
   second = h .time ++ (10 ∷ third)
@@ -95,29 +93,17 @@ module _ (h : Header) (g : GoodHeader h) (rest : List ℕ) where
   first = h .title ++ (10 ∷ second)
 
   abbrev file : List ℕ
-  file = magic ++ (118 ∷ 56 ∷ 10 ∷ first)
-
-  abbrev start : ℕ
-  start = length (headerCodes h)
+  file = magic ++ (118 ∷ digit ∷ 10 ∷ first)
 
   abbrev plain : Header
   plain = record { extended = 0; title = h .title; time = h .time }
 
-  file-is : headerCodes h ++ rest ≡ file
-  unfolding headerCodes magic
-  file-is = simp append-assoc
-
-  start-is : start ≡ 27 + length (h .title) + length (h .time)
-  unfolding headerCodes magic
-  start-is =
-      omega (arith, length-append (h .title) (10 ∷ (h .time ++ (10 ∷ h .extended * 128 ∷ []))), length-append (h .time) (10 ∷ h .extended * 128 ∷ []))
-
-  -- the file as what stands before the time line and the rest, and as what stands before the last byte and the rest
+  -- the file as what stands before the time line and the rest, and as what stands before `third` and the rest
   abbrev before-time : List ℕ
-  before-time = magic ++ (118 ∷ 56 ∷ 10 ∷ (h .title ++ (10 ∷ [])))
+  before-time = magic ++ (118 ∷ digit ∷ 10 ∷ (h .title ++ (10 ∷ [])))
 
-  abbrev before-last : List ℕ
-  before-last = magic ++ (118 ∷ 56 ∷ 10 ∷ (h .title ++ (10 ∷ (h .time ++ (10 ∷ [])))))
+  abbrev before-third : List ℕ
+  before-third = magic ++ (118 ∷ digit ∷ 10 ∷ (h .title ++ (10 ∷ (h .time ++ (10 ∷ [])))))
 
   at-second : drop (25 + length (h .title)) file ≡ second
   unfolding magic
@@ -125,56 +111,117 @@ module _ (h : Header) (g : GoodHeader h) (rest : List ℕ) where
       let e : before-time ++ second ≡ file = simp append-assoc in
       rw (← e) (drop-at before-time second (25 + length (h .title)) (omega (arith, length-append (h .title) (10 ∷ []))))
 
-  at-third : getD file (26 + length (h .title) + length (h .time)) 0 ≡ h .extended * 128
+  file-joined : before-third ++ third ≡ file
+  file-joined = simp append-assoc
+
+  before-length : length before-third ≡ 26 + length (h .title) + length (h .time)
   unfolding magic
-  at-third =
-      let e : before-last ++ third ≡ file = simp append-assoc in
-      rw (← e) (getD-at before-last (h .extended * 128) rest 0 (26 + length (h .title) + length (h .time))
-      (omega (arith, length-append (h .title) (10 ∷ (h .time ++ (10 ∷ []))), length-append (h .time) (10 ∷ []))))
-
-  file-length : length file ≡ start + length rest
-  file-length = ap length (sym file-is) ∙ length-append (headerCodes h) rest
-
-  extended-cases : (x : ℕ) → x ≤ 1 → (p : ℕ) → pick (eqb (x * 128) 0) (opened 8 p plain) (pick (eqb (x * 128) 128) (opened 8 p (record { extended = 1; title = h .title; time = h .time })) (shut 4 (26 + length (h .title) + length (h .time)))) ≡ opened 8 p (record { extended = x; title = h .title; time = h .time })
-  unfolding pick
-  extended-cases zero hx p = refl
-  extended-cases (suc zero) hx p = refl
-  extended-cases (suc (suc x)) hx p = absurd (omega arith)
-
-  extended-back : extendedByte file (26 + length (h .title) + length (h .time)) plain ≡ opened 8 start h
-  unfolding extendedByte
-  extended-back =
-      let p = 26 + length (h .title) + length (h .time) in
-      let e : p + 1 ≡ start = omega (arith, start-is) in
-      pick-false _ _ (lt-leb (length file) p (omega (arith, file-length, start-is))) ∙ rw (at-third, e) (extended-cases (h .extended) (g .extended-fits) start)
+  before-length = omega (arith, length-append (h .title) (10 ∷ (h .time ++ (10 ∷ []))), length-append (h .time) (10 ∷ []))
 
   at-first : drop 24 file ≡ first
   unfolding magic
   at-first = refl
 
-  time-back : timeLine 8 file (length (h .title)) ≡ opened 8 start h
-  unfolding timeLine closedHeader
-  time-back =
+  time-back : (version : ℕ) → timeLine version file (length (h .title)) ≡ closedHeader version file (26 + length (h .title) + length (h .time)) plain
+  unfolding timeLine
+  time-back version =
       pick-true _ _ (rw at-second (text-good-line timeLimit (h .time) third time-text))
-      ∙ (pick-true _ _ refl
-      ∙ rw (at-second, text-line timeLimit (h .time) third time-text, text-end timeLimit (h .time) third time-text, at-first, take-at (h .title) (10 ∷ second) (length (h .title)) refl) extended-back)
+      ∙ rw (at-second, text-line timeLimit (h .time) third time-text, text-end timeLimit (h .time) third time-text, at-first, take-at (h .title) (10 ∷ second) (length (h .title)) refl)
 
-  title-back : titleLine 8 file ≡ opened 8 start h
+  title-back : (version : ℕ) → titleLine version file ≡ closedHeader version file (26 + length (h .title) + length (h .time)) plain
   unfolding titleLine
-  title-back =
-      pick-true _ _ (rw at-first (text-good-line titleLimit (h .title) second title-text)) ∙ rw (at-first, text-end titleLimit (h .title) second title-text) time-back
+  title-back version =
+      pick-true _ _ (rw at-first (text-good-line titleLimit (h .title) second title-text)) ∙ rw (at-first, text-end titleLimit (h .title) second title-text) (time-back version)
 
-  at-version : (take 21 file ≡ magic) × (goodVersion file ≡ true) × (getD file 22 0 - 48 ≡ 8)
+  at-magic : take 21 file ≡ magic
+  unfolding magic
+  at-magic = refl
+
+  at-digit : getD file 22 0 ≡ digit
+  unfolding magic
+  at-digit = refl
+
+  lines-read : (version : ℕ) → goodVersion file ≡ true → digit - 48 ≡ version → headerOf file ≡ closedHeader version file (26 + length (h .title) + length (h .time)) plain
+  unfolding headerOf
+  lines-read version good e =
+      pick-true _ _ (rw at-magic (same-refl magic)) ∙ (pick-true _ _ good ∙ rw (at-digit, e) (title-back version))
+
+-- v8 has one byte more
+module _ (h : Header) (g : GoodHeader h) (rest : List ℕ) where
+  abbrev third-v8 : List ℕ
+  third-v8 = h .extended * 0x80 ∷ rest
+
+  abbrev file-v8 : List ℕ
+  file-v8 = file h g 56 third-v8
+
+  file-is : headerCodes h ++ rest ≡ file-v8
+  unfolding headerCodes magic
+  file-is = simp append-assoc
+
+  start-is : length (headerCodes h) ≡ 27 + length (h .title) + length (h .time)
+  unfolding headerCodes magic
+  start-is =
+      omega (arith, length-append (h .title) (10 ∷ (h .time ++ (10 ∷ h .extended * 128 ∷ []))), length-append (h .time) (10 ∷ h .extended * 128 ∷ []))
+
+  at-third : getD file-v8 (26 + length (h .title) + length (h .time)) 0 ≡ h .extended * 128
+  at-third =
+      rw (← file-joined h g 56 third-v8)
+      (getD-at (before-third h g 56 third-v8) (h .extended * 128) rest 0 (26 + length (h .title) + length (h .time)) (before-length h g 56 third-v8))
+
+  file-length : length file-v8 ≡ length (headerCodes h) + length rest
+  file-length = ap length (sym file-is) ∙ length-append (headerCodes h) rest
+
+  extended-cases : (x : ℕ) → x ≤ 1 → (p : ℕ)
+      → pick (eqb (x * 128) 0) (opened 8 p (record { extended = 0; title = h .title; time = h .time }))
+      (pick (eqb (x * 128) 128) (opened 8 p (record { extended = 1; title = h .title; time = h .time })) (shut 4 (26 + length (h .title) + length (h .time))))
+      ≡ opened 8 p (record { extended = x; title = h .title; time = h .time })
+  unfolding pick
+  extended-cases zero hx p = refl
+  extended-cases (suc zero) hx p = refl
+  extended-cases (suc (suc x)) hx p = absurd (omega arith)
+
+  extended-back : extendedByte file-v8 (26 + length (h .title) + length (h .time)) (record { extended = 0; title = h .title; time = h .time }) ≡ opened 8 (length (headerCodes h)) h
+  unfolding extendedByte
+  extended-back =
+      let p = 26 + length (h .title) + length (h .time) in
+      let e : p + 1 ≡ length (headerCodes h) = omega (arith, start-is) in
+      pick-false _ _ (lt-leb (length file-v8) p (omega (arith, file-length, start-is))) ∙ rw (at-third, e) (extended-cases (h .extended) (g .extended-fits) (length (headerCodes h)))
+
+  good-v8 : goodVersion file-v8 ≡ true
   unfolding magic goodVersion
-  at-version = (refl, refl, refl)
+  good-v8 = refl
 
   pub header-read : headerOf (headerCodes h ++ rest) ≡ opened 8 (length (headerCodes h)) h
-  unfolding headerOf
-  header-read = rw file-is (pick-true _ _ (rw (at-version .0) (same-refl magic)) ∙ (pick-true _ _ (at-version .1) ∙ rw (at-version .2) title-back))
+  unfolding closedHeader
+  header-read = rw file-is (lines-read h g 56 third-v8 8 good-v8 refl ∙ (pick-true _ _ refl ∙ extended-back))
 
   pub opening-read : length (headerCodes h ++ rest) ≤ 16777216 → openingOf (headerCodes h ++ rest) ≡ opened 8 (length (headerCodes h)) h
   unfolding openingOf
   opening-read l = pick-false _ _ (le-ltb fileLimit (length (headerCodes h ++ rest)) l) ∙ header-read
+
+-- v7 has none, and is never extended
+module _ (h : Header) (g : GoodHeader h) (unextended : h .extended ≡ 0) (rest : List ℕ) where
+  v7-file-is : v7HeaderCodes h ++ rest ≡ file h g 55 rest
+  unfolding v7HeaderCodes magic
+  v7-file-is = simp append-assoc
+
+  v7-start-is : 26 + length (h .title) + length (h .time) ≡ length (v7HeaderCodes h)
+  unfolding v7HeaderCodes magic
+  v7-start-is = omega (arith, length-append (h .title) (10 ∷ (h .time ++ (10 ∷ []))), length-append (h .time) (10 ∷ []))
+
+  good-v7 : goodVersion (file h g 55 rest) ≡ true
+  unfolding magic goodVersion
+  good-v7 = refl
+
+  v7-header-read : headerOf (v7HeaderCodes h ++ rest) ≡ opened 7 (length (v7HeaderCodes h)) h
+  unfolding closedHeader
+  v7-header-read =
+      let same-header : record { extended = 0; title = h .title; time = h .time } ≡ h = λ i. record { extended = sym unextended i; title = h .title; time = h .time } in
+      rw v7-file-is (lines-read h g 55 rest 7 good-v7 refl ∙ (pick-false _ _ refl ∙ rw (v7-start-is, same-header)))
+
+  pub v7-opening-read : length (v7HeaderCodes h ++ rest) ≤ fileLimit → openingOf (v7HeaderCodes h ++ rest) ≡ opened 7 (length (v7HeaderCodes h)) h
+  unfolding openingOf
+  v7-opening-read l = pick-false _ _ (le-ltb fileLimit (length (v7HeaderCodes h ++ rest)) l) ∙ v7-header-read
 
 -- ---- a file that is opened
 

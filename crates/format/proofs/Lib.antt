@@ -13,12 +13,16 @@ pub mod OurFiles
 pub mod OutlineCases
 pub mod OutlineLaws
 pub mod PaperLaws
+pub mod ReadBack
 pub mod ReadingLaws
 pub mod RefusalLaws
 pub mod RoundTrip
 pub mod Rows
 pub mod SheetLaws
 pub mod SteppingLaws
+pub mod V7Cases
+pub mod V7Laws
 pub mod Versions
 pub mod WritingLaws
+pub mod WrittenItems
 pub mod WrittenBytes

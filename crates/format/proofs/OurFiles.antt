@@ -2,13 +2,13 @@
 -- is exactly what they give for its sheet, so an edit of it never answers 14. Assumes nothing.
 use Prim.Native.Nat.{ℕ, _+_, _≤_}
 use native.Mathlib.Omega.{arith}
-use mathlib.Core.Path.{_≡_, refl, sym, _∙_}
-use mathlib.Core.List.{List, [], _∷_}
+use mathlib.Core.Path.{_≡_, refl, sym, ap, _∙_}
+use mathlib.Core.List.{List, [], _∷_, _++_}
 use mathlib.Core.Bool.{Bool, true, false}
 use lib.ListN.{length, take}
 use lib.Dec.{ltb}
 use borrow.Author.Tests.{ltb-false}
-use Rattle.format.specs.Bytes.{pick, Bytes}
+use Rattle.format.specs.Bytes.{pick, same, Bytes}
 use Rattle.format.specs.Header.{Header, Opening, shut, opened, openingOf}
 use Rattle.format.specs.State.{State, start, Record}
 use Rattle.format.specs.Sheet.{sheetVersion, Entry, flawed, entry, entryOf, entryStep, recordsStep, recordsFrom, recordsOf, sheetResult, frontHeader}
@@ -18,11 +18,11 @@ use Rattle.format.specs.declared.Verdict.the-variants.{Good, Refusal}
 use Rattle.format.specs.WellFormed.{GoodHeader, AllWellFormed}
 use Rattle.format.specs.Reading.{itemsOf}
 use Rattle.format.specs.Codes.{headerCodes}
-use Rattle.format.specs.Writing.{Writer, v8, fileOf, recordsVerdict, sizeVerdict, writingVerdict, filedOutcome, writtenOutcome, writeOutcome, writeBuffer}
+use Rattle.format.specs.Writing.{Writer, v8, encodeAll, fileOf, recordsVerdict, sizeVerdict, writingVerdict, filedOutcome, writtenOutcome, writeOutcome, writeBuffer}
 use Rattle.format.specs.Editing.{houseWritten, edited, houseVerdict, runVerdict, editVerdict, editResult, editFrom, editOutcome, editBuffer}
-use Rattle.format.proofs.Basics.{pick-case, second-picked, same-refl}
+use Rattle.format.proofs.Basics.{pick-case, second-picked, same-true, same-refl}
 use Rattle.format.proofs.IterateLaws.{iter-ind}
-use Rattle.format.proofs.HeaderLaws.{opening-fits}
+use Rattle.format.proofs.HeaderLaws.{opening-fits, opening-read}
 use Rattle.format.proofs.SheetLaws.{records-formed}
 use Rattle.format.proofs.GoodRecords.{items-formed}
 use Rattle.format.proofs.RoundTrip.{both-good, Writes, writes, writes-file, written-opens, written-items, sheet-is, file-written}
@@ -194,3 +194,24 @@ pub edited-never-14 : (file : List ℕ) (first count : ℕ) (new old : List ℕ)
 edited-never-14 file first count new old b n w file-bytes new-bytes e =
     let o = edit-opens file first count new (length old) b n w e in
     never-14 (edited-ours file first count new old b n w (o .version) (o .place) (o .header) (o .opens) e file-bytes new-bytes)
+
+-- ---- "An edit still takes only v8: a v7 file that reads well gets 14, even one written here" (#110)
+
+other-version-not-ours : (file : List ℕ) {v p : ℕ} {h : Header} → openingOf file ≡ opened v p h → (v ≡ 8 → ⊥) → (xs : List Record) → houseWritten file h xs ≡ false
+unfolding houseWritten fileOf
+other-version-not-ours file {v} {p} {h} opens other xs = go (same file (fileOf v8 h xs)) refl
+  where
+    go : (b : Bool) → same file (fileOf v8 h xs) ≡ b → b ≡ false
+    go false e = refl
+    go true e =
+        let f = opening-fits file opens in
+        let q : file ≡ headerCodes h ++ encodeAll v8 start xs = same-true file (fileOf v8 h xs) e in
+        let l : length (headerCodes h ++ encodeAll v8 start xs) ≤ 16777216 = rw q at (f .few) in
+        let o : opened v p h ≡ opened 8 (length (headerCodes h)) h = sym opens ∙ ap openingOf q ∙ opening-read h (f .header) (encodeAll v8 start xs) l in
+        absurd (other (let z : v ≡ 8 = cc in z))
+
+pub other-version-14 : (file : List ℕ) {v p : ℕ} {h : Header} → openingOf file ≡ opened v p h → (v ≡ 8 → ⊥) → itemsOf v p file .verdict ≡ Good
+    → (first count : ℕ) (new : List ℕ) (room : ℕ) → editOutcome file first count new room ≡ refused 14 0
+unfolding editOutcome editResult editVerdict houseVerdict writtenOutcome filedOutcome pick
+other-version-14 file {v} {p} opens other good first count new room =
+    rw opens (rw good (rw (other-version-not-ours file opens other (itemsOf v p file .records))))

@@ -14,7 +14,7 @@ use Rattle.format.specs.Label.{labelLimit}
 use Rattle.format.specs.State.{State, Record, section}
 use Rattle.format.specs.Refusals.{Result, stop}
 use Rattle.format.specs.Sheet.{sheetVersion, undatedVersion, sectionSize, undatedSectionSize, undatedSectionBody, layout, Entry, flawed, entry, goodDate, dateFrom, sectionEntry, bodyEntry, framed, entryOf, goodFront, frontHeader, behindFront, recordsOf, versionResult, versionOf, sheetResult}
-use Rattle.format.specs.Codes.{sameDate, dateIf, sectionCodes, codes}
+use Rattle.format.specs.Codes.{sameDate, v8Dates, dateIf, sectionCodes, codes}
 use Rattle.format.specs.Writing.{Writer, fileOf, writtenOutcome, writeOutcome, writeBuffer, twin}
 use Rattle.format.specs.declared.Section.{Section}
 use Rattle.format.specs.declared.Dated.{Dated}
@@ -63,7 +63,7 @@ pub undated-section : (st : State) (s : Section) (label : List ℕ) → s .date 
 unfolding dateIf sameDate sectionCodes pick
 undated-section st s label u h = rw u (go (st .setting .date) h)
   where
-    go : (d : Dated) → (d ≡ Undated → ⊥) → dateIf d Undated ++ sectionCodes (st .label) s label ≡ 0x10 ∷ sectionCodes (st .label) s label
+    go : (d : Dated) → (d ≡ Undated → ⊥) → dateIf v8Dates d Undated ++ sectionCodes (st .label) s label ≡ 0x10 ∷ sectionCodes (st .label) s label
     go Undated h = absurd (h refl)
     go (Day d) h = refl
     go (Range d e) h = refl

@@ -27,7 +27,7 @@ use Rattle.format.specs.declared.Verdict.{Verdict}
 use Rattle.format.specs.WellFormed.{GoodPoint, GoodDimensions, GoodTraverse, GoodDated, GoodLeg, GoodStation, GoodSection, WellFormed, AllWellFormed}
 use Rattle.format.specs.Reading.{next, ended, afterItem, run}
 use Rattle.format.specs.Writing.{Writer, v8, codesAll, afterAll, encodeAll, recordsVerdict}
-use Rattle.format.specs.Codes.{common, lengthCodes, partCodes, labelCodes, keptBytes, sameDate, dateCodes, samePoint, standsAt, styleIf, dateIf, moveIf, lineCodes, stationCodes, fitsShort, allShort, sectionCodes, errorCodes, codes, settingAfter, after, closing, unsayable}
+use Rattle.format.specs.Codes.{common, lengthCodes, partCodes, labelCodes, keptBytes, v8Dates, styleIf, dateIf, moveIf, lineCodes, stationCodes, fitsShort, allShort, sectionCodes, errorCodes, codes, settingAfter, after, closing, unsayable}
 use Rattle.format.specs.declared.Point.{Point}
 use Rattle.format.specs.declared.Dimensions.{Dimensions}
 use Rattle.format.specs.declared.Traverse.{Traverse}
@@ -47,7 +47,8 @@ use Rattle.format.proofs.Rows.{le16-width, le32-width, point-back, trav
 use Rattle.format.proofs.LabelLaws.{step-fits, back-keeps}
 use Rattle.format.proofs.ApplyLaws.{style-first, style-end}
 use Rattle.format.proofs.ReadingLaws.{run-done, run-on}
-use Rattle.format.proofs.GoingLaws.{Goes, stays, goes-as, goes-on, goes-made, goes-append, goes-run}
+use Rattle.format.proofs.GoingLaws.{Goes, goes-as, goes-made, goes-append, goes-run}
+use Rattle.format.proofs.WrittenItems.{there, PartRead, station-read-back, line-read-back, short-section-read-back, wide-section-read-back, written-if, DatesRead, date-if-read, move-if-read, error-next}
 
 -- ---- any writer: records in a row
 
@@ -209,102 +210,66 @@ label-same l h =
     let z : length l - length l ≡ 0 = omega arith in
     rw (z, drop-length) at (label-read l l (length l) (record { first = omega arith; second = omega arith; equal = refl }) h)
 
--- the label part of k bytes kept, then n bytes or more: what the item is made of
-labelled-read : (l m : List ℕ) (k : ℕ) (tail : List ℕ) (n : ℕ) (make : ℕ → List ℕ → List ℕ → Item) → length l ≤ labelLimit → length m ≤ labelLimit → n ≤ length tail
-    → labelledItem (newPart (labelCodes l m k ++ tail)) (labelCodes l m k ++ tail) n make ≡ whole (1 + (length (labelCodes l m k) + n)) (make (length l - k) (drop k m) tail)
-unfolding labelledItem labelCodes sized pick
-labelled-read l m k tail n make hl hm hn =
-    let D = length l - k in
-    let A = length m - k in
-    let P = partCodes D A in
-    let a : length (drop k m) ≡ A = length-drop k m in
-    let e0 : (P ++ drop k m) ++ tail ≡ P ++ (drop k m ++ tail) = append-assoc P (drop k m) tail in
-    let e1 : newPart (P ++ (drop k m ++ tail)) ≡ Numbers (length P) D A = part-read D A (drop k m ++ tail) (omega arith) (omega arith) in
-    let e2 : drop (length P) (P ++ (drop k m ++ tail)) ≡ drop k m ++ tail = drop-append-seam P (drop k m ++ tail) in
-    let e3 : take A (drop k m ++ tail) ≡ drop k m = take-at (drop k m) tail A a in
-    let e4 : drop (length P + A) (P ++ (drop k m ++ tail)) ≡ tail = drop-append-add P (drop k m ++ tail) A ∙ drop-at (drop k m) tail A a in
-    let z : length P + A + n ≡ length (P ++ drop k m) + n = simp (length-append, a) in
-    let h : length (P ++ drop k m) + n ≤ length (P ++ (drop k m ++ tail)) = simp (length-append, a) (omega arith) in
-    rw (e0, e1) (simp (e2, e3, e4, z, le-ltb _ _ h))
-
 -- ---- which item a code of v8 is
 
 module _ (c : ℕ) (t : List ℕ) where
-  there : ltb (suc (length t)) 1 ≡ false
-  there = le-ltb (suc (length t)) 1 (omega arith)
-
   code-station : 128 ≤ c → itemOf 8 (c ∷ t) ≡ stationItem (c - 0x80) (newPart t) t
   unfolding itemOf newHighItem pick
   code-station h =
-      simp (there, le-ltb c 48 (omega arith), le-ltb c 52 (omega arith), le-ltb c 64 (omega arith), le-ltb c 72 (omega arith), le-ltb c 96 (omega arith), le-ltb c 104 (omega arith), le-ltb c 128 (omega arith))
+      simp (there c t, le-ltb c 48 (omega arith), le-ltb c 52 (omega arith), le-ltb c 64 (omega arith), le-ltb c 72 (omega arith), le-ltb c 96 (omega arith), le-ltb c 104 (omega arith), le-ltb c 128 (omega arith))
 
   code-line : 64 ≤ c → c < 72 → itemOf 8 (c ∷ t) ≡ lineItem (c - 0x40) (newPart t) t
   unfolding itemOf newHighItem pick
-  code-line h k = simp (there, le-ltb c 48 (omega arith), le-ltb c 52 (omega arith), le-ltb c 64 (omega arith), lt-ltb c 72 k)
+  code-line h k = simp (there c t, le-ltb c 48 (omega arith), le-ltb c 52 (omega arith), le-ltb c 64 (omega arith), lt-ltb c 72 k)
 
   code-same-line : 96 ≤ c → c < 104 → itemOf 8 (c ∷ t) ≡ lineItem (c - 0x60) (Numbers 0 0 0) t
   unfolding itemOf newHighItem pick
   code-same-line h k =
-      simp (there, le-ltb c 48 (omega arith), le-ltb c 52 (omega arith), le-ltb c 64 (omega arith), le-ltb c 72 (omega arith), le-ltb c 96 (omega arith), lt-ltb c 104 k)
+      simp (there c t, le-ltb c 48 (omega arith), le-ltb c 52 (omega arith), le-ltb c 64 (omega arith), le-ltb c 72 (omega arith), le-ltb c 96 (omega arith), lt-ltb c 104 k)
 
   code-section : 48 ≤ c → c < 52 → itemOf 8 (c ∷ t) ≡ sectionItem c (newPart t) t
   unfolding itemOf newHighItem pick
-  code-section h k = simp (there, le-ltb c 48 (omega arith), lt-ltb c 52 k)
+  code-section h k = simp (there c t, le-ltb c 48 (omega arith), lt-ltb c 52 k)
 
   code-style : c < 5 → itemOf 8 (c ∷ t) ≡ whole 1 (Style c)
   unfolding itemOf newLowItem pick
-  code-style h = simp (there, lt-ltb c 48 (omega arith), lt-ltb c 5 h)
+  code-style h = simp (there c t, lt-ltb c 48 (omega arith), lt-ltb c 5 h)
 
 -- ---- the items that writing makes, with what follows them
 
 module _ (l m : List ℕ) (k : ℕ) (hl : length l ≤ labelLimit) (hm : length m ≤ labelLimit) where
-  -- a code, the label part and n bytes of `fields`
+  -- a code, the label part and what follows it
   abbrev item : ℕ → List ℕ → List ℕ
   item c fields = c ∷ (labelCodes l m k ++ fields)
 
-  behind : (fields rest : List ℕ) (n : ℕ) (make : ℕ → List ℕ → List ℕ → Item) → length fields ≡ n
-      → labelledItem (newPart ((labelCodes l m k ++ fields) ++ rest)) ((labelCodes l m k ++ fields) ++ rest) n make ≡ whole (suc (length (labelCodes l m k ++ fields))) (make (length l - k) (drop k m) (fields ++ rest))
-  behind fields rest n make e =
-      let z : 1 + (length (labelCodes l m k) + n) ≡ suc (length (labelCodes l m k ++ fields)) = simp length-append (omega arith) in
-      rw append-assoc (labelled-read l m k (fields ++ rest) n make hl hm (simp length-append (omega arith)) ∙ rw z)
+  part-back : PartRead newPart (partCodes (length l - k) (length m - k)) (length l - k) (drop k m)
+  part-back = record { numbers = λ tail. rw (length-drop k m) (part-read (length l - k) (length m - k) (drop k m ++ tail) (omega arith) (omega arith)) }
 
   pub station-item : (flags : ℕ) (p : Point) (rest : List ℕ) → GoodPoint p
       → itemOf 8 (item (0x80 + flags) (pointBytes toLe32 p) ++ rest) ≡ whole (length (item (0x80 + flags) (pointBytes toLe32 p))) (Label flags p (length l - k) (drop k m))
-  unfolding stationItem
+  unfolding labelCodes
   station-item flags p rest g =
       let z : 0x80 + flags - 0x80 ≡ flags = omega arith in
-      code-station (0x80 + flags) _ (omega arith)
-      ∙ behind (pointBytes toLe32 p) rest 12 _ (simp (length-append, le32-width))
-      ∙ rw (z, point-back p rest g)
+      station-read-back 8 part-back (0x80 + flags) rest flags p (λ t. code-station (0x80 + flags) t (omega arith) ∙ rw z) g
 
   pub line-item : (flags : ℕ) (p : Point) (rest : List ℕ) → flags ≤ 7 → GoodPoint p
       → itemOf 8 (item (0x40 + flags) (pointBytes toLe32 p) ++ rest) ≡ whole (length (item (0x40 + flags) (pointBytes toLe32 p))) (Line flags p (length l - k) (drop k m))
-  unfolding lineItem
+  unfolding labelCodes
   line-item flags p rest h g =
       let z : 0x40 + flags - 0x40 ≡ flags = omega arith in
-      code-line (0x40 + flags) _ (omega arith) (omega arith)
-      ∙ behind (pointBytes toLe32 p) rest 12 _ (simp (length-append, le32-width))
-      ∙ rw (z, point-back p rest g)
+      line-read-back 8 part-back (0x40 + flags) rest flags p (λ t. code-line (0x40 + flags) t (omega arith) (omega arith) ∙ rw z) g
 
   pub short-section-item : (last : ℕ) (d : Dimensions) (rest : List ℕ) → last ≤ 1 → GoodDimensions d → allShort d ≡ true
       → itemOf 8 (item (0x30 + last) (dimensionBytes toLe16 d) ++ rest) ≡ whole (length (item (0x30 + last) (dimensionBytes toLe16 d))) (Xsect last d (length l - k) (drop k m))
-  unfolding sectionItem
+  unfolding labelCodes
   short-section-item last d rest h g e =
-      let z : (0x30 + last) % 2 ≡ last = omega arith in
-      code-section (0x30 + last) _ (omega arith) (omega arith)
-      ∙ pick-true _ _ (lt-ltb (0x30 + last) 50 (omega arith))
-      ∙ behind (dimensionBytes toLe16 d) rest 8 _ (simp (length-append, le16-width))
-      ∙ rw (z, short-dimensions-back d rest g e)
+      short-section-read-back 8 part-back (0x30 + last) rest last d (λ t. code-section (0x30 + last) t (omega arith) (omega arith)) (omega arith) g (omega arith) e
 
   pub wide-section-item : (last : ℕ) (d : Dimensions) (rest : List ℕ) → last ≤ 1 → GoodDimensions d
       → itemOf 8 (item (0x32 + last) (dimensionBytes toLe32 d) ++ rest) ≡ whole (length (item (0x32 + last) (dimensionBytes toLe32 d))) (Xsect last d (length l - k) (drop k m))
-  unfolding sectionItem
+  unfolding labelCodes
   wide-section-item last d rest h g =
-      let z : (0x32 + last) % 2 ≡ last = omega arith in
-      code-section (0x32 + last) _ (omega arith) (omega arith)
-      ∙ pick-false _ _ (le-ltb (0x32 + last) 50 (omega arith))
-      ∙ behind (dimensionBytes toLe32 d) rest 16 _ (simp (length-append, le32-width))
-      ∙ rw (z, wide-dimensions-back d rest g)
+      wide-section-read-back 8 part-back (0x32 + last) rest last d (λ t. code-section (0x32 + last) t (omega arith) (omega arith)) (omega arith) g (omega arith)
 
 -- LINE with 0x20: no label bytes
 pub same-line-item : (flags : ℕ) (p : Point) (rest : List ℕ) → flags ≤ 7 → GoodPoint p
@@ -318,15 +283,6 @@ same-line-item flags p rest h g =
     ∙ simp (z, le-ltb _ _ k, point-back p rest g, n)
 
 -- ---- the parts of a leg's codes
-
--- a code that is written only where a part of the state differs from x: either way the state then has x
-module _ {X : Type 0} (get : State → X) (set : X → State → State) (again : (st : State) → set (get st) st ≡ st) where
-  written-if : (st : State) (x : X) (test : Bool) (code rest : List ℕ) → (test ≡ true → get st ≡ x)
-      → (test ≡ false → next 8 (code ++ rest) st ≡ on (length code) (set x st))
-      → Goes 8 (pick test [] code ++ rest) st [] (length (pick test [] code)) (set x st)
-  unfolding pick
-  written-if st x true code rest f g = subst (λ (s : State). Goes 8 rest st [] 0 s) (sym (again st) ∙ ap (λ (y : X). set y st) (f refl)) stays
-  written-if st x false code rest f g = goes-on code rest st (set x st) (g refl)
 
 not-both-normal : (a b : ℕ) → (b ≡ a → ⊥) → (eqb a 0 && eqb b 0) ≡ false
 not-both-normal a b d = go (eqb a 0) (eqb b 0) refl refl
@@ -348,100 +304,25 @@ style-read : (st : State) (style : ℕ) (rest : List ℕ) → style ≤ 5 → (e
     → Goes 8 (styleIf (st .setting .style) style ++ rest) st [] (length (styleIf (st .setting .style) style)) (styled style st)
 unfolding styleIf
 style-read st style rest h u =
-    written-if (λ s. s .setting .style) styled (λ s. refl) st style _ (style ∷ []) rest (eqb-true (st .setting .style) style) (style-next st style rest h u)
+    written-if 8 (λ s. s .setting .style) styled (λ s. refl) st style _ (style ∷ []) rest (eqb-true (st .setting .style) style) (style-next st style rest h u)
 
-same-date : (d e : Dated) → sameDate d e ≡ true → d ≡ e
-unfolding sameDate
-same-date Undated Undated t = refl
-same-date Undated (Day d) t = cc
-same-date Undated (Range d e) t = cc
-same-date (Day c) Undated t = cc
-same-date (Day c) (Day d) t = ap Day (eqb-true c d t)
-same-date (Day c) (Range d e) t = cc
-same-date (Range b c) Undated t = cc
-same-date (Range b c) (Day d) t = cc
-same-date (Range b c) (Range d e) t = let p = both (eqb b d) (eqb c e) t in ap₂ Range (eqb-true b d (p .0)) (eqb-true c e (p .1))
+v8-dates-read : DatesRead 8 v8Dates
+unfolding itemOf newLowItem newDateItem pick
+v8-dates-read =
+    record {
+      is-none = λ t. simp (there 0x10 t);
+      is-day = λ t. simp (there 0x11 t);
+      is-span = λ t. simp (there 0x12 t);
+      is-days = λ t. simp (there 0x13 t);
+    }
 
-module _ (st : State) (rest : List ℕ) where
-  no-date-next : next 8 (0x10 ∷ rest) st ≡ on 1 (datedBy Undated st)
-  unfolding next itemOf newLowItem newDateItem pick
-  no-date-next = simp (there 0x10 rest)
+v8-move : (t : List ℕ) → itemOf 8 (0x0f ∷ t) ≡ moveItem (0x0f ∷ t)
+unfolding itemOf newLowItem pick
+v8-move t = simp (there 0x0f t)
 
-  day-next : (d : ℕ) → d < 65536 → next 8 (0x11 ∷ (toLe16 d ++ rest)) st ≡ on 3 (datedBy (Day d) st)
-  unfolding next itemOf newLowItem newDateItem dayItem sized badDates dateOf toLe16 pick
-  day-next d h =
-      let e : le16 (toLe16 d ++ rest) ≡ d = le16-to d rest h in
-      let k : 3 ≤ suc (suc (suc (length rest))) = omega arith in
-      simp (there 0x11 (0 ∷ 0 ∷ rest), le-ltb _ _ k, e, le-ltb d d (omega arith), le-ltb 65535 d (omega arith), eq-eqb d d refl)
-
-  span-next : (d e : ℕ) → d < e → e < 65536 → next 8 (0x12 ∷ ((toLe16 d ++ (e - d) ∷ []) ++ rest)) st ≡ on 4 (datedBy (Range d e) st)
-  unfolding next itemOf newLowItem newDateItem spanItem sized badDates dateOf toLe16 pick
-  span-next d e h0 h1 =
-      let f : le16 (toLe16 d ++ ((e - d) ∷ rest)) ≡ d = le16-to d ((e - d) ∷ rest) (omega arith) in
-      let k : 4 ≤ suc (suc (suc (suc (length rest)))) = omega arith in
-      let z : d + (e - d) ≡ e = omega arith in
-      let x : d ≡ e → ⊥ = λ q. omega arith in
-      simp (there 0x12 (0 ∷ 0 ∷ 0 ∷ rest), le-ltb _ _ k, f, z, le-ltb e d (omega arith), le-ltb 65535 e (omega arith), ne-eqb d e x)
-
-  days-next : (d e : ℕ) → d < e → e < 65536 → next 8 (0x13 ∷ ((toLe16 d ++ toLe16 e) ++ rest)) st ≡ on 5 (datedBy (Range d e) st)
-  unfolding next itemOf newLowItem newDateItem daysItem sized badDates dateOf toLe16 pick
-  days-next d e h0 h1 =
-      let f : le16 (toLe16 d ++ (toLe16 e ++ rest)) ≡ d = le16-to d (toLe16 e ++ rest) (omega arith) in
-      let g : le16 (toLe16 e ++ rest) ≡ e = le16-to e rest h1 in
-      let k : 5 ≤ suc (suc (suc (suc (suc (length rest))))) = omega arith in
-      let x : d ≡ e → ⊥ = λ q. omega arith in
-      simp (there 0x13 (0 ∷ 0 ∷ 0 ∷ 0 ∷ rest), le-ltb _ _ k, f, g, le-ltb e d (omega arith), le-ltb 65535 e (omega arith), ne-eqb d e x)
-
-  -- the codes of a date are read back as that date
-  date-next : (date : Dated) → GoodDated date → next 8 (dateCodes date ++ rest) st ≡ on (length (dateCodes date)) (datedBy date st)
-  unfolding toLe16
-  date-next Undated g = no-date-next
-  date-next (Day d) g = day-next d g
-  date-next (Range d e) g =
-      pick-case (λ (x : List ℕ). next 8 (x ++ rest) st ≡ on (length x) (datedBy (Range d e) st)) _ _ _ (λ q. span-next d e (g .0) (g .1)) (λ q. days-next d e (g .0) (g .1))
-
-  move-next : (p : Point) → GoodPoint p → next 8 (0x0f ∷ (pointBytes toLe32 p ++ rest)) st ≡ on 13 (moved p st)
-  unfolding next itemOf newLowItem moveItem sized pick
-  move-next p g =
-      let e : pointOf le32 (pointBytes toLe32 p ++ rest) ≡ p = point-back p rest g in
-      let k : 13 ≤ suc (length (pointBytes toLe32 p ++ rest)) = simp (length-append, le32-width) (omega arith) in
-      simp (there 0x0f (pointBytes toLe32 p ++ rest), le-ltb _ _ k, e)
-
-  error-next : (t : Traverse) → GoodTraverse t → next 8 (0x1f ∷ (traverseBytes toLe32 t ++ rest)) st ≡ made 21 (error t) st
-  unfolding next itemOf newLowItem errorItem sized pick
-  error-next t g =
-      let e : traverseOf le32 (traverseBytes toLe32 t ++ rest) ≡ t = traverse-back t rest g in
-      let k : 21 ≤ suc (length (traverseBytes toLe32 t ++ rest)) = simp (length-append, le32-width) (omega arith) in
-      simp (there 0x1f (traverseBytes toLe32 t ++ rest), le-ltb _ _ k, e)
-
-date-read : (st : State) (date : Dated) (rest : List ℕ) → GoodDated date
-    → Goes 8 (dateIf (st .setting .date) date ++ rest) st [] (length (dateIf (st .setting .date) date)) (datedBy date st)
-unfolding dateIf
-date-read st date rest g =
-    written-if (λ s. s .setting .date) datedBy (λ s. refl) st date _ (dateCodes date) rest (same-date (st .setting .date) date) (λ e. date-next st rest date g)
-
-same-point : (p q : Point) → samePoint p q ≡ true → p ≡ q
-unfolding samePoint
-same-point p q t =
-    let a = both (eqb (p .x) (q .x)) _ t in
-    let b = both (eqb (p .y) (q .y)) (eqb (p .z) (q .z)) (a .1) in
-    λ i. record { x = eqb-true (p .x) (q .x) (a .0) i; y = eqb-true (p .y) (q .y) (b .0) i; z = eqb-true (p .z) (q .z) (b .1) i }
-
-stands-at : (q : Position) (p : Point) → standsAt q p ≡ true → q ≡ Stands p
-stands-at Unset p t = cc
-stands-at (Stands q) p t = ap Stands (same-point q p t)
-
--- the state with another position
-abbrev placed : Position → State → State
-placed q st = record { label = st .label; setting = record { style = st .setting .style; date = st .setting .date; position = q } }
-
-move-read : (st : State) (from : Point) (rest : List ℕ) → GoodPoint from
-    → Goes 8 (moveIf (st .setting .position) from ++ rest) st [] (length (moveIf (st .setting .position) from)) (moved from st)
-unfolding moveIf
-move-read st from rest g =
-    let n : length (0x0f ∷ pointBytes toLe32 from) ≡ 13 = simp (length-append, le32-width) in
-    written-if (λ s. s .setting .position) placed (λ s. refl) st (Stands from) _ (0x0f ∷ pointBytes toLe32 from) rest (stands-at (st .setting .position) from)
-    (λ e. rw n (move-next st rest from g))
+v8-error : (t : List ℕ) → itemOf 8 (0x1f ∷ t) ≡ errorItem (0x1f ∷ t)
+unfolding itemOf newLowItem pick
+v8-error t = simp (there 0x1f t)
 
 -- ---- the records
 
@@ -477,10 +358,7 @@ module _ (st : State) (rest : List ℕ) (hl : length (st .label) ≤ labelLimit)
 
   error-read : (t : Traverse) → GoodTraverse t → Reads (errorCodes t) (error t) st
   unfolding errorCodes
-  error-read t g =
-      let c : List ℕ = 31 ∷ traverseBytes toLe32 t in
-      let n : length c ≡ 21 = simp (length-append, le32-width) in
-      goes-made c rest st (error t) st (rw n (error-next st rest t g))
+  error-read t g = goes-made (0x1f ∷ traverseBytes toLe32 t) rest st (error t) st (error-next 8 st rest 0x1f v8-error t g)
 
   -- the leg of a LINE in this state
   abbrev legAlong : ℕ → Point → Point → Leg
@@ -506,17 +384,17 @@ section-read : (st : State) (s : Section) (label : List ℕ) → length (st .lab
     → Goes 8 (codes st (section s label) ++ rest) st (section s label ∷ []) (length (codes st (section s label))) (after st (section s label))
 unfolding dateIf
 section-read st s label hl w rest =
-    let D = dateIf (st .setting .date) (s .date) in
+    let D = dateIf v8Dates (st .setting .date) (s .date) in
     let X = sectionCodes (st .label) s label in
     goes-as (sym (append-assoc D X rest)) (sym (length-append D X))
-    (goes-append D (X ++ rest) (date-read st (s .date) (X ++ rest) (w .date-fits)) (xsect-read (datedBy (s .date) st) rest hl s label w refl))
+    (goes-append D (X ++ rest) (date-if-read v8-dates-read st (X ++ rest) (s .date) (w .date-fits)) (xsect-read (datedBy (s .date) st) rest hl s label w refl))
 
 leg-read : (st : State) (g : Leg) (label : List ℕ) → length (st .label) ≤ labelLimit → GoodLeg g label → unsayable (st .setting .style) (leg g label) ≡ false → (rest : List ℕ)
     → Goes 8 (codes st (leg g label) ++ rest) st (leg g label ∷ []) (length (codes st (leg g label))) (after st (leg g label))
 unfolding dateIf moveIf lineCodes
 leg-read st g label hl w u rest =
     let S = styleIf (st .setting .style) (g .style) in
-    let D = dateIf (st .setting .date) (g .date) in
+    let D = dateIf v8Dates (st .setting .date) (g .date) in
     let M = moveIf (st .setting .position) (g .from) in
     let L = lineCodes (st .label) (g .flags) (g .to) label in
     let styled-st = styled (g .style) st in
@@ -526,12 +404,12 @@ leg-read st g label hl w u rest =
     let n : length S + (length D + (length M + length L)) ≡ length (S ++ (D ++ (M ++ L))) = simp length-append in
     goes-as (sym e) n
     (goes-append S (D ++ (M ++ (L ++ rest))) (style-read st (g .style) (D ++ (M ++ (L ++ rest))) (w .style-fits) u)
-    (goes-append D (M ++ (L ++ rest)) (date-read styled-st (g .date) (M ++ (L ++ rest)) (w .date-fits))
-    (goes-append M (L ++ rest) (move-read dated-st (g .from) (L ++ rest) (w .from-fits))
+    (goes-append D (M ++ (L ++ rest)) (date-if-read v8-dates-read styled-st (M ++ (L ++ rest)) (g .date) (w .date-fits))
+    (goes-append M (L ++ rest) (move-if-read 8 dated-st (L ++ rest) v8-move (g .from) (w .from-fits))
     (line-read moved-st rest hl (g .flags) (g .from) (g .to) label (w .flags-fit) (w .to-fits) (w .label-fits) refl))))
 
--- ---- codes-read: reading the codes of a record from any state makes exactly that record, leaves the state that writing leaves, and goes
--- on at what follows
+-- ---- codes-go: reading the codes of a record from any state makes exactly that record, leaves the state that writing leaves, and goes on at
+-- what follows
 
 pub codes-go : (st : State) (r : Record) → length (st .label) ≤ labelLimit → WellFormed r → unsayable (st .setting .style) r ≡ false → (rest : List ℕ)
     → Goes 8 (codes st r ++ rest) st (r ∷ []) (length (codes st r)) (after st r)
@@ -540,12 +418,7 @@ codes-go st (station s label) hl w u rest = station-read st rest hl s label w
 codes-go st (section s label) hl w u rest = section-read st s label hl w rest
 codes-go st (error t) hl g u rest = error-read st rest hl t g
 
-pub codes-read : (st : State) (r : Record) → length (st .label) ≤ labelLimit → WellFormed r → unsayable (st .setting .style) r ≡ false → (at : ℕ) (rest : List ℕ)
-    → run 8 at (codes st r ++ rest) st ≡ also r (run 8 (at + length (codes st r)) rest (after st r))
-codes-read st r hl g u at rest =
-    goes-run (codes-go st r hl g u rest) at ∙ rw (drop-append-seam (codes st r) rest)
-
--- ---- the closing codes end the file, and so reading gives back the records that were written
+-- ---- the closing codes end the file
 
 end-read : (st : State) (at : ℕ) → st .setting .style ≡ 0 → run 8 at (0 ∷ []) st ≡ stop Good
 unfolding next itemOf newLowItem pick
@@ -566,14 +439,3 @@ after-short st (leg g label) h w = w .label-fits
 after-short st (station s label) h w = w .label-fits
 after-short st (section s label) h w = w .label-fits
 after-short st (error t) h g = h
-
--- from any state: the records written, with the closing codes, are read back
-pub encode-read : (rs : List Record) (n : ℕ) (st : State) → length (st .label) ≤ labelLimit → AllWellFormed rs → recordsVerdict v8 n st rs ≡ Good → (at : ℕ)
-    → run 8 at (encodeAll v8 st rs) st ≡ record { records = rs; verdict = Good }
-unfolding encodeAll codesAll afterAll
-encode-read [] n st h w e at = closing-read st at
-encode-read (r ∷ rs) n st h w e at =
-    let s = able v8 n st r rs e in
-    ap (λ (x : List ℕ). run 8 at x st) (append-assoc (codes st r) (codesAll v8 (after st r) rs) (closing (afterAll v8 (after st r) rs .setting .style)))
-    ∙ codes-read st r h (w .0) (s .0) at _
-    ∙ ap (also r) (encode-read rs (n + 1) (after st r) (after-short st r h (w .0)) (w .1) (s .1) _)

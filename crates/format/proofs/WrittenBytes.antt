@@ -14,8 +14,10 @@ use Rattle.format.specs.Label.{labelLimit}
 use Rattle.format.specs.State.{State, start, Record, leg, station, section, error}
 use Rattle.format.specs.Sheet.{pointBytes, dimensionBytes, traverseBytes}
 use Rattle.format.specs.WellFormed.{GoodDated, GoodHeader, WellFormed, AllWellFormed}
-use Rattle.format.specs.Writing.{v8, codesAll, afterAll, encodeAll, fileOf}
-use Rattle.format.specs.Codes.{lengthCodes, partCodes, labelCodes, keptBytes, common, dateCodes, styleIf, dateIf, moveIf, lineCodes, stationCodes, sectionCodes, errorCodes, codes, after, closing, headerCodes}
+use Rattle.format.specs.Writing.{Writer, v8, v7, codesAll, encodeAll, fileOf}
+use Rattle.format.specs.V7Codes.{sixteens, trimCodes, shortenCodes, oldLengthCodes, addedCodes, labelledCodes, v7Dates, v7SectionCodes, v7Codes, v7Closing, v7HeaderCodes}
+use Rattle.format.specs.Codes.{lengthCodes, partCodes, labelCodes, keptBytes, common, datedCodes, v8Dates, styleIf, dateIf, moveIf, lineCodes, stationCodes, sectionCodes, errorCodes, codes, closing, headerCodes}
+use Rattle.format.specs.declared.DateCodes.{DateCodes}
 use Rattle.format.specs.declared.Point.{Point}
 use Rattle.format.specs.declared.Dimensions.{Dimensions}
 use Rattle.format.specs.declared.Traverse.{Traverse}
@@ -87,13 +89,26 @@ label-bytes : (l m : List ℕ) (k : ℕ) → All m → All (labelCodes l m k)
 unfolding labelCodes
 label-bytes l m k f = bytes-append _ _ (part-bytes (length l - k) (length m - k)) (record { below = bytes-drop m (f .below) k })
 
-date-bytes : (date : Dated) → GoodDated date → All (dateCodes date)
-date-bytes Undated g = bytes-cons 0x10 [] (omega arith) bytes-nil
-date-bytes (Day d) g = bytes-cons 0x11 _ (omega arith) (le16-bytes d)
-date-bytes (Range d e) g =
+-- the codes of a version's dates are bytes
+record DateBytes (c : DateCodes) : Type 0 where
+  pub none-below : c .none < 256
+  pub day-below : c .day < 256
+  pub span-below : c .span < 256
+  pub days-below : c .days < 256
+
+date-bytes : {c : DateCodes} → DateBytes c → (date : Dated) → GoodDated date → All (datedCodes c date)
+date-bytes {c} B Undated g = bytes-cons (c .none) [] (B .none-below) bytes-nil
+date-bytes {c} B (Day d) g = bytes-cons (c .day) _ (B .day-below) (le16-bytes d)
+date-bytes {c} B (Range d e) g =
     pick-case All _ _ _
-    (λ q. (let h : e - d ≤ 255 = leb-true _ _ q in bytes-cons 0x12 _ (omega arith) (bytes-append _ _ (le16-bytes d) (bytes-cons (e - d) [] (omega arith) bytes-nil))))
-    (λ q. bytes-cons 0x13 _ (omega arith) (bytes-append _ _ (le16-bytes d) (le16-bytes e)))
+    (λ q. (let h : e - d ≤ 255 = leb-true _ _ q in bytes-cons (c .span) _ (B .span-below) (bytes-append _ _ (le16-bytes d) (bytes-cons (e - d) [] (omega arith) bytes-nil))))
+    (λ q. bytes-cons (c .days) _ (B .days-below) (bytes-append _ _ (le16-bytes d) (le16-bytes e)))
+
+v8-dates : DateBytes v8Dates
+v8-dates = record { none-below = omega arith; day-below = omega arith; span-below = omega arith; days-below = omega arith }
+
+v7-dates : DateBytes v7Dates
+v7-dates = record { none-below = omega arith; day-below = omega arith; span-below = omega arith; days-below = omega arith }
 
 -- ---- records
 
@@ -117,7 +132,7 @@ codes-bytes st (leg g label) w f =
     let k = w .flags-fit in
     let p = point-bytes toLe32 le32-bytes in
     bytes-append _ _ (if-bytes _ _ (bytes-cons (g .style) [] (omega arith) bytes-nil))
-    (bytes-append _ _ (if-bytes _ _ (date-bytes (g .date) (w .date-fits)))
+    (bytes-append _ _ (if-bytes _ _ (date-bytes v8-dates (g .date) (w .date-fits)))
     (bytes-append _ _ (if-bytes _ _ (bytes-cons 0x0f _ (omega arith) (p (g .from))))
     (pick-case All _ _ _ (λ e. bytes-cons (0x60 + g .flags) _ (omega arith) (p (g .to)))
     (λ e. bytes-cons (0x40 + g .flags) _ (omega arith) (bytes-append _ _ (label-bytes (st .label) label _ f) (p (g .to)))))))
@@ -126,7 +141,7 @@ codes-bytes st (station s label) w f =
     bytes-cons (0x80 + s .flags) _ (omega arith) (bytes-append _ _ (label-bytes (st .label) label _ f) (point-bytes toLe32 le32-bytes (s .place)))
 codes-bytes st (section s label) w f =
     let k = w .last-fits in
-    bytes-append _ _ (if-bytes _ _ (date-bytes (s .date) (w .date-fits)))
+    bytes-append _ _ (if-bytes _ _ (date-bytes v8-dates (s .date) (w .date-fits)))
     (pick-case All _ _ _
     (λ e. bytes-cons (0x30 + s .last) _ (omega arith) (bytes-append _ _ (label-bytes (st .label) label _ f) (dimensions-bytes toLe16 le16-bytes (s .size))))
     (λ e. bytes-cons (0x32 + s .last) _ (omega arith) (bytes-append _ _ (label-bytes (st .label) label _ f) (dimensions-bytes toLe32 le32-bytes (s .size)))))
@@ -135,11 +150,6 @@ codes-bytes st (error t) g f = bytes-cons 0x1f _ (omega arith) (traverse-bytes t
 closing-bytes : (style : ℕ) → All (closing style)
 unfolding closing
 closing-bytes style = pick-case All _ _ _ (λ e. bytes-cons 0 [] (omega arith) bytes-nil) (λ e. bytes-cons 0 _ (omega arith) (bytes-cons 0 [] (omega arith) bytes-nil))
-
-all-bytes : (rs : List Record) (st : State) → AllWellFormed rs → AllLabelBytes rs → All (codesAll v8 st rs)
-unfolding codesAll
-all-bytes [] st w f = bytes-nil
-all-bytes (r ∷ rs) st w f = bytes-append _ _ (codes-bytes st r (w .0) (f .0)) (all-bytes rs (after st r) (w .1) (f .1))
 
 -- whether every number is below 256
 allBytes : List ℕ → Bool
@@ -155,13 +165,95 @@ magic-bytes : All magic
 unfolding magic allBytes
 magic-bytes = computed-bytes magic refl
 
--- a good header and records whose texts are bytes give a file of bytes
-pub file-bytes : (h : Header) (rs : List Record) → GoodHeader h → All (h .title) → All (h .time) → AllWellFormed rs → AllLabelBytes rs → All (fileOf v8 h rs)
-unfolding fileOf headerCodes encodeAll
-file-bytes h rs g ft fm w f =
-    let x = g .extended-fits in
-    bytes-append _ _
-    (bytes-append magic _ magic-bytes
-    (bytes-cons 118 _ (omega arith) (bytes-cons 56 _ (omega arith) (bytes-cons 10 _ (omega arith)
-    (bytes-append _ _ ft (bytes-cons 10 _ (omega arith) (bytes-append _ _ fm (bytes-cons 10 _ (omega arith) (bytes-cons (h .extended * 128) [] (omega arith) bytes-nil)))))))))
-    (bytes-append _ _ (all-bytes rs start w f) (closing-bytes _))
+-- ---- v7
+
+sixteens-bytes : (n : ℕ) → All (sixteens n)
+unfolding sixteens
+sixteens-bytes zero = bytes-nil
+sixteens-bytes (suc n) = bytes-cons 0x1f _ (omega arith) (sixteens-bytes n)
+
+shorten-bytes : (n k : ℕ) → All (shortenCodes n k)
+unfolding shortenCodes trimCodes
+shorten-bytes n k =
+    pick-case All _ _ _ (λ e. if-bytes _ _ (bytes-cons 0x00 [] (omega arith) bytes-nil))
+    (λ e. bytes-append _ _ (sixteens-bytes _) (if-bytes _ _ (bytes-cons (0x0f + (n - k) % 16) [] (omega arith) bytes-nil)))
+
+old-length-bytes : (n : ℕ) → All (oldLengthCodes n)
+unfolding oldLengthCodes
+old-length-bytes n =
+    pick-case All _ _ _ (λ e. (let h : n < 0xfe = ltb-true _ _ e in bytes-cons n [] (omega arith) bytes-nil))
+    (λ e. pick-case All _ _ _ (λ q. bytes-cons 0xfe _ (omega arith) (le16-bytes (n - 254))) (λ q. bytes-cons 0xff _ (omega arith) (le32-bytes n)))
+
+labelled-bytes : (l m : List ℕ) (code : ℕ) (fields : List ℕ) → code < 256 → All m → All fields → All (labelledCodes l m code fields)
+unfolding labelledCodes addedCodes
+labelled-bytes l m code fields h f g =
+    bytes-append _ _ (shorten-bytes _ _)
+    (bytes-cons code _ h (bytes-append _ _ (bytes-append _ _ (old-length-bytes _) (record { below = bytes-drop m (f .below) (common l m) })) g))
+
+pub v7-codes-bytes : (st : State) (r : Record) → WellFormed r → LabelBytes r → All (v7Codes st r)
+unfolding dateIf moveIf v7SectionCodes
+v7-codes-bytes st (leg g label) w f =
+    let k = w .flags-fit in
+    let p = point-bytes toLe32 le32-bytes in
+    bytes-append _ _ (if-bytes _ _ (date-bytes v7-dates (g .date) (w .date-fits)))
+    (bytes-append _ _ (if-bytes _ _ (bytes-cons 0x0f _ (omega arith) (p (g .from)))) (labelled-bytes _ label (0x80 + g .flags) _ (omega arith) f (p (g .to))))
+v7-codes-bytes st (station s label) w f =
+    let k = w .flags-fit in
+    labelled-bytes _ label (0x40 + s .flags) _ (omega arith) f (point-bytes toLe32 le32-bytes (s .place))
+v7-codes-bytes st (section s label) w f =
+    let k = w .last-fits in
+    bytes-append _ _ (if-bytes _ _ (date-bytes v7-dates (s .date) (w .date-fits)))
+    (pick-case All _ _ _ (λ e. labelled-bytes _ label (0x30 + s .last) _ (omega arith) f (dimensions-bytes toLe16 le16-bytes (s .size)))
+    (λ e. labelled-bytes _ label (0x32 + s .last) _ (omega arith) f (dimensions-bytes toLe32 le32-bytes (s .size))))
+v7-codes-bytes st (error t) w f = bytes-cons 0x22 _ (omega arith) (traverse-bytes toLe32 le32-bytes t)
+
+-- ---- files
+
+-- what a writer makes of a good header, of a record and of the end is bytes
+record WritesBytes (w : Writer) : Type 0 where
+  pub head-bytes : (h : Header) → GoodHeader h → All (h .title) → All (h .time) → All (w .head h)
+  pub record-bytes : (st : State) (r : Record) → WellFormed r → LabelBytes r → All (w .codes st r)
+  pub end-bytes : (st : State) → All (w .closing st)
+
+v8-bytes : WritesBytes v8
+unfolding headerCodes
+v8-bytes =
+    record {
+      head-bytes = λ h g ft fm.
+          (let x = g .extended-fits in
+          bytes-append magic _ magic-bytes
+          (bytes-cons 118 _ (omega arith) (bytes-cons 56 _ (omega arith) (bytes-cons 10 _ (omega arith)
+          (bytes-append _ _ ft (bytes-cons 10 _ (omega arith) (bytes-append _ _ fm (bytes-cons 10 _ (omega arith) (bytes-cons (h .extended * 128) [] (omega arith) bytes-nil)))))))));
+      record-bytes = codes-bytes;
+      end-bytes = λ st. closing-bytes (st .setting .style);
+    }
+
+v7-bytes : WritesBytes v7
+unfolding v7HeaderCodes v7Closing
+v7-bytes =
+    record {
+      head-bytes = λ h g ft fm.
+          bytes-append magic _ magic-bytes
+          (bytes-cons 118 _ (omega arith) (bytes-cons 55 _ (omega arith) (bytes-cons 10 _ (omega arith)
+          (bytes-append _ _ ft (bytes-cons 10 _ (omega arith) (bytes-append _ _ fm (bytes-cons 10 [] (omega arith) bytes-nil)))))));
+      record-bytes = v7-codes-bytes;
+      end-bytes = λ st. pick-case All _ _ _ (λ e. bytes-cons 0x00 [] (omega arith) bytes-nil) (λ e. bytes-cons 0x00 _ (omega arith) (bytes-cons 0x00 [] (omega arith) bytes-nil));
+    }
+
+module _ {w : Writer} (B : WritesBytes w) where
+  all-bytes : (rs : List Record) (st : State) → AllWellFormed rs → AllLabelBytes rs → All (codesAll w st rs)
+  unfolding codesAll
+  all-bytes [] st g f = bytes-nil
+  all-bytes (r ∷ rs) st g f = bytes-append _ _ (B .record-bytes st r (g .0) (f .0)) (all-bytes rs (w .after st r) (g .1) (f .1))
+
+  -- a good header and records whose texts are bytes give a file of bytes
+  file-bytes : (h : Header) (rs : List Record) → GoodHeader h → All (h .title) → All (h .time) → AllWellFormed rs → AllLabelBytes rs → All (fileOf w h rs)
+  unfolding fileOf encodeAll
+  file-bytes h rs g ft fm r f =
+      bytes-append _ _ (B .head-bytes h g ft fm) (bytes-append _ _ (all-bytes rs start r f) (B .end-bytes _))
+
+pub v8-file-bytes : (h : Header) (rs : List Record) → GoodHeader h → All (h .title) → All (h .time) → AllWellFormed rs → AllLabelBytes rs → All (fileOf v8 h rs)
+v8-file-bytes = file-bytes v8-bytes
+
+pub v7-file-bytes : (h : Header) (rs : List Record) → GoodHeader h → All (h .title) → All (h .time) → AllWellFormed rs → AllLabelBytes rs → All (fileOf v7 h rs)
+v7-file-bytes = file-bytes v7-bytes

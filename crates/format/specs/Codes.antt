@@ -13,6 +13,7 @@ use Rattle.format.specs.declared.Point.{Point}
 use Rattle.format.specs.declared.Dimensions.{Dimensions}
 use Rattle.format.specs.declared.Traverse.{Traverse}
 use Rattle.format.specs.declared.Dated.{Dated}
+use Rattle.format.specs.declared.DateCodes.{DateCodes}
 use Rattle.format.specs.declared.Dated.the-variants.{Undated, Day, Range}
 use Rattle.format.specs.declared.Position.{Position}
 use Rattle.format.specs.declared.Position.the-variants.{Unset, Stands}
@@ -61,11 +62,15 @@ sameDate (Range b c) Undated = false
 sameDate (Range b c) (Day d) = false
 sameDate (Range b c) (Range d e) = eqb b d && eqb c e
 
+-- a date in a version's codes, "12 if it spans at most 255 days, else 13"
+abbrev pub datedCodes : DateCodes → Dated → List ℕ
+datedCodes c Undated = c .none ∷ []
+datedCodes c (Day d) = c .day ∷ toLe16 d
+datedCodes c (Range d e) = pick (leb (e - d) 255) (c .span ∷ (toLe16 d ++ (e - d) ∷ [])) (c .days ∷ (toLe16 d ++ toLe16 e))
+
 -- "A day is 11, a range 12 if it spans at most 255 days, else 13"; no date is 10
-abbrev pub dateCodes : Dated → List ℕ
-dateCodes Undated = 0x10 ∷ []
-dateCodes (Day d) = 0x11 ∷ toLe16 d
-dateCodes (Range d e) = pick (leb (e - d) 255) (0x12 ∷ (toLe16 d ++ (e - d) ∷ [])) (0x13 ∷ (toLe16 d ++ toLe16 e))
+abbrev pub v8Dates : DateCodes
+v8Dates = record { none = 0x10; day = 0x11; span = 0x12; days = 0x13 }
 
 unfoldable pub samePoint : Point → Point → Bool
 samePoint p q = eqb (p .x) (q .x) && (eqb (p .y) (q .y) && eqb (p .z) (q .z))
@@ -81,8 +86,8 @@ unfoldable pub styleIf : ℕ → ℕ → List ℕ
 styleIf current style = pick (eqb current style) [] (style ∷ [])
 
 -- "date if it differs"
-unfoldable pub dateIf : Dated → Dated → List ℕ
-dateIf current date = pick (sameDate current date) [] (dateCodes date)
+unfoldable pub dateIf : DateCodes → Dated → Dated → List ℕ
+dateIf c current date = pick (sameDate current date) [] (datedCodes c date)
 
 -- "MOVE if the position is unset or differs from "from""
 unfoldable pub moveIf : Position → Point → List ℕ
@@ -124,10 +129,10 @@ codesLimit = 1 + 5 + 13 + (1 + 11 + labelLimit + 12)
 abbrev pub codes : State → Record → List ℕ
 codes st (leg g label) =
     styleIf (st .setting .style) (g .style)
-    ++ (dateIf (st .setting .date) (g .date) ++ (moveIf (st .setting .position) (g .from) ++ lineCodes (st .label) (g .flags) (g .to) label))
+    ++ (dateIf v8Dates (st .setting .date) (g .date) ++ (moveIf (st .setting .position) (g .from) ++ lineCodes (st .label) (g .flags) (g .to) label))
 codes st (station s label) = stationCodes (st .label) s label
 -- "Writing puts a date item before a section where it differs" (#106)
-codes st (section s label) = dateIf (st .setting .date) (s .date) ++ sectionCodes (st .label) s label
+codes st (section s label) = dateIf v8Dates (st .setting .date) (s .date) ++ sectionCodes (st .label) s label
 codes st (error t) = errorCodes t
 
 -- the style, date and position that they leave

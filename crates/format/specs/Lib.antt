@@ -9,6 +9,7 @@ pub mod Sheet
 pub mod WellFormed
 pub mod Reading
 pub mod Codes
+pub mod V7Codes
 pub mod Writing
 pub mod Editing
 pub mod Conversion

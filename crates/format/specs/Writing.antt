@@ -1,8 +1,8 @@
--- Writing a sheet, document 01, "Writing v8" and "Numbers for no": the file of a header and records, refusals 12, 13, 16 and 11. What one
--- version's writer has of its own is a `Writer`; v8 is the first. Assumes nothing.
+-- Writing a sheet, document 01, "Writing v8" and "Numbers for no", and #110: the file of a header and records, refusals 12, 13 or 23, 16 and
+-- 11. What one version's writer has of its own is a `Writer`: v8 and v7. Assumes nothing.
 use Prim.Native.Nat.{ℕ, _+_}
-use mathlib.Core.List.{List, [], _∷_, _++_}
-use mathlib.Core.Bool.{Bool}
+use mathlib.Core.List.{List, [], _∷_, map, _++_}
+use mathlib.Core.Bool.{Bool, true, false}
 use lib.ListN.{length}
 use lib.Dec.{ltb}
 use Rattle.format.specs.Bytes.{pick}
@@ -11,6 +11,7 @@ use Rattle.format.specs.State.{State, start, Record}
 use Rattle.format.specs.Refusals.{Result, orElse, Outcome, outcomeOf, bufferOf}
 use Rattle.format.specs.Sheet.{sheetVersion, sheetOf, frontHeader, sheetResult}
 use Rattle.format.specs.Codes.{headerCodes, codesLimit, codes, after, closing, unsayable}
+use Rattle.format.specs.V7Codes.{v7HeaderCodes, v7Codes, v7After, v7CodesLimit, v7Closing, v7Bars, v7Unable, unstyled}
 use Rattle.format.specs.declared.Verdict.{Verdict}
 use Rattle.format.specs.declared.Verdict.the-variants.{Good, Refusal}
 
@@ -27,7 +28,8 @@ pub record Writer : Type 0 where
   pub longest : ℕ
   -- the closing codes
   pub closing : State → List ℕ
-  -- which record it cannot write in a state, and the number of that refusal
+  -- which header it cannot write, which record in a state, and the number of that refusal
+  pub bars : Header → Bool
   pub unable : State → Record → Bool
   pub number : ℕ
 
@@ -41,8 +43,24 @@ v8 =
       after = after;
       longest = codesLimit;
       closing = λ st. closing (st .setting .style);
+      bars = λ h. false;
       unable = λ st r. unsayable (st .setting .style) r;
       number = 13;
+    }
+
+-- v7 (#110)
+abbrev pub v7 : Writer
+v7 =
+    record {
+      version = 7;
+      head = v7HeaderCodes;
+      codes = v7Codes;
+      after = v7After;
+      longest = v7CodesLimit;
+      closing = λ st. v7Closing (st .label);
+      bars = v7Bars;
+      unable = λ st r. v7Unable r;
+      number = 23;
     }
 
 -- ---- the file
@@ -67,7 +85,7 @@ fileOf w h rs = w .head h ++ encodeAll w start rs
 
 -- ---- refusals
 
--- 13, with the "record in the sheet to be written" as its place; the first of rs has the number n
+-- 13, with the "record in the sheet to be written" as its place, or 23 "at the first record v7 can't carry"; the first of rs has the number n
 unfoldable pub recordsVerdict : Writer → ℕ → State → List Record → Verdict
 recordsVerdict w n st [] = Good
 recordsVerdict w n st (r ∷ rs) = pick (w .unable st r) (Refusal (w .number) n) (recordsVerdict w (n + 1) (w .after st r) rs)
@@ -89,8 +107,16 @@ writtenOutcome w h x room = filedOutcome w x (length (fileOf w h (x .records))) 
 
 -- ---- the answer of writing a sheet, and what the lent file buffer then holds
 
+-- "extended elevation, with place 0": a header that the writer cannot write is refused behind 12
+abbrev pub headedBy : Bool → ℕ → Result → Result
+headedBy false number x = x
+headedBy true number x = record { records = x .records; verdict = orElse (x .verdict) (Refusal number 0) }
+
+abbrev pub headed : Writer → Header → Result → Result
+headed w h x = headedBy (w .bars h) (w .number) x
+
 unfoldable pub writeOutcome : Writer → List ℕ → ℕ → Outcome
-writeOutcome w sheet room = writtenOutcome w (frontHeader sheet) (sheetResult sheet) room
+writeOutcome w sheet room = writtenOutcome w (frontHeader sheet) (headed w (frontHeader sheet) (sheetResult sheet)) room
 
 unfoldable pub writeBuffer : Writer → List ℕ → List ℕ → List ℕ
 writeBuffer w sheet old = bufferOf (writeOutcome w sheet (length old)) (fileOf w (frontHeader sheet) (sheetResult sheet .records)) old
@@ -98,3 +124,7 @@ writeBuffer w sheet old = bufferOf (writeOutcome w sheet (length old)) (fileOf w
 -- "A version 1 sheet, once written, reads back as its version 2 twin": the version 2 sheet of the same header and records
 unfoldable pub twin : List ℕ → List ℕ
 twin sheet = sheetOf sheetVersion (frontHeader sheet) (sheetResult sheet .records)
+
+-- what reading gives back of a sheet that was written as v7
+unfoldable pub v7Twin : List ℕ → List ℕ
+v7Twin sheet = sheetOf sheetVersion (frontHeader sheet) (map unstyled (sheetResult sheet .records))

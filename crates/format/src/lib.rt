@@ -57,6 +57,14 @@ pub enum Dated {
     Range { first: u16, last: u16 },
 }
 
+// A version's codes of no date, a day, a range with its span and a range with two days.
+pub struct DateCodes {
+    pub none: u8,
+    pub day: u8,
+    pub span: u8,
+    pub days: u8,
+}
+
 // How an item shortens the label: it empties it; 16 bytes off, then back to a dot;
 // some bytes off, and one at least stays; some bytes off.
 pub enum Cut {

@@ -20,7 +20,7 @@ use Rattle.format.specs.declared.Leg.{Leg}
 use Rattle.format.specs.State.{State, Record, leg}
 use Rattle.format.specs.Sheet.{pointBytes}
 use Rattle.format.specs.WellFormed.{GoodPoint, WellFormed}
-use Rattle.format.specs.Codes.{dateCodes, common, shortPart, partCodes, labelCodes, sameDate, samePoint, standsAt, styleIf, dateIf, moveIf, lineCodes, codes, unsayable}
+use Rattle.format.specs.Codes.{datedCodes, v8Dates, common, shortPart, partCodes, labelCodes, sameDate, samePoint, standsAt, styleIf, dateIf, moveIf, lineCodes, codes, unsayable}
 use Rattle.format.specs.declared.Dated.{Dated}
 use Rattle.format.specs.declared.Dated.the-variants.{Undated, Day, Range}
 use Rattle.format.specs.declared.Point.{Point}
@@ -164,7 +164,7 @@ module _ (s : List ℕ) (st : State) (from : Point) (keep add : ℕ) (stands : s
   brief-codes =
       let style = st .setting .style in
       let date = st .setting .date in
-      rw (stands, pick-true [] (style ∷ []) (eq-eqb style style refl), pick-true [] (dateCodes date) (one-date date), pick-true [] (0x0f ∷ pointBytes toLe32 from) (one-point from))
+      rw (stands, pick-true [] (style ∷ []) (eq-eqb style style refl), pick-true [] (datedCodes v8Dates date) (one-date date), pick-true [] (0x0f ∷ pointBytes toLe32 from) (one-point from))
       (line-is s (st .label) keep add L bytes)
 
 -- a style after itself is never refused

@@ -1,8 +1,8 @@
 -- A file that the writing rules give, cut before one of its records: what stands from there on is what they give for the records that are
 -- left, in the state that reading has reached there. So two files in the same state before the same records go on alike. Assumes nothing.
 use Prim.Native.Nat.{ℕ, zero, suc, _+_, _≤_, _<_}
-use mathlib.Core.Path.{_≡_, refl, subst}
-use mathlib.Core.List.{List, [], _∷_}
+use mathlib.Core.Path.{_≡_, refl, ap, _∙_, subst}
+use mathlib.Core.List.{List, [], _∷_, map}
 use mathlib.Core.Bool.{false}
 use native.Mathlib.Omega.{arith}
 use lib.ListN.{length, take, drop}
@@ -18,9 +18,15 @@ use Rattle.format.specs.Codes.{codes, after, unsayable}
 use Rattle.format.specs.Editing.{codesPlace}
 use Rattle.format.proofs.ReadingLaws.{SizedNext, next-sized}
 use Rattle.format.proofs.GoingLaws.{Goes, past, adds}
-use Rattle.format.proofs.WritingLaws.{able, after-short, codes-go, encode-read}
+use Rattle.format.proofs.WritingLaws.{able, after-short, codes-go}
+use Rattle.format.proofs.ReadBack.{encode-read, v8-reads-back}
 use Rattle.format.proofs.EditingLaws.{from-record}
 use Rattle.house.specs.Walking.{GoodSetting}
+
+-- v8 gives back each record as it is
+map-same : (rs : List Record) → map (λ r. r) rs ≡ rs
+map-same [] = refl
+map-same (r ∷ rs) = ap (λ (xs : List Record). r ∷ xs) (map-same rs)
 
 -- ---- records left
 
@@ -72,7 +78,8 @@ module _ (h : Header) (rs : List Record) (j : ℕ) (w : AllWellFormed rs) (e : r
   pub read-from : (at : ℕ) → run 8 at (drop (codesPlace h rs j) (fileOf v8 h rs)) (afterAll v8 start (take j rs)) ≡ record { records = drop j rs; verdict = Good }
   read-from at =
       rw (from-record h rs j)
-      (encode-read (drop j rs) 0 (afterAll v8 start (take j rs)) (after-fits j start rs (omega arith) w) (formed-drop j rs w) (sayable-drop j 0 0 start rs e) at)
+      (encode-read v8-reads-back (drop j rs) 0 (afterAll v8 start (take j rs)) (after-fits j start rs (omega arith) w) (formed-drop j rs w)
+      (sayable-drop j 0 0 start rs e) at ∙ rw (map-same (drop j rs)))
 
 -- ---- style, date and position stay as reading leaves them
 

@@ -47,10 +47,10 @@ differ l m e =
     (both (leb (length l - common l m) 15 && leb (length m - common l m) 15) _ e .1)))
 
 module _ (version : ℕ) (s : List ℕ) (mark : ℕ) (position : Position) (last : List ℕ) (size kept code : ℕ) (form : Form) where
-  abbrev name : List ℕ
+  abbrev pub name : List ℕ
   name = labelOf size (labelAt form) s
 
-  name-long : size ≤ length s → length name ≡ size - labelAt form
+  pub name-long : size ≤ length s → length name ≡ size - labelAt form
   name-long h = simp (length-take, length-drop) (omega arith)
 
   pub plainly : Headed version s mark position size code form → size ≤ length s → kept ≡ common last name → shortPart (length last - kept)

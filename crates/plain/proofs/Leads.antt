@@ -6,12 +6,13 @@ use mathlib.Core.List.{List, [], _∷_, _++_}
 use mathlib.Core.Bool.{Bool, true, false, _&&_, not}
 use native.Mathlib.Omega.{arith}
 use lib.ListN.{length, getD, take, drop}
-use lib.Dec.{eqb}
-use borrow.Author.Tests.{eq-eqb}
+use lib.Dec.{eqb, ltb}
+use borrow.Author.Tests.{eq-eqb, le-ltb}
 use Rattle.format.specs.Bytes.{pick, be16, be32, Bytes, same}
 use Rattle.format.specs.Items.{pointOf, dimensionsOf}
 use Rattle.format.specs.Sheet.{framed, labelFits, dateFrom, sectionEntry, sectionIn, entryOf}
 use Rattle.format.specs.Codes.{common, labelCodes, keptBytes, styleIf, dateIf, standsAt, moveIf, lineCodes, stationCodes, allShort, sectionCodes}
+use Rattle.format.specs.V7Codes.{labelledCodes, v7SectionCodes}
 use Rattle.format.specs.WellFormed.{GoodDated}
 use Rattle.format.specs.declared.Dated.{Dated}
 use Rattle.format.specs.declared.Position.{Position}
@@ -25,7 +26,7 @@ use Rattle.number.specs.Four.{toLe64}
 use Rattle.sheet.specs.Seen.{legOf, EntryTold}
 use Rattle.sheet.specs.declared.Entry.the-variants.{Whole}
 use Rattle.sheet.proofs.Entries.{inside, leg-whole, station-whole, section-whole, kind-leg, kind-station, kind-section, entry-told}
-use Rattle.plain.specs.Plainly.{markOf, Headed, Goes}
+use Rattle.plain.specs.Plainly.{markOf, tailOf, Headed, Goes}
 use Rattle.plain.specs.declared.Form.the-variants.{Leg, Station, Narrow, Wide}
 use Rattle.plain.proofs.Marks.{same-date-refl, leg-style, leg-stated, section-stated}
 
@@ -65,6 +66,11 @@ module _ (s : List ℕ) (b : Bytes s) (fr : framed s ≡ true) where
             codes-are = λ last label q. rw (es, ed, eq-eqb style style refl, same-date-refl date, stands, q);
             leaves = λ last label. rw (es, ed);
             sayable = λ label. rw es (said (eqb style 5));
+            v7-codes-are = λ last label.
+                let z : 0x80 + getD s 3 0 ≡ 0x40 + getD s 3 0 + 0x40 = omega arith in
+                rw (ed, same-date-refl date, stands) (ap (λ (c : ℕ). labelledCodes last label c (tailOf Leg s)) z);
+            v7-leaves = λ last label. rw ed;
+            v7-able = λ label e h. rw es e;
           }
 
     pub leg-leads : Headed version s mark position (2 + n) (0x40 + getD s 3 0) Leg
@@ -87,6 +93,11 @@ module _ (s : List ℕ) (b : Bytes s) (fr : framed s ≡ true) where
                 codes-are = λ last label q. rw q;
                 leaves = λ last label. refl;
                 sayable = λ label. refl;
+                v7-codes-are = λ last label.
+                    let z : 0x40 + getD s 3 0 ≡ 0x80 + getD s 3 0 - 0x40 = omega arith in
+                    ap (λ (c : ℕ). labelledCodes last label c (tailOf Station s)) z;
+                v7-leaves = λ last label. refl;
+                v7-able = λ label e h. le-ltb 0x1f (getD s 3 0) (omega arith);
               };
         }
 
@@ -127,7 +138,7 @@ module _ (s : List ℕ) (b : Bytes s) (fr : framed s ≡ true) where
       setting = record { style = style; date = date; position = position }
 
       narrow-goes : allShort size ≡ true → Goes 2 s setting (2 + n) (0x30 + getD s 3 0) Narrow
-      unfolding dateIf sectionCodes keptBytes pick
+      unfolding dateIf sectionCodes v7SectionCodes keptBytes pick
       narrow-goes short =
           record {
             fields = f;
@@ -135,10 +146,13 @@ module _ (s : List ℕ) (b : Bytes s) (fr : framed s ≡ true) where
             codes-are = λ last label q. rw (sd, same-date-refl date, short, q);
             leaves = λ last label. rw sd;
             sayable = λ label. refl;
+            v7-codes-are = λ last label. rw (sd, same-date-refl date, short);
+            v7-leaves = λ last label. rw sd;
+            v7-able = λ label e h. refl;
           }
 
       wide-goes : allShort size ≡ false → Goes 2 s setting (2 + n) (0x32 + getD s 3 0) Wide
-      unfolding dateIf sectionCodes keptBytes pick
+      unfolding dateIf sectionCodes v7SectionCodes keptBytes pick
       wide-goes long =
           record {
             fields = f;
@@ -146,6 +160,9 @@ module _ (s : List ℕ) (b : Bytes s) (fr : framed s ≡ true) where
             codes-are = λ last label q. rw (sd, same-date-refl date, long, q);
             leaves = λ last label. rw sd;
             sayable = λ label. refl;
+            v7-codes-are = λ last label. rw (sd, same-date-refl date, long);
+            v7-leaves = λ last label. rw sd;
+            v7-able = λ label e h. refl;
           }
 
     pub narrow-leads : allShort (dimensionsOf 4 be32 (drop 9 s)) ≡ true → Headed 2 s mark position (2 + n) (0x30 + getD s 3 0) Narrow

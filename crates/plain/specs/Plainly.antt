@@ -3,12 +3,15 @@
 use Prim.Native.Nat.{ℕ, _+_, _-_, _*_, _/_, _%_, _≤_}
 use mathlib.Core.Path.{_≡_}
 use mathlib.Core.List.{List, _∷_, _++_}
-use mathlib.Core.Bool.{true, false}
-use lib.ListN.{length, drop}
+use mathlib.Core.Bool.{true, false, _&&_}
+use lib.ListN.{length, getD, drop}
+use lib.Dec.{ltb}
 use Rattle.format.specs.Bytes.{be16, be32, toLe16, toLe32, same}
 use Rattle.format.specs.Items.{pointOf, dimensionsOf}
 use Rattle.format.specs.Sheet.{pointBytes, dimensionBytes, dateKind, dateDay, dateLast}
 use Rattle.format.specs.Codes.{common, shortPart, labelCodes, codes, after, unsayable}
+use Rattle.format.specs.State.{notSaid}
+use Rattle.format.specs.V7Codes.{labelledCodes, v7Codes, v7After, v7Unable}
 use Rattle.format.specs.Fields.{recordOf, stateOf}
 use Rattle.format.specs.WellFormed.{GoodDated}
 use Rattle.format.specs.declared.Dated.{Dated}
@@ -62,6 +65,19 @@ positionAfter Station s old = old
 positionAfter Narrow s old = old
 positionAfter Wide s old = old
 
+-- ---- v7
+
+-- the code of the same item in v7
+abbrev pub v7Code : Form → ℕ → ℕ
+v7Code Leg code = code + 0x40
+v7Code Station code = code - 0x40
+v7Code Narrow code = code
+v7Code Wide code = code
+
+-- v7 has no styles: its state says none
+abbrev pub unsaid : Setting → Setting
+unsaid setting = record { style = notSaid; date = setting .date; position = setting .position }
+
 -- ---- what is told
 
 -- a record of this size is at the front of s; in this setting, after another label, its codes are the code, a label part and the tail; it
@@ -74,6 +90,13 @@ pub record Goes (version : ℕ) (s : List ℕ) (setting : Setting) (size code : 
   pub leaves : (last label : List ℕ) → after (stateOf setting last) (recordOf fields label)
       ≡ stateOf (record { style = setting .style; date = setting .date; position = positionAfter form s (setting .position) }) label
   pub sayable : (label : List ℕ) → unsayable (setting .style) (recordOf fields label) ≡ false
+  -- in v7 its codes are one item with its label, and v7 can carry it where its style and flags let it
+  pub v7-codes-are : (last label : List ℕ)
+      → v7Codes (stateOf setting last) (recordOf fields label) ≡ labelledCodes last label (v7Code form code) (tailOf form s)
+  pub v7-leaves : (last label : List ℕ) → v7After (stateOf (unsaid setting) last) (recordOf fields label)
+      ≡ stateOf (record { style = notSaid; date = setting .date; position = positionAfter form s (setting .position) }) label
+  pub v7-able : (label : List ℕ) → (ltb 0 (setting .style) && ltb (setting .style) notSaid) ≡ false → code ≤ 0x9f
+      → v7Unable (recordOf fields label) ≡ false
 
 -- the same in every setting with this mark and position
 pub record Headed (version : ℕ) (s : List ℕ) (mark : ℕ) (position : Position) (size code : ℕ) (form : Form) : Type 0 where
@@ -85,12 +108,17 @@ abbrev pub HeadTold : Head → ℕ → List ℕ → ℕ → Position → Type 0
 HeadTold NoHead version s mark position = Unit
 HeadTold (Known code form) version s mark position = Headed version s mark position (2 + be16 s) code form
 
+-- this form, with a code from least to most
+abbrev pub Shaped : Form → ℕ → ℕ → Head → Type 0
+Shaped f least most NoHead = Unit
+Shaped f least most (Known code form) = (form ≡ f) × (least ≤ code) × (code ≤ most)
+
 -- a leg is the same in each version, a station in each state too, and a cross-section's position does not count
 abbrev pub LegTold : Head → List ℕ → ℕ → Position → Type 0
-LegTold r s mark position = (version : ℕ) → HeadTold r version s mark position
+LegTold r s mark position = Shaped Leg 0x40 0x47 r × ((version : ℕ) → HeadTold r version s mark position)
 
 abbrev pub StationTold : Head → List ℕ → Type 0
-StationTold r s = (version mark : ℕ) (position : Position) → HeadTold r version s mark position
+StationTold r s = Shaped Station 0x80 (0x80 + getD s 3 0) r × ((version mark : ℕ) (position : Position) → HeadTold r version s mark position)
 
 abbrev pub SectionTold : Head → List ℕ → ℕ → Type 0
 SectionTold r s mark = (position : Position) → HeadTold r 2 s mark position
@@ -110,3 +138,17 @@ pub record Plainly (version : ℕ) (s : List ℕ) (mark : ℕ) (position : Posit
 abbrev pub Found : Plain → ℕ → List ℕ → ℕ → Position → List ℕ → Type 0
 Found Other version s mark position last = Unit
 Found (Item size kept code form) version s mark position last = Plainly version s mark position last size kept code form
+
+-- ---- between the two: a head that is known, and a label behind it
+
+-- the label starts in a record of this size
+abbrev pub HeadFits : Head → ℕ → Type 0
+HeadFits NoHead size = Unit
+HeadFits (Known code form) size = labelAt form ≤ size
+
+-- the item is that of the head, and the label part takes one byte
+abbrev pub Labelled : Plain → Head → List ℕ → ℕ → List ℕ → Type 0
+Labelled Other found s size last = Unit
+Labelled (Item n kept code form) found s size last =
+    (n ≡ size) × (found ≡ Known code form) × (kept ≡ common last (labelOf size (labelAt form) s))
+    × (shortPart (length last - kept) (length (labelOf size (labelAt form) s) - kept) ≡ true)

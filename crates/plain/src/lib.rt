@@ -14,7 +14,8 @@ ghost use Rattle.format.specs.Codes.{shortPart};
 ghost use Rattle.format.specs.Items.{pointOf, dimensionsOf};
 ghost use Rattle.format.specs.Sheet.{framed, pointBytes, dimensionBytes};
 ghost use Rattle.part.specs.Lays.{Puts};
-ghost use Rattle.plain.specs.Plainly.{markOf, markFrom, labelAt, tailSize, tailOf, positionAfter, LegTold, StationTold, SectionTold, HeadTold, Found};
+ghost use Rattle.plain.specs.Plainly.{markOf, markFrom, labelAt, tailSize, tailOf, positionAfter, LegTold, StationTold, SectionTold, HeadTold, Found, HeadFits, Labelled};
+ghost use Rattle.plain.specs.Placed.{Placed, placeAt, PlacedTold, FoundPlaced};
 
 // What kind of record it is, and so what ends its codes: a place, or dimensions as i16
 // (narrow) or as i32 (wide).
@@ -177,20 +178,15 @@ pub fn label_at(form: Form) -> usize
     }
 }
 
-// The record at the front of s, in a sheet of the version, where the state has this mark,
-// position and label `last`.
-pub fn find(s: &[u8], version: u8, mark: u64, position: Position, last: &[u8]) -> Plain
-    ensures { λ r. ⌜ Found r version (now (s .entry)) mark position (now (last .entry)) ⌝ }
+// The record s of so many bytes by what is known of its head, where the previous label is
+// `last`.
+fn with_label(s: &[u8], size: usize, found: Head, last: &[u8]) -> Plain
+    requires { ⌜ (size ≤ length (now s)) × HeadFits found size ⌝ }
+    ensures { λ r. ⌜ Labelled r found (now (s .entry)) size (now (last .entry)) ⌝ }
 {
-    if !sheet::is_framed(s) {
-        return Plain::Other;
-    }
-    let n = sheet::size_of(number::get_be16(s));
-    let found = head_of(s, n, version, mark, position);
     let Head::Known { code, form } = found else {
         return Plain::Other;
     };
-    let size = 2 + n;
     let name = &s[label_at(form)..size];
     let kept = wire::common_start(last, name);
     if !part::one_byte(last.len() - kept, name.len() - kept) {
@@ -202,6 +198,53 @@ pub fn find(s: &[u8], version: u8, mark: u64, position: Position, last: &[u8]) -
         code,
         form,
     }
+}
+
+// The record at the front of s, in a sheet of the version, where the state has this mark,
+// position and label `last`.
+pub fn find(s: &[u8], version: u8, mark: u64, position: Position, last: &[u8]) -> Plain
+    ensures { λ r. ⌜ Found r version (now (s .entry)) mark position (now (last .entry)) ⌝ }
+{
+    if !sheet::is_framed(s) {
+        return Plain::Other;
+    }
+    let n = sheet::size_of(number::get_be16(s));
+    let found = head_of(s, n, version, mark, position);
+    with_label(s, 2 + n, found, last)
+}
+
+// The leg or the station of the record s, whose body has n bytes; of stations those whose
+// flags v7 has too.
+fn placed_head(s: &[u8], n: usize, mark: u64, position: Position) -> Head
+    requires { ⌜ (n ≡ be16 (now s)) × (framed (now s) ≡ true) ⌝ }
+    ensures { λ r. ⌜ PlacedTold r (now (s .entry)) mark position ⌝ }
+{
+    let kind = s[2];
+    if kind == 1 {
+        return leg_head(s, n, mark, position);
+    }
+    if kind != 2 {
+        return Head::Other;
+    }
+    if n < 2 {
+        return Head::Other;
+    }
+    if 0x1f < s[3] {
+        return Head::Other;
+    }
+    station_head(s, n)
+}
+
+// The leg or the station at the front of s, in a sheet of any version, for v7.
+pub fn find_placed(s: &[u8], mark: u64, position: Position, last: &[u8]) -> Plain
+    ensures { λ r. ⌜ FoundPlaced r (now (s .entry)) mark position (now (last .entry)) ⌝ }
+{
+    if !sheet::is_framed(s) {
+        return Plain::Other;
+    }
+    let n = sheet::size_of(number::get_be16(s));
+    let found = placed_head(s, n, mark, position);
+    with_label(s, 2 + n, found, last)
 }
 
 // ---- the codes
@@ -260,6 +303,18 @@ fn tail_size(form: Form) -> usize
     }
 }
 
+// Where the place of a leg or a station stands that ends its codes.
+fn place_at(form: Form) -> usize
+    ensures { λ r. ⌜ r ≡ placeAt form ⌝ }
+{
+    match form {
+        Form::Leg => 22,
+        Form::Station => 4,
+        Form::Narrow => 0,
+        Form::Wide => 0,
+    }
+}
+
 // What ends the codes of the record s, over the front of out.
 fn put_tail(form: Form, s: &[u8], out: &mut [u8])
     requires { ⌜ (labelAt form ≤ length (now s)) × (tailSize form ≤ length (now out)) ⌝ }
@@ -306,6 +361,23 @@ pub fn put(out: &mut [u8], code: u8, drop: usize, added: &[u8], form: Form, s: &
     }
     let part = (16 * drop + added.len()) as u8;
     put_all(out, code, part, added, form, s);
+    n
+}
+
+// The same for a leg or a station in v7, whose code has no label part but the number of
+// bytes that are added behind it.
+pub fn put_placed(out: &mut [u8], code: u8, added: &[u8], form: Form, s: &[u8]) -> usize
+    requires { ⌜ Placed form × (length (now added) ≤ 15) × (labelAt form ≤ length (now s)) ⌝ }
+    ensures { λ r. ⌜ Puts (now (out .entry)) (now (out .exit)) (code ∷ length (now (added .entry)) ∷ (now (added .entry) ++ tailOf form (now (s .entry)))) 33 r ⌝ }
+{
+    let end = 2 + added.len();
+    let n = end + 12;
+    if out.len() < n {
+        return n;
+    }
+    put_two(out, code, added.len() as u8);
+    wire::copy_short(added, &mut out[2..]);
+    put_place(&s[place_at(form)..], &mut out[end..]);
     n
 }
 

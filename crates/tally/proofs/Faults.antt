@@ -1,46 +1,42 @@
--- Whether a record has style 5 after another style, by its fields. Assumes nothing.
-use Prim.Native.Nat.{ℕ}
+-- The first record that cannot be written: that it stays, and whether a record is one for v8, by its fields. Assumes nothing.
+use Prim.Native.Nat.{ℕ, zero, suc}
 use mathlib.Core.Path.{_≡_, refl}
+use mathlib.Core.Bool.{Bool, true, false}
 use mathlib.Core.List.{[]}
 use borrow.Author.Tests.{eq-eqb, ne-eqb}
 use Rattle.format.specs.Bytes.{pick}
 use Rattle.format.specs.Fields.{recordOf}
+use Rattle.format.specs.Refusals.{orElse, refusalAt}
 use Rattle.format.specs.Codes.{unsayable}
 use Rattle.format.specs.declared.Dated.{Dated}
 use Rattle.format.specs.declared.Point.{Point}
-use Rattle.format.specs.declared.Traverse.{Traverse}
-use Rattle.format.specs.declared.Station.{Station as StationFields}
-use Rattle.format.specs.declared.Dimensions.{Dimensions}
-use Rattle.format.specs.declared.Verdict.{Verdict}
 use Rattle.format.specs.declared.Verdict.the-variants.{Good, Refusal}
 use Rattle.format.specs.declared.Fields.{Fields}
-use Rattle.format.specs.declared.Fields.the-variants.{Leg, Station, Section, Error}
+use Rattle.format.specs.declared.Fields.the-variants.{Leg}
+use Rattle.format.proofs.RefusalLaws.{fault-here}
+use Rattle.tally.specs.Tallies.{firstAt}
 
-module _ (old n : ℕ) (f : Fields) where
-  abbrev here : Verdict
-  here = pick (unsayable old (recordOf f [])) (Refusal 13 n) Good
+-- ---- the first of them, by any number
 
-  module _ (flags style : ℕ) (date : Dated) (from to : Point) (e : f ≡ Leg flags style date from to) where
-    pub said : (style ≡ 5 → ⊥) → Good ≡ here
-    unfolding pick
-    said h = rw (e, ne-eqb style 5 h)
+pub first-refusal : (k fault : ℕ) (bad : Bool) (n : ℕ) → refusalAt k (firstAt fault bad n) ≡ orElse (refusalAt k fault) (pick bad (Refusal k n) Good)
+unfolding firstAt pick
+first-refusal k zero true n = fault-here k n
+first-refusal k zero false n = refl
+first-refusal k (suc p) bad n = refl
 
-    pub never-said : style ≡ 5 → old ≡ 5 → Good ≡ here
-    unfolding pick
-    never-said h k = rw (e, eq-eqb style 5 h, eq-eqb old 5 k)
+pub first-stays : (fault : ℕ) (bad : Bool) (n : ℕ) → (fault ≡ 0 → ⊥) → fault ≡ firstAt fault bad n
+unfolding firstAt
+first-stays zero bad n h = absurd (h refl)
+first-stays (suc p) bad n h = refl
 
-    pub unsaid : style ≡ 5 → (old ≡ 5 → ⊥) → Refusal 13 n ≡ here
-    unfolding pick
-    unsaid h k = rw (e, eq-eqb style 5 h, ne-eqb old 5 k)
+-- ---- a leg for v8
 
-  pub no-style-station : (s : StationFields) → f ≡ Station s → Good ≡ here
-  unfolding pick
-  no-style-station s e = rw e
+module _ (old : ℕ) (f : Fields) (flags style : ℕ) (date : Dated) (from to : Point) (e : f ≡ Leg flags style date from to) where
+  pub said : (style ≡ 5 → ⊥) → false ≡ unsayable old (recordOf f [])
+  said h = rw (e, ne-eqb style 5 h)
 
-  pub no-style-section : (last unused : ℕ) (date : Dated) (size : Dimensions) → f ≡ Section last unused date size → Good ≡ here
-  unfolding pick
-  no-style-section last unused date size e = rw e
+  pub never-said : style ≡ 5 → old ≡ 5 → false ≡ unsayable old (recordOf f [])
+  never-said h k = rw (e, eq-eqb style 5 h, eq-eqb old 5 k)
 
-  pub no-style-error : (t : Traverse) → f ≡ Error t → Good ≡ here
-  unfolding pick
-  no-style-error t e = rw e
+  pub not-said : style ≡ 5 → (old ≡ 5 → ⊥) → true ≡ unsayable old (recordOf f [])
+  not-said h k = rw (e, eq-eqb style 5 h, ne-eqb old 5 k)

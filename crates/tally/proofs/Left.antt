@@ -28,7 +28,7 @@ use Rattle.format.proofs.Basics.{pick-case, pick-true, pick-false, less-or-not}
 use Rattle.wire.specs.Laid.{laid}
 use Rattle.wire.proofs.Laws.{laid-next, laid-part}
 use Rattle.part.specs.Lays.{Puts}
-use Rattle.tally.specs.Tallies.{bounded, Adds, finalOutcome, Finished, encoded, restOutcome, Rest}
+use Rattle.tally.specs.Tallies.{bounded, settled, Adds, finalOutcome, Finished, encoded, restOutcome, Rest}
 use Rattle.tally.specs.declared.Tally.{Tally}
 
 -- ---- a piece written into the part of d from `from` on: there or, where that is past the end, nowhere
@@ -67,22 +67,33 @@ size-good : (n : ℕ) → n ≤ fileLimit → sizeVerdict n ≡ Good
 unfolding sizeVerdict
 size-good n h = pick-false _ _ (le-ltb fileLimit n h)
 
--- ---- `put_next`
+-- ---- one record more, whose codes are written into the part of d from `from` on
 
+module _ (w : Writer) (d : List ℕ) (t : Tally) (st : State) (r : Record) (from : ℕ) (y : List ℕ) (n bytes fault : ℕ)
+    (inside : from ≤ length d) (q : t .bytes ≤ length d → from ≡ t .bytes) (P : Puts (take (length d - from) (drop from d)) y (w .codes st r) (w .longest) n)
+    (b : bytes ≡ bounded (t .bytes) n)
+    (e : refusalAt (w .number) fault ≡ orElse (refusalAt (w .number) (t .fault)) (pick (w .unable st r) (Refusal (w .number) (t .records)) Good)) where
+  pub adds-one : Adds w st r d (take from d ++ (y ++ drop (length d - from) (drop from d))) t
+      (record { bytes = bytes; records = t .records + 1; fault = fault })
+  adds-one =
+      record {
+        most = omega (arith, P .size, P .most);
+        bytes = b ∙ ap (bounded (t .bytes)) (P .size);
+        records = refl;
+        fault = e;
+        kept = written-length d (t .bytes) from _ y (w .longest) n inside P;
+        written = λ h. written-there d (t .bytes) from _ y (w .longest) n inside P q (omega (arith, P .size));
+      }
+
+-- the same for v8, by a record's fields
 module _ (d : List ℕ) (t : Tally) (setting : Setting) (last name : List ℕ) (f : Fields) (from : ℕ) (y : List ℕ) (n bytes fault : ℕ)
     (inside : from ≤ length d) (q : t .bytes ≤ length d → from ≡ t .bytes)
     (P : Puts (take (length d - from) (drop from d)) y (codes (stateOf setting last) (recordOf f name)) codesLimit n)
     (b : bytes ≡ bounded (t .bytes) n) (e : refusalAt 13 fault ≡ orElse (refusalAt 13 (t .fault)) (pick (unsayable (setting .style) (recordOf f [])) (Refusal 13 (t .records)) Good)) where
   pub adds-next : Adds v8 (stateOf setting last) (recordOf f name) d (take from d ++ (y ++ drop (length d - from) (drop from d))) t (record { bytes = bytes; records = t .records + 1; fault = fault })
   adds-next =
-      record {
-        most = omega (arith, P .size, P .most);
-        bytes = b ∙ ap (bounded (t .bytes)) (P .size);
-        records = refl;
-        fault = e ∙ ap (λ (x : Bool). orElse (refusalAt 13 (t .fault)) (pick x (Refusal 13 (t .records)) Good)) (unsayable-at (setting .style) f name);
-        kept = written-length d (t .bytes) from _ y codesLimit n inside P;
-        written = λ h. written-there d (t .bytes) from _ y codesLimit n inside P q (omega (arith, P .size));
-      }
+      adds-one v8 d t (stateOf setting last) (recordOf f name) from y n bytes fault inside q P b
+      (e ∙ ap (λ (x : Bool). orElse (refusalAt 13 (t .fault)) (pick x (Refusal 13 (t .records)) Good)) (unsayable-at (setting .style) f name))
 
 -- ---- any writer
 
@@ -169,9 +180,12 @@ module _ (w : Writer) where
     rest-refused d kept k p e = record { answer = e; kept = kept; written = λ b n v q h. absurd (never k p b n v (e ∙ q)) }
 
     module _ (d : List ℕ) (t : Tally) (st : State) where
-      pub left-flawed : (number : ℕ) → Left x₀ head d₀ d t st (stop (Refusal 12 number)) → refused 12 number ≡ restOutcome w head x₀
+      pub left-stopped : (k p : ℕ) → Left x₀ head d₀ d t st (stop (Refusal k p)) → refused k p ≡ restOutcome w head x₀
       unfolding filedOutcome
-      left-flawed number L = rw (← (L .verdict))
+      left-stopped k p L = rw (← (L .verdict))
+
+      pub left-flawed : (number : ℕ) → Left x₀ head d₀ d t st (stop (Refusal 12 number)) → refused 12 number ≡ restOutcome w head x₀
+      left-flawed number L = left-stopped 12 number L
 
       module _ (d′ : List ℕ) (r : Answer) (kept : length d ≡ length d₀) (L : Left x₀ head d₀ d t st (stop Good)) (F : Finished w d d′ (w .closing st) t r) where
         abbrev bytes : ℕ
@@ -218,28 +232,29 @@ module _ (w : Writer) where
                   F .written (a .0) (omega (arith, a .1)) ∙ ap (laid d (t .bytes)) (sym (rest-none st)) ∙ L .filled (omega (arith, a .1)) (omega (arith, a .2));
             }
 
-  -- ---- `finish`
+  -- ---- the closing codes, written into the part of d from `from` on
 
-  module _ (d close : List ℕ) where
-    pub finish-unsaid : (t : Tally) → (t .fault ≡ 0 → ⊥) → Finished w d d close t (Refused (w .number) (t .fault - 1))
-    unfolding finalOutcome
-    finish-unsaid t h = record { answer = rw (fault-is (w .number) (t .fault) h); kept = refl; written = λ q. absurd (h q) }
+  pub finish-closed : (d close : List ℕ) (t : Tally) (from : ℕ) (y : List ℕ) (m n : ℕ) → from ≤ length d → (t .bytes ≤ length d → from ≡ t .bytes)
+      → Puts (take (length d - from) (drop from d)) y close m n → (r : Answer)
+      → answerOf r ≡ settled (w .number) (w .version) (t .fault) (t .bytes + n) (t .records)
+      → Finished w d (take from d ++ (y ++ drop (length d - from) (drop from d))) close t r
+  unfolding finalOutcome
+  finish-closed d close t from y m n inside q P r e =
+      record {
+        answer = rw (P .size) at e;
+        kept = written-length d (t .bytes) from close y m n inside P;
+        written = λ z h. written-there d (t .bytes) from close y m n inside P q (omega (arith, P .size));
+      }
 
-    module _ (t : Tally) (from : ℕ) (y : List ℕ) (m n : ℕ) (none : t .fault ≡ 0) (inside : from ≤ length d) (q : t .bytes ≤ length d → from ≡ t .bytes)
-        (P : Puts (take (length d - from) (drop from d)) y close m n) where
-      abbrev after-closing : List ℕ
-      after-closing = take from d ++ (y ++ drop (length d - from) (drop from d))
+-- ---- `settle`
 
-      finished : (r : Answer) → answerOf r ≡ finalOutcome w (t .fault) (t .bytes + length close) (t .records) → Finished w d after-closing close t r
-      finished r e =
-          record { answer = e; kept = written-length d (t .bytes) from close y m n inside P; written = λ z h. written-there d (t .bytes) from close y m n inside P q (omega (arith, P .size)) }
+module _ (number version fault bytes records : ℕ) where
+  pub settle-fault : (fault ≡ 0 → ⊥) → refused number (fault - 1) ≡ settled number version fault bytes records
+  settle-fault h = rw (fault-is number fault h)
 
-      pub finish-big : fileLimit < t .bytes + n → Finished w d after-closing close t (Refused 16 0)
-      unfolding finalOutcome
-      finish-big h = finished (Refused 16 0) (rw (none, size-big (t .bytes + length close) (omega (arith, P .size))))
+  module _ (none : fault ≡ 0) where
+    pub settle-big : fileLimit < bytes → refused 16 0 ≡ settled number version fault bytes records
+    settle-big h = rw (none, size-big bytes h)
 
-      pub finish-done : t .bytes + n ≤ fileLimit → Finished w d after-closing close t (Done (t .bytes + n) (t .records) (w .version))
-      unfolding finalOutcome
-      finish-done h =
-          finished (Done (t .bytes + n) (t .records) (w .version))
-          (rw (none, P .size, size-good (t .bytes + length close) (omega (arith, P .size)), outcome-fits (t .bytes + length close) (t .records) (w .version)))
+    pub settle-done : bytes ≤ fileLimit → accepted bytes records version ≡ settled number version fault bytes records
+    settle-done h = rw (none, size-good bytes h, outcome-fits bytes records version)

@@ -1,6 +1,7 @@
 -- What a writer counts from record to record, and its answer where there is room enough. Assumes nothing.
-use Prim.Native.Nat.{ℕ, _+_, _≤_}
+use Prim.Native.Nat.{ℕ, zero, suc, _+_, _≤_}
 use mathlib.Core.Path.{_≡_}
+use mathlib.Core.Bool.{Bool}
 use mathlib.Core.List.{List}
 use lib.ListN.{length}
 use lib.Dec.{ltb}
@@ -21,6 +22,11 @@ use Rattle.tally.specs.declared.Tally.{Tally}
 unfoldable pub bounded : ℕ → ℕ → ℕ
 bounded total n = pick (ltb fileLimit total) total (total + n)
 
+-- the first fault so far, when the record with the number n has one or not; a fault is kept as the record's number and one, or 0 for none
+unfoldable pub firstAt : ℕ → Bool → ℕ → ℕ
+firstAt zero bad n = pick bad (n + 1) 0
+firstAt (suc p) bad n = suc p
+
 -- counts that leave room for one record more: bytes are at most a record over what refusal 16 allows
 pub record Fits (w : Writer) (t : Tally) : Type 0 where
   pub few-bytes : t .bytes ≤ fileLimit + w .longest
@@ -37,9 +43,12 @@ pub record Adds (w : Writer) (st : State) (r : Record) (d d′ : List ℕ) (t t�
 
 -- ---- answers, each for just the room that is needed
 
--- at the end of so many bytes and records
+-- at the end of so many bytes and records of a version, whose fault has this number
+abbrev pub settled : ℕ → ℕ → ℕ → ℕ → ℕ → Outcome
+settled number version fault bytes records = outcomeOf (orElse (refusalAt number fault) (sizeVerdict bytes)) bytes records version bytes
+
 unfoldable pub finalOutcome : Writer → ℕ → ℕ → ℕ → Outcome
-finalOutcome w fault bytes records = outcomeOf (orElse (refusalAt (w .number) fault) (sizeVerdict bytes)) bytes records (w .version) bytes
+finalOutcome w fault bytes records = settled (w .number) (w .version) fault bytes records
 
 -- the closing codes are written into d behind the bytes so far where there is no fault and they fit, which leaves d′
 pub record Finished (w : Writer) (d d′ closing : List ℕ) (t : Tally) (r : Answer) : Type 0 where

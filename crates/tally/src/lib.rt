@@ -17,25 +17,36 @@ ghost use Rattle.format.specs.Bytes.{pick};
 ghost use Rattle.format.specs.Codes.{codesLimit, unsayable, settingAfter, closing};
 ghost use Rattle.format.specs.Writing.{v8};
 ghost use Rattle.format.specs.declared.Verdict.the-variants.{Good, Refusal};
-ghost use Rattle.tally.specs.Tallies.{bounded, Fits, Adds, Finished};
+ghost use Rattle.format.specs.Answers.{answerOf};
+ghost use Rattle.tally.specs.Tallies.{bounded, firstAt, settled, Fits, Adds, Finished};
 ghost use Rattle.format.specs.Label.{labelLimit};
 
 // The bytes so far, until they are over what refusal 16 allows; the records so far; and
-// the first record with style 5 after another style, as its number and one, or 0.
+// the first record that cannot be written, as its number and one, or 0.
 pub struct Tally {
     pub bytes: usize,
     pub records: usize,
     pub fault: usize,
 }
 
-// `old` is the style before the record with this number.
-pub fn first_fault(fault: usize, old: u8, fields: Fields, number: usize) -> usize
+// The first fault so far, when the record with this number has one or not.
+pub fn first_at(fault: usize, bad: bool, number: usize) -> usize
     requires { ⌜ number ≤ 18446744073709551614 ⌝ }
-    ensures { λ r. ⌜ refusalAt 13 r ≡ orElse (refusalAt 13 fault) (pick (unsayable old (recordOf fields [])) (Refusal 13 number) Good) ⌝ }
+    ensures { λ r. ⌜ r ≡ firstAt fault bad number ⌝ }
 {
     if fault != 0 {
         return fault;
     }
+    if bad {
+        return number + 1;
+    }
+    0
+}
+
+// Whether a record has style 5 after another style.
+fn unsaid(old: u8, fields: Fields) -> bool
+    ensures { λ r. ⌜ r ≡ unsayable old (recordOf fields []) ⌝ }
+{
     match fields {
         Fields::Leg {
             flags: _,
@@ -45,27 +56,35 @@ pub fn first_fault(fault: usize, old: u8, fields: Fields, number: usize) -> usiz
             to: _,
         } => {
             if style != 5 {
-                return 0;
+                return false;
             }
             if old == 5 {
-                return 0;
+                return false;
             }
-            number + 1
+            true
         }
-        Fields::Station { station: _ } => 0,
+        Fields::Station { station: _ } => false,
         Fields::Section {
             last: _,
             unused: _,
             date: _,
             size: _,
-        } => 0,
-        Fields::Error { traverse: _ } => 0,
+        } => false,
+        Fields::Error { traverse: _ } => false,
     }
+}
+
+// `old` is the style before the record with this number.
+pub fn first_fault(fault: usize, old: u8, fields: Fields, number: usize) -> usize
+    requires { ⌜ number ≤ 18446744073709551614 ⌝ }
+    ensures { λ r. ⌜ refusalAt 13 r ≡ orElse (refusalAt 13 fault) (pick (unsayable old (recordOf fields [])) (Refusal 13 number) Good) ⌝ }
+{
+    first_at(fault, unsaid(old, fields), number)
 }
 
 // The sum, until it is over what refusal 16 allows: then it stays.
 pub fn more(total: usize, n: usize) -> usize
-    requires { ⌜ (total ≤ fileLimit + codesLimit) × (n ≤ codesLimit) ⌝ }
+    requires { ⌜ total + n ≤ 18446744073709551615 ⌝ }
     ensures { λ r. ⌜ r ≡ bounded total n ⌝ }
 {
     if FILE_LIMIT < total {
@@ -106,21 +125,17 @@ pub fn put_next(
     }
 }
 
-// The end of a file: the closing codes, written where they fit into out behind the
-// bytes so far, and the answer, for room enough.
-pub fn finish(out: &mut [u8], style: u8, total: usize, number: usize, fault: usize) -> Answer
-    requires { ⌜ total ≤ fileLimit + codesLimit ⌝ }
-    ensures { λ r. ⌜ Finished v8 (now (out .entry)) (now (out .exit)) (closing style) (record { bytes = total; records = number; fault = fault }) r ⌝ }
+// The answer at the end of so many bytes and records, for room enough: `refusal` where
+// there is a fault.
+pub fn settle(bytes: usize, records: usize, fault: usize, refusal: u8, version: u8) -> Answer
+    ensures { λ r. ⌜ answerOf r ≡ settled refusal version fault bytes records ⌝ }
 {
     if fault != 0 {
         return Answer::Refused {
-            number: 13,
+            number: refusal,
             place: fault - 1,
         };
     }
-    let start = within(total, out.len());
-    let n = ends::put_closing(&mut out[start..], style);
-    let bytes = total + n;
     if FILE_LIMIT < bytes {
         return Answer::Refused {
             number: 16,
@@ -129,9 +144,20 @@ pub fn finish(out: &mut [u8], style: u8, total: usize, number: usize, fault: usi
     }
     Answer::Done {
         bytes,
-        records: number,
-        version: 8,
+        records,
+        version,
     }
+}
+
+// The end of a file: the closing codes, written where they fit into out behind the
+// bytes so far, and the answer, for room enough.
+pub fn finish(out: &mut [u8], style: u8, total: usize, number: usize, fault: usize) -> Answer
+    requires { ⌜ total ≤ fileLimit + codesLimit ⌝ }
+    ensures { λ r. ⌜ Finished v8 (now (out .entry)) (now (out .exit)) (closing style) (record { bytes = total; records = number; fault = fault }) r ⌝ }
+{
+    let start = within(total, out.len());
+    let n = ends::put_closing(&mut out[start..], style);
+    settle(total + n, number, fault, 13, 8)
 }
 
 // ---- what a record leaves

@@ -1,6 +1,7 @@
 -- A turn of the loop over a sheet's records, on plain values. Assumes nothing.
 use Prim.Native.Nat.{ℕ, _+_, _-_, _*_, _≤_, _<_}
 use mathlib.Core.Path.{_≡_, refl, sym, ap, _∙_}
+use mathlib.Core.Bool.{false}
 use mathlib.Core.List.{List, [], _∷_, _++_}
 use native.Mathlib.Omega.{arith}
 use lib.ListN.{length, take, drop, length-append, length-take, length-drop}
@@ -27,20 +28,17 @@ use Rattle.plain.specs.declared.Form.the-variants.{Leg as PlainLeg, Station as 
 use Rattle.plain.proofs.Finds.{plain-codes}
 use Rattle.sheet.specs.Seen.{labelOf, EntryTold}
 use Rattle.sheet.specs.declared.Entry.the-variants.{Flawed, Whole}
-use Rattle.sheet.proofs.EntryAt.{part, none-at, flawed-at, found-at, found-size, found-formed}
+use Rattle.sheet.proofs.EntryAt.{part, found-size, found-formed}
 use Rattle.part.specs.Lays.{Puts}
 use Rattle.tally.specs.Tallies.{bounded, Adds, restOutcome}
 use Rattle.tally.specs.declared.Tally.{Tally}
-use Rattle.tally.proofs.Left.{Left, left-none, left-more, left-flawed, adds-next, adds-few}
+use Rattle.tally.proofs.Left.{Left, left-none, adds-next}
 use Rattle.format.specs.WellFormed.{WellFormed}
 use Rattle.write.specs.Passing.{handOf, settingIn, handAfter, stateIn, Named}
 use Rattle.write.specs.declared.Hand.{Hand}
+use Rattle.write.proofs.Standing.{counted, Standing, standing-end, standing-flawed, standing-more}
 
 -- ---- where in the sheet the loop stands
-
--- the loop counts by three numbers: a struct that goes in and out of a call for each record costs time
-abbrev pub counted : ℕ → ℕ → ℕ → Tally
-counted total number fault = record { bytes = total; records = number; fault = fault }
 
 pub record Going (version : ℕ) (sheet : List ℕ) (begin head : ℕ) (d₀ d : List ℕ) (at total number fault : ℕ) (hand : Hand) (position : Position) : Type 0 where
   pub place : ℕ
@@ -145,14 +143,17 @@ module _ (version : ℕ) (sheet : List ℕ) (begin head : ℕ) (d₀ d : List �
   abbrev t : Tally
   t = counted total number fault
 
+  standing : Standing v8 false version sheet begin head d₀ d at total number fault st
+  standing = record { place = G .place; inside = G .inside; few-records = G .few-records; few = G .few; kept = G .kept; left = G .left }
+
   -- no record is left
   pub going-end : length sheet ≤ at → Left v8 x₀ head d₀ d t st (stop Good)
-  going-end h = rw (none-at version sheet at (G .place) number h) at (G .left)
+  going-end h = standing-end v8 false version sheet begin head d₀ d at total number fault st standing h
 
   module _ (h : at < length sheet) where
     -- no well-formed record is there
     pub going-flawed : EntryTold Flawed version (take (length sheet - at) (drop at sheet)) → refused 12 number ≡ restOutcome v8 head x₀
-    going-flawed T = left-flawed v8 x₀ head d₀ d t st number (rw (flawed-at version sheet at h T (G .place) number) at (G .left))
+    going-flawed T = standing-flawed v8 false version sheet begin head d₀ d at total number fault st standing h T
 
     -- the codes of the one that is are written into the part of d from `from` on
     module _ (n : ℕ) (f : Fields) (k : ℕ) (T : EntryTold (Whole n f k) version (take (length sheet - at) (drop at sheet))) (from : ℕ) (y : List ℕ)
@@ -180,18 +181,16 @@ module _ (version : ℕ) (sheet : List ℕ) (begin head : ℕ) (d₀ d : List �
           (x .position)
       going-more =
           let i = T .inside in
-          let w = found-size version sheet at h n f k T in
+          let S = standing-more v8 false version sheet begin head d₀ d at total number fault st standing h n f k T d′ size fault′ adds in
           record {
-            place = G .place + n;
-            inside = w .1;
-            few-records = omega (arith, G .few-records);
-            few = adds-few v8 st r d d′ t t′ adds (G .few);
-            kept = adds .kept ∙ G .kept;
-            named = named-after sheet hand position f (at + k) (at + n) (G .named) (omega (arith, i .from-within)) (w .1) (omega (arith, i .short))
+            place = S .place;
+            inside = S .inside;
+            few-records = S .few-records;
+            few = S .few;
+            kept = S .kept;
+            named = named-after sheet hand position f (at + k) (at + n) (G .named) (omega (arith, i .from-within)) (S .inside) (omega (arith, i .short))
                 (found-formed version sheet at h n f k T);
-            left = rw (← (state-after sheet hand position f (at + k) (at + n)))
-                (left-more v8 x₀ head d₀ d d′ t t′ st r (recordsFrom version (G .place + n) (drop (at + n) sheet) (number + 1))
-                (rw (found-at version sheet at h n f k T (G .place) number) at (G .left)) (G .kept) adds);
+            left = rw (← (state-after sheet hand position f (at + k) (at + n))) (S .left);
           }
 
     -- the plain arm: the same for a record that goes on, whose codes are known
@@ -265,23 +264,21 @@ module _ (version : ℕ) (sheet : List ℕ) (begin head : ℕ) (d₀ d : List �
           (record { style = hand .style; date = hand .date; mark = hand .mark; from = at + labelAt form; to = at + size }) (positionAfter form s position)
       going-plain =
           let i = G′ .told .inside in
-          let w = found-size version sheet at h size f (labelAt form) (G′ .told) in
+          let S = standing-more v8 false version sheet begin head d₀ d at total number fault st standing h size f (labelAt form) (G′ .told) d″ bytes fault plain-adds in
           record {
-            place = G .place + size;
-            inside = w .1;
-            few-records = omega (arith, G .few-records);
-            few = adds-few v8 st r′ d d″ t t″ plain-adds (G .few);
-            kept = plain-adds .kept ∙ G .kept;
+            place = S .place;
+            inside = S .inside;
+            few-records = S .few-records;
+            few = S .few;
+            kept = S .kept;
             named =
                 record {
                   ordered = omega (arith, i .from-within);
-                  inside = w .1;
+                  inside = S .inside;
                   short = omega (arith, i .short);
                   style-fits = G .named .style-fits;
                   date-fits = G .named .date-fits;
                   marked = G .named .marked;
                 };
-            left = rw (← (G′ .leaves (part sheet (hand .from) (hand .to)) (part sheet (at + labelAt form) (at + size))))
-                (left-more v8 x₀ head d₀ d d″ t t″ st r′ (recordsFrom version (G .place + size) (drop (at + size) sheet) (number + 1))
-                (rw (found-at version sheet at h size f (labelAt form) (G′ .told) (G .place) number) at (G .left)) (G .kept) plain-adds);
+            left = rw (← (G′ .leaves (part sheet (hand .from) (hand .to)) (part sheet (at + labelAt form) (at + size)))) (S .left);
           }

@@ -26,7 +26,16 @@ fn main() {
         versions(&format!("v{version}"), "legs", &file, repeats);
     }
     versions("v8", "stations, cross-sections and legs in turn", &mixed(), repeats);
+    older(repeats);
     edits(repeats);
+}
+
+/// The sheet of the v7 file of legs, written as v7.
+fn older(repeats: usize) {
+    let sheet = read_sheet(&legs(7));
+    println!("v7 written: sheet {} bytes of legs", sheet.len());
+    let writing = Pair { proved: proved::write_v7, other: second::write_v7, against: "second" };
+    report("write v7", &sheet, needed(second::write_v7, &sheet), writing, repeats);
 }
 
 /// Ten records in the middle of a house-written file make way for a station.

@@ -59,6 +59,7 @@ pub struct StepNumbers {
 extern "C" {
     fn cockledrift_read(file: *const u8, n: usize, sheet: *mut u8, m: usize) -> AnswerNumbers;
     fn cockledrift_write(sheet: *const u8, n: usize, out: *mut u8, m: usize) -> AnswerNumbers;
+    fn cockledrift_write_v7(sheet: *const u8, n: usize, out: *mut u8, m: usize) -> AnswerNumbers;
     fn cockledrift_convert(
         file: *const u8,
         n: usize,
@@ -116,6 +117,12 @@ pub fn write(sheet: &[u8], out: &mut [u8]) -> AnswerNumbers {
     let (out, room) = lend(out);
     // SAFETY: each pointer goes with the length of its own slice, which outlives the call.
     unsafe { cockledrift_write(sheet.as_ptr(), sheet.len(), out, room) }
+}
+
+pub fn write_v7(sheet: &[u8], out: &mut [u8]) -> AnswerNumbers {
+    let (out, room) = lend(out);
+    // SAFETY: each pointer goes with the length of its own slice, which outlives the call.
+    unsafe { cockledrift_write_v7(sheet.as_ptr(), sheet.len(), out, room) }
 }
 
 pub fn convert(file: &[u8], sheet: &mut [u8], out: &mut [u8]) -> AnswerNumbers {

@@ -32,9 +32,18 @@ pub fn write(sheet: &[u8]) -> Result<Answer, Difference> {
 }
 
 pub fn write_by(proved: Reader, sheet: &[u8]) -> Result<Answer, Difference> {
-    let needed = need(second::write(sheet, &mut []));
+    written_by(proved, &second::write, sheet)
+}
+
+/// Writing v7, likewise.
+pub fn write_v7(sheet: &[u8]) -> Result<Answer, Difference> {
+    written_by(&proved::write_v7, &second::write_v7, sheet)
+}
+
+fn written_by(proved: Reader, second: Reader, sheet: &[u8]) -> Result<Answer, Difference> {
+    let needed = need(second(sheet, &mut []));
     one_buffer(needed, sheet.len() + 100, &|out, _| proved(sheet, out), &|out, _| {
-        second::write(sheet, out)
+        second(sheet, out)
     })
 }
 

@@ -21,6 +21,10 @@ pub fn write(sheet: &[u8], out: &mut [u8]) -> Answer {
     answer(cockledrift::write(sheet, out))
 }
 
+pub fn write_v7(sheet: &[u8], out: &mut [u8]) -> Answer {
+    answer(cockledrift::write_v7(sheet, out))
+}
+
 pub fn convert(file: &[u8], sheet: &mut [u8], out: &mut [u8]) -> Answer {
     answer(cockledrift::convert(file, sheet, out))
 }

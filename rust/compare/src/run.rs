@@ -38,12 +38,12 @@ fn number(name: &str) -> Option<u64> {
 /// Counts by kind and by answer: 0 for done, else the refusal's number.
 pub struct Tally<K> {
     kinds: BTreeMap<K, usize>,
-    pub answers: [usize; 18],
+    pub answers: [usize; 24],
 }
 
 impl<K: Ord + Debug> Default for Tally<K> {
     fn default() -> Tally<K> {
-        Tally { kinds: BTreeMap::new(), answers: [0; 18] }
+        Tally { kinds: BTreeMap::new(), answers: [0; 24] }
     }
 }
 

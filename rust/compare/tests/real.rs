@@ -4,6 +4,7 @@
 mod dump;
 
 use compare::{disagree, hex};
+use generate::record::v7_twin;
 use second::Answer;
 use std::fs;
 use std::path::{Path, PathBuf};
@@ -65,8 +66,7 @@ fn records_agree_with_dump3d() {
     println!("records compared with dump3d: {compared}");
 }
 
-/// What dump3d says of the v8 files that we write, which are stored with its
-/// text; where dump3d is installed, it is asked again.
+/// What dump3d says of the v8 files that we write, which are stored with its text.
 #[test]
 fn written_files_agree_with_dump3d() {
     let written = files(&folder().join("written"));
@@ -77,13 +77,54 @@ fn written_files_agree_with_dump3d() {
         let sheet = cockledrift::read_vec(&file).expect("a file that reads");
         let bytes = cockledrift::write_vec(&sheet).expect("a sheet that was read");
         assert!(bytes == fs::read(&path).unwrap(), "{} is written otherwise", path.display());
-        let text = fs::read_to_string(path.with_extension("dump")).unwrap();
-        let (said, ours) = (dump::said(&text), dump::told(&sheet, 8));
-        assert_eq!(said.head, ours.head, "{}", path.display());
-        assert_eq!(said.lines, ours.lines, "{}", path.display());
-        if let Ok(now) = Command::new("dump3d").arg("-d").arg(&path).output() {
-            assert_eq!(String::from_utf8(now.stdout).unwrap(), text, "{}", path.display());
+        agrees(&path, &sheet, 8);
+    }
+}
+
+/// What v7 cannot carry: the first such record, or 0 for an extended elevation.
+fn not_for_v7(name: &str) -> Option<usize> {
+    match name {
+        "anon.v8.3d" => Some(9),
+        "extended.v8.3d" => Some(0),
+        "passage.v8.3d" => Some(2),
+        _ => None,
+    }
+}
+
+/// The same of the v7 files that we write, for each file that v7 can carry.
+#[test]
+fn written_v7_files_agree_with_dump3d() {
+    let mut seen = 0;
+    for source in files(&folder()) {
+        let name = source.file_name().unwrap();
+        let sheet = cockledrift::read_vec(&fs::read(&source).unwrap()).expect("a file that reads");
+        if let Err(difference) = compare::write_v7(&sheet) {
+            disagree(&format!("writing {} as v7", source.display()), &sheet, &difference);
         }
+        let bytes = match (not_for_v7(name.to_str().unwrap()), cockledrift::write_v7_vec(&sheet)) {
+            (Some(due), Err(refusal)) => {
+                assert_eq!((refusal.number, refusal.place), (23, due), "{}", source.display());
+                continue;
+            }
+            (_, written) => written.expect("a sheet that v7 can carry"),
+        };
+        let path = folder().join("written_v7").join(name);
+        assert!(bytes == fs::read(&path).unwrap(), "{} is written otherwise", path.display());
+        agrees(&path, &v7_twin(&sheet), 7);
+        seen += 1;
+    }
+    assert_eq!(files(&folder().join("written_v7")).len(), seen);
+}
+
+/// dump3d's stored text says the records of this sheet; where dump3d is installed, it is
+/// asked again.
+fn agrees(path: &Path, sheet: &[u8], version: u8) {
+    let text = fs::read_to_string(path.with_extension("dump")).unwrap();
+    let (said, ours) = (dump::said(&text), dump::told(sheet, version));
+    assert_eq!(said.head, ours.head, "{}", path.display());
+    assert_eq!(said.lines, ours.lines, "{}", path.display());
+    if let Ok(now) = Command::new("dump3d").arg("-d").arg(path).output() {
+        assert_eq!(String::from_utf8(now.stdout).unwrap(), text, "{}", path.display());
     }
 }
 

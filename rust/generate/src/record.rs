@@ -118,3 +118,36 @@ pub fn twin(sheet: &[u8]) -> Vec<u8> {
     }
     twin
 }
+
+/// The sheet with each of its records changed, as far as their lengths are good.
+fn with_each(sheet: &[u8], change: impl Fn(&mut [u8])) -> Vec<u8> {
+    let mut new = sheet.to_vec();
+    let mut at = 1;
+    while let Some(length) = new.get(at..at + 2) {
+        let end = at + 2 + usize::from(u16::from_be_bytes([length[0], length[1]]));
+        let Some(body) = new.get_mut(at + 2..end) else { break };
+        change(body);
+        at = end;
+    }
+    new
+}
+
+/// What reading gives back of a good sheet that was written as v7: its twin, with
+/// style normal as not said.
+pub fn v7_twin(sheet: &[u8]) -> Vec<u8> {
+    with_each(&twin(sheet), |body| match body {
+        [1, _, style, ..] if *style == 0 => *style = 5,
+        _ => {}
+    })
+}
+
+/// The sheet without what v7 cannot carry: not extended, styles 1 to 4 as normal or
+/// not said, stations with flags up to 1f.
+pub fn for_v7(sheet: &[u8]) -> Vec<u8> {
+    with_each(sheet, |body| match body {
+        [0, extended, ..] if *extended == 1 => *extended = 0,
+        [1, _, style, ..] if *style < 5 => *style = 5 * (*style % 2),
+        [2, flags, ..] if *flags < 0x80 => *flags &= 0x1f,
+        _ => {}
+    })
+}

@@ -59,13 +59,7 @@ fn is_ours(file: &[u8], sheet: &[u8]) -> bool {
 
 /// 12: "records only, no header; place within it".
 fn judge_replacement(replacement: &[u8]) -> Result<(), Refusal> {
-    let mut rest = replacement;
-    let mut number = 0;
-    while !rest.is_empty() {
-        (_, rest) = sheet::record(Layout::Version2, rest).ok_or(no(12, number))?;
-        number += 1;
-    }
-    Ok(())
+    sheet::each(Layout::Version2, replacement, |_, _| {}).map(|_| ())
 }
 
 /// Where record `number` begins in a good sheet, or the sheet's end.

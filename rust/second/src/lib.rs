@@ -1,10 +1,11 @@
-//! Survex 3d files, v3 to v8: reading to a sheet, stepping, writing v8,
+//! Survex 3d files, v3 to v8: reading to a sheet, stepping, writing v8 and v7,
 //! editing v8 and comparing time lines.
 //!
 //! An independent second implementation of document 01 and of requests #101,
-//! #106 and #107 of document 02, written from these documents and the two
+//! #106, #107 and #110 of document 02, written from these documents and the two
 //! published format pages. It allocates only in `edit`.
 
+mod codes;
 mod edit;
 mod header;
 mod item;
@@ -14,13 +15,15 @@ mod record;
 mod sheet;
 mod state;
 mod step;
+mod v7;
+mod v8;
 mod write;
 
 pub use edit::edit;
 pub use later::{compare, seconds, Later};
 pub use read::read;
 pub use step::{open, Opened, Step, Stepper};
-pub use write::write;
+pub use write::{write, write_v7};
 
 /// "file read or written over 16,777,216 bytes"
 pub(crate) const LONGEST_FILE: usize = 16_777_216;

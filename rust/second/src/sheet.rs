@@ -1,7 +1,7 @@
 //! The sheet's layout: its header and records taken apart and judged.
 
 use crate::state::{Date, UNDATED};
-use crate::{LONGEST_LABEL, LONGEST_TIME, LONGEST_TITLE, NOT_SAID};
+use crate::{no, Refusal, LONGEST_LABEL, LONGEST_TIME, LONGEST_TITLE, NOT_SAID};
 
 /// The two sheet versions. They differ in their section records alone.
 #[derive(Clone, Copy)]
@@ -63,10 +63,28 @@ fn body(rest: &[u8]) -> Option<(&[u8], &[u8])> {
     rest.split_at_checked(usize::from(u16::from_be_bytes(*length)))
 }
 
+/// Shows each record with its number and answers their count, or 12 for the
+/// first that is not well-formed.
+#[inline(always)]
+pub(crate) fn each<'a>(
+    layout: Layout,
+    mut rest: &'a [u8],
+    mut show: impl FnMut(usize, &Record<'a>),
+) -> Result<usize, Refusal> {
+    let mut number = 0;
+    while !rest.is_empty() {
+        let (record, after) = record(layout, rest).ok_or(no(12, number))?;
+        show(number, &record);
+        number += 1;
+        rest = after;
+    }
+    Ok(number)
+}
+
 /// Takes the first record, or nothing if it is not well-formed by the layout.
 /// A header is none here: it stands "first and once".
 #[inline(always)]
-pub(crate) fn record(layout: Layout, rest: &[u8]) -> Option<(Record<'_>, &[u8])> {
+fn record(layout: Layout, rest: &[u8]) -> Option<(Record<'_>, &[u8])> {
     let (body, rest) = body(rest)?;
     let record = match *body.first()? {
         1 => leg(body)?,

@@ -5,7 +5,7 @@ use Rattle.codes.proofs.put_section.Statement.{statement}
 use Rattle.codes.proofs.put_section.Tie as tie
 
 returns : tie.Need-returns
-returns c = lays-then (c .before .before .before .before .before .before .put-date-if .ensures) (c .before .before .put-xsect .ensures)
+returns c = lays-then (c .before .before .before .before .before .before .put-new-date-if .ensures) (c .before .before .put-xsect .ensures)
 
 -- the search closes the other needs
 pub put-section-spec : {M : Type 1} → statement M

@@ -20,7 +20,7 @@ leg-head-requires c κs = search needs
 -- src/lib.rt:154:9
 returns : tie.Need-returns
 returns c =
-    c .leg-head .ensures (c .before .before .before .before .args .version)
+    c .leg-head .ensures .1 (c .before .before .before .before .args .version)
 
 -- src/lib.rt:157:9
 station-head-requires : tie.Need-station-head-requires
@@ -29,7 +29,7 @@ station-head-requires c κs = search needs
 -- src/lib.rt:157:9
 returns-2 : tie.Need-returns-2
 returns-2 c =
-    c .station-head .ensures (c .before .before .before .before .before .args .version) (c .before .before .before .before .before .args .mark) (c .before .before .before .before .before .args .position)
+    c .station-head .ensures .1 (c .before .before .before .before .before .args .version) (c .before .before .before .before .before .args .mark) (c .before .before .before .before .before .args .position)
 
 -- src/lib.rt:160:9
 returns-3 : tie.Need-returns-3

@@ -1,7 +1,7 @@
 use borrow.Author.Tests.{not-false}
 use native.Mathlib.Omega.{arith}
 use Prim.Native.Nat.{_+_, _≤_}
-use mathlib.Core.Path.{_≡_, sym, _∙_}
+use mathlib.Core.Path.{_≡_, refl, sym, _∙_}
 use mathlib.Core.Bool.{true}
 use borrow.Rule.Slice.PartAt.{part-to-end}
 use lib.ListN.{length, length-drop}
@@ -108,7 +108,8 @@ returns-5 c =
     let e = simp part-to-end at (c .before .before .before .before .before .before .before .before .get-le64 .ensures) in
     let p = simp part-to-end at (c .before .before .before .point .ensures) in
     let z = rw p at (sym (c .before .before .stands-at .ensures) ∙ not-false _ (c .before .if4 .left)) in
-    λ version. leg-leads (a .s .now) (λ i. c .before .before .before .before .before .before .before .before .before .before .before .before .shared-slice-known .given i .fits) (c .before .before .before .before .before .before .before .before .before .before .before .before .before .pre .1) (c .before .before .before .before .before .before .before .before .before .before .before .before .before .pre .2) (label-at (c .before .before .before .before .before .before .before .before .before .before)) (c .before .before .before .before .before .if3 .left) _ (a .mark) e (c .before .before .before .before .before .before .before .if2 .left) (a .position) z version
+    let f = c .before .before .before .before .before .if3 .left in
+    ((refl, omega arith, omega (arith, f)), λ version. leg-leads (a .s .now) (λ i. c .before .before .before .before .before .before .before .before .before .before .before .before .shared-slice-known .given i .fits) (c .before .before .before .before .before .before .before .before .before .before .before .before .before .pre .1) (c .before .before .before .before .before .before .before .before .before .before .before .before .before .pre .2) (label-at (c .before .before .before .before .before .before .before .before .before .before)) f _ (a .mark) e (c .before .before .before .before .before .before .before .if2 .left) (a .position) z version)
 
 pub leg-head-spec : {M : Type 1} → statement M
 leg-head-spec =

@@ -1,7 +1,7 @@
 use borrow.Author.Tests.{not-false}
 use native.Mathlib.Omega.{arith}
 use Prim.Native.Nat.{_+_, _≤_}
-use mathlib.Core.Path.{_≡_, sym, _∙_}
+use mathlib.Core.Path.{_≡_, refl, sym, _∙_}
 use mathlib.Core.Bool.{true}
 use borrow.Rule.Slice.PartAt.{part-to-end}
 use lib.ListN.{length, length-drop}
@@ -52,7 +52,7 @@ add-t8 c = search needs
 returns-3 : tie.Need-returns-3
 returns-3 c =
     let a = c .before .before .before .before .before .before .args in
-    station-leads (a .s .now) (λ i. c .before .before .before .before .before .shared-slice-known .given i .fits) (c .before .before .before .before .before .before .pre .1) (c .before .before .before .before .before .before .pre .2) (label-at (c .before .before .before)) (c .before .if2 .left)
+    ((refl, omega arith, omega arith), station-leads (a .s .now) (λ i. c .before .before .before .before .before .shared-slice-known .given i .fits) (c .before .before .before .before .before .before .pre .1) (c .before .before .before .before .before .before .pre .2) (label-at (c .before .before .before)) (c .before .if2 .left))
 
 pub station-head-spec : {M : Type 1} → statement M
 station-head-spec =

@@ -21,7 +21,7 @@ put-record-requires : tie.Need-put-record-requires
 put-record-requires c κs = (c .before .before .before .before .before .pre .1, c .before .before .before .before .before .pre .2)
 
 more-requires : tie.Need-more-requires
-more-requires c κs = (omega (arith, c .before .before .before .before .before .before .before .before .pre .0 .few-bytes), c .before .before .put-record .ensures .most)
+more-requires c κs = omega (arith, c .before .before .before .before .before .before .before .before .pre .0 .few-bytes, c .before .before .put-record .ensures .most)
 
 add-t13 : tie.Need-add-t13
 add-t13 c = omega (arith, c .before .before .before .before .before .before .before .before .before .before .pre .0 .few-records)

@@ -1,5 +1,6 @@
 -- `write::pass` meets its contract. Assumes nothing.
 use native.Mathlib.Omega.{arith}
+use Rattle.format.specs.Writing.{v8}
 use Rattle.write.proofs.Whole.{pass-flawed, pass-sheet}
 use lib.ListN.{length-take, length-drop}
 use borrow.Author.Needs.{needs}
@@ -70,7 +71,7 @@ put-records-requires c κs =
 
 returns : tie.Need-returns
 returns c =
-    pass-flawed _ _ _ (c .before .before .before .version-of .ensures) (rw (c .enum-told .given .1) at (c .before .before .read-front .ensures))
+    pass-flawed v8 _ _ _ (c .before .before .before .version-of .ensures) (rw (c .enum-told .given .1) at (c .before .before .read-front .ensures))
 
 same-length : tie.Need-same-length
 same-length c = search needs
@@ -78,7 +79,7 @@ same-length c = search needs
 returns-2 : tie.Need-returns-2
 returns-2 c =
     let F = rw (c .before .before .before .before .before .before .before .before .before .before .before .front .given .1) at (c .before .before .before .before .before .before .before .before .before .before .before .before .before .read-front .ensures) in
-    pass-sheet _ _ _ _ _ _ _ _ _ _ (c .before .before .before .before .before .before .before .before .before .before .before .before .before .before .version-of .ensures) F (c .before .before .before .before .before .before .put-header .ensures) (c .before .before .put-records .ensures)
+    pass-sheet v8 _ _ _ _ _ _ _ _ _ _ _ (c .before .before .before .before .before .before .before .before .before .before .before .before .before .before .version-of .ensures) F (c .before .before .before .before .before .before .put-header .ensures) (c .before .before .put-records .ensures)
 
 pub pass-spec : {M : Type 1} → statement M
 pass-spec =

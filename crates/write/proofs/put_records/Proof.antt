@@ -187,7 +187,7 @@ put-requires c κs =
 -- src/lib.rt:161:13
 more-requires : tie.Need-more-requires Inv-loop μ-loop
 more-requires c κs =
-    (omega (arith, c .before .before .before .before .before .before .before .before .before .before .before .before .before .before .before .loop .inv .few), omega (arith, c .before .before .put .ensures .most))
+    omega (arith, c .before .before .before .before .before .before .before .before .before .before .before .before .before .before .before .loop .inv .few, c .before .before .put .ensures .most)
 
 -- src/lib.rt:162:52
 sub-position-after : tie.Need-sub-position-after Inv-loop μ-loop
@@ -282,7 +282,7 @@ add-end-2 c = omega (arith, ends-at (c .before), c .before .before .before .befo
 more-requires-2 : tie.Need-more-requires-2 Inv-loop μ-loop
 more-requires-2 c κs =
     let T = rw (c .before .entered .given .1) at (c .before .before .before .before .before .put-entry .ensures) in
-    (omega (arith, c .before .before .before .before .before .before .before .before .before .before .before .before .before .before .before .loop .inv .few), T .puts .most)
+    omega (arith, c .before .before .before .before .before .before .before .before .before .before .before .before .before .before .before .loop .inv .few, T .puts .most)
 
 -- src/lib.rt:186:9
 first-fault-requires : tie.Need-first-fault-requires Inv-loop μ-loop

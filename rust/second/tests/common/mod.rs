@@ -3,6 +3,8 @@
 
 use second::*;
 
+pub mod made;
+
 pub const FILLER: u8 = 0xa5;
 
 /// A file: header with this title and time line, then the items. In v8 the
@@ -213,6 +215,12 @@ pub fn read_all(file: &[u8]) -> Result<(Vec<u8>, usize, u8), (u8, usize)> {
 pub fn write_all(sheet: &[u8]) -> Result<Vec<u8>, (u8, usize)> {
     let (file, _, version) = watched(|file| write(sheet, file))?;
     assert_eq!(version, 8);
+    Ok(file)
+}
+
+pub fn write_v7_all(sheet: &[u8]) -> Result<Vec<u8>, (u8, usize)> {
+    let (file, _, version) = watched(|file| write_v7(sheet, file))?;
+    assert_eq!(version, 7);
     Ok(file)
 }
 

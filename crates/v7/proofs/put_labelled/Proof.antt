@@ -1,0 +1,36 @@
+-- `v7::put_labelled` meets its contract. Assumes nothing.
+use Rattle.part.proofs.Laying.{lays-within, lays-then}
+use Rattle.format.proofs.WritingLaws.{common-le}
+use Rattle.format.specs.V7Codes.{labelledCodes}
+use native.Mathlib.Omega.{arith}
+use borrow.Author.Needs.{needs}
+use Rattle.v7.proofs.put_labelled.Statement.{statement}
+use Rattle.v7.proofs.put_labelled.Tie as tie
+
+put-shorten-requires : tie.Need-put-shorten-requires
+put-shorten-requires c κs =
+    let h = common-le (c .before .before .before .before .before .before .args .last .now) (c .before .before .before .before .before .before .args .name .now) in
+    let e = c .before .common-start .ensures in
+    (omega (arith, c .before .before .before .before .before .before .pre), omega (arith, c .before .before .before .before .before .before .pre), omega (arith, h, e))
+
+put-added-requires : tie.Need-put-added-requires
+put-added-requires c κs =
+    let h = common-le (c .before .before .before .before .before .before .before .before .before .before .before .before .before .before .before .args .last .now) (c .before .before .before .before .before .before .before .before .before .before .before .before .before .before .before .args .name .now) in
+    let e = c .before .before .before .before .before .before .before .before .before .before .common-start .ensures in
+    (omega (arith, c .before .before .before .before .before .before .before .before .put-shorten .ensures .most, c .before .before .before .put .ensures .most, c .before .before .before .before .before .before .before .before .before .before .before .before .before .before .before .pre), omega (arith, c .before .before .before .before .before .before .before .before .before .before .before .before .before .before .before .pre), omega (arith, h, e))
+
+returns : tie.Need-returns
+unfolding labelledCodes
+returns c =
+    let e = c .before .before .before .before .before .before .before .before .before .before .before .before .before .before .before .before .before .common-start .ensures in
+    lays-within
+    (lays-then (rw e at (c .before .before .before .before .before .before .before .before .before .before .before .before .before .before .before .put-shorten .ensures))
+    (lays-then (c .before .before .before .before .before .before .before .before .before .before .put .ensures) (lays-then (rw e at (c .before .before .before .before .before .before .put-added .ensures)) (c .before .before .put2 .ensures))))
+    _ (omega (arith, c .before .before .before .before .before .before .before .before .before .before .before .before .before .before .before .before .before .before .before .before .before .before .pre))
+
+-- the search closes the other needs
+pub put-labelled-spec : {M : Type 1} → statement M
+put-labelled-spec =
+    tie.close
+    (tie.spec (λ c κs. search needs) put-shorten-requires (λ c. search needs) (λ c κs. search needs) put-added-requires (λ c κs. search needs)
+    (λ c. search needs) returns)
