@@ -17,6 +17,8 @@ ghost use Rattle.capi.specs.Compares.{comparedOf};
 use format::Handed;
 use format::LABEL_LIMIT;
 use format::Later;
+use format::Stepped;
+use held::Brief;
 use held::STAND_NUMBERS;
 use told::AnswerNumbers;
 use told::OpenNumbers;
@@ -160,10 +162,8 @@ pub extern "C" fn cockledrift_open(file: &[u8], state: &mut [u64; STAND_NUMBERS]
     told::tell_open(o)
 }
 
-// One step of a reader, from whatever the state and the label's buffer hold: exactly one
-// item, or the end or the refusal again.
-#[no_mangle]
-pub extern "C" fn cockledrift_step(
+// One step by the general way.
+fn any_step(
     file: &[u8],
     state: &mut [u64; STAND_NUMBERS],
     label: &mut [u8; LABEL_LIMIT],
@@ -180,6 +180,27 @@ pub extern "C" fn cockledrift_step(
     let numbers = held::numbers_of(next);
     *state = numbers;
     told::tell_step(answer)
+}
+
+// One step of a reader, from whatever the state and the label's buffer hold: exactly one
+// item, or the end or the refusal again.
+#[no_mangle]
+pub extern "C" fn cockledrift_step(
+    file: &[u8],
+    state: &mut [u64; STAND_NUMBERS],
+    label: &mut [u8; LABEL_LIMIT],
+    out: &mut [u8],
+) -> StepNumbers
+    ensures answer { λ r. ⌜ r ≡ stepNumbers (stepOf (stateStand (now (state .entry)) (now (label .entry))) (now (file .entry)) (length (now (out .entry))) .answer) ⌝ }
+    ensures stand { λ _. ⌜ stateStand (now (state .exit)) (now (label .exit)) ≡ stepOf (stateStand (now (state .entry)) (now (label .entry))) (now (file .entry)) (length (now (out .entry))) .stand ⌝ }
+    ensures record { λ _. ⌜ now (out .exit) ≡ stepBuffer (stateStand (now (state .entry)) (now (label .entry))) (now (file .entry)) (now (out .entry)) ⌝ }
+{
+    let short = held::short_step(file, state, label, out);
+    match short {
+        Brief::Record { bytes, kept } => told::tell_step(Stepped::Record { bytes, kept }),
+        Brief::Nothing => told::tell_step(Stepped::Nothing),
+        Brief::Other => any_step(file, state, label, out),
+    }
 }
 
 // Steps on to the next record, the end or a refusal: never answers 2.

@@ -30,7 +30,7 @@ use Rattle.format.proofs.Basics.{pick-true, pick-false, same-true}
 use Rattle.format.proofs.RefusalLaws.{outcome-bytes}
 use Rattle.format.proofs.WritingLaws.{setting-at, able, encode-append}
 use Rattle.format.proofs.GoodRecords.{items-formed, items-sayable}
-use Rattle.format.proofs.EditingLaws.{from-record, before-record}
+use Rattle.format.proofs.EditingLaws.{formed-drop, sayable-take, from-record, before-record}
 use Rattle.wire.specs.Laid.{laid, laidIf}
 use Rattle.wire.proofs.Laws.{laid-zero, laid-some, laid-next}
 use Rattle.records.specs.Places.{stateAt}
@@ -40,19 +40,19 @@ use Rattle.house.specs.Walking.{restOf}
 use Rattle.house.specs.Judging.{oldHeader, OldOpens, oldResult, Stands, House, Cuts}
 use Rattle.house.specs.declared.Old.{Old}
 use Rattle.house.specs.declared.Run.{Run}
-use Rattle.house.proofs.Splice.{sayable-any, sayable-take, sayable-drop, formed-drop, good-start, good-all, read-from}
+use Rattle.house.proofs.Splice.{sayable-any, sayable-drop, good-start, good-all, read-from}
 use Rattle.house.proofs.Whole.{house-place}
 use Rattle.tally.specs.Tallies.{Adds, Finished, encoded, Rest, Passed}
 use Rattle.tally.specs.declared.Tally.{Tally}
-use Rattle.tally.proofs.Left.{Left, left-end}
+use Rattle.tally.proofs.Left.{Left, left-last, left-end}
 use Rattle.edit.specs.Pens.{penState, Emits, Written, Standing, Behind, WentOn, PutsNew}
-use Rattle.edit.specs.Runs.{flawVerdict, editedAt, CutAt, Spliced, FrontStands, Writes, Edits}
+use Rattle.edit.specs.Runs.{flawVerdict, editedAt, CutAt, Spliced, FrontStands, penAt, Changed, Writes, Edits}
 use Rattle.edit.specs.declared.Flaw.the-variants.{Unflawed, At}
 use Rattle.edit.specs.declared.Pen.{Pen}
 use Rattle.edit.specs.declared.Splice.{Splice}
 use Rattle.edit.specs.declared.Went.{Went}
 use Rattle.edit.proofs.Chain.{written-then, left-written}
-use Rattle.edit.proofs.Tail.{laid-length, left-tail}
+use Rattle.edit.proofs.Tail.{laid-length}
 
 -- ---- `put_one`
 
@@ -180,7 +180,7 @@ module _ {file : List ℕ} {cut : Splice} {b b′ : List ℕ} (K : CutAt file cu
         rw (q, ← front-place) (sym (append-assoc H before-codes _) ∙ ap (λ (s : List ℕ). s ++ drop (cut .front .at) d) (sym e) ∙ take-append-drop (cut .front .at) d)
 
     pub left-first : (d : List ℕ) → FrontStands file (cut .front .at) d
-        → Left v8 x₀ (cut .old .place) d d (record { bytes = cut .front .at; records = first; fault = 0 }) found (record { records = Y; verdict = Good })
+        → Left v8 x₀ (cut .old .place) d d (record { bytes = cut .front .at; records = first; fault = Good }) found (record { records = Y; verdict = Good })
     unfolding edited
     left-first d f =
         let low = front-low in
@@ -198,71 +198,70 @@ module _ {file : List ℕ} {cut : Splice} {b b′ : List ℕ} (K : CutAt file cu
               ∙ ap (laid d (cut .old .place)) (sym encoded-is);
         }
 
-    abbrev pen₀ : Pen
-    pen₀ = record { count = record { bytes = cut .front .at; records = first; fault = 0 }; setting = cut .front .setting; len = cut .front .len }
-
-    pen-first : penState pen₀ b ≡ found
+    pen-first : penState (penAt cut) b ≡ found
     pen-first = C .before .state
 
-    module _ (d : List ℕ) (f : FrontStands file (cut .front .at) d) {l₁ d₁ : List ℕ} {pen : Pen} where
-      module _ (N : PutsNew new pen₀ b d pen l₁ d₁) (long : length new ≤ 9223372036854775807) where
-        pub behind-ready : Behind file (record { place = cut .back; pen = pen; left = cut .rest }) b′ l₁
-        behind-ready =
-            record {
-              standing = back-standing;
-              counted = rw back-records (simp length-drop (omega (arith, C .all)));
-              fits = N .fits;
-              few-bytes = N .few-bytes;
-              few-records = omega (arith, N .few-records, C .all, C .few, K .opens .room .file-fits);
-            }
+    pub behind-ready : {d l₁ d₁ : List ℕ} {pen : Pen} → PutsNew new (penAt cut) b d pen l₁ d₁ → length new ≤ 9223372036854775807
+        → Behind file (record { place = cut .back; pen = pen; left = cut .rest }) b′ l₁
+    behind-ready N long =
+        record {
+          standing = back-standing;
+          counted = rw back-records (simp length-drop (omega (arith, C .all)));
+          fits = N .fits;
+          few-bytes = N .few-bytes;
+          few-records = omega (arith, N .few-records, C .all, C .few, K .opens .room .file-fits);
+        }
 
-        module _ {w : Went} {b₂ l₂ d₂ : List ℕ} (G : WentOn file (record { place = cut .back; pen = pen; left = cut .rest }) b′ l₁ d₁ w b₂ l₂ d₂) where
-          D : List Record
-          D = drop behind R
+    module _ (d : List ℕ) (f : FrontStands file (cut .front .at) d) {w : Went} {b₂ l₂ d₂ : List ℕ} (H : Changed file cut new b b′ d w l₂ b₂ d₂) where
+      abbrev G : WentOn file (record { place = cut .back; pen = H .pen; left = cut .rest }) b′ (H .label) (H .between) w b₂ l₂ d₂
+      G = H .went
 
-          abbrev left-records : List Record
-          left-records = restOf file (w .place .at) (stateAt (w .place) b₂) .records
+      D : List Record
+      D = drop behind R
 
-          rest-is : left-records ≡ drop (G .done) D
-          unfolding D
-          rest-is = G .records ∙ ap (drop (G .done)) back-records
+      abbrev left-records : List Record
+      left-records = restOf file (w .place .at) (stateAt (w .place) b₂) .records
 
-          chain : Written found d (pen₀ .count) (recordsOf sheetVersion new .records ++ take (G .done) D) (penState (w .pen) l₂) d₂ (w .pen .count)
-          unfolding D
-          chain = written-then (rw pen-first at (N .written)) (rw back-records at (G .written))
+      rest-is : left-records ≡ drop (G .done) D
+      unfolding D
+      rest-is = G .records ∙ ap (drop (G .done)) back-records
 
-          all-is : _≡_ {A = Result} (record { records = (recordsOf sheetVersion new .records ++ take (G .done) D) ++ left-records; verdict = Good }) (record { records = Y; verdict = Good })
-          unfolding D
-          all-is =
-              ap (λ (rs : List Record). record { records = rs; verdict = Good })
-              (append-assoc (recordsOf sheetVersion new .records) (take (G .done) (drop behind R)) left-records
-              ∙ ap (λ (rs : List Record). recordsOf sheetVersion new .records ++ rs) (ap (λ (rs : List Record). take (G .done) (drop behind R) ++ rs) rest-is ∙ take-append-drop (G .done) (drop behind R)))
+      chain : Written found d (penAt cut .count) (recordsOf sheetVersion new .records ++ take (G .done) D) (penState (w .pen) l₂) d₂ (w .pen .count)
+      unfolding D
+      chain = written-then (rw pen-first at (H .puts .written)) (rw back-records at (G .written))
 
-          pub now-left : (Left v8 x₀ (cut .old .place) d d₂ (w .pen .count) (penState (w .pen) l₂) (record { records = left-records; verdict = Good })) × (length d₂ ≡ length d)
-          now-left = left-written chain x₀ (cut .old .place) d (record { records = left-records; verdict = Good }) (rw all-is (left-first d f)) refl
+      all-is : _≡_ {A = Result} (record { records = (recordsOf sheetVersion new .records ++ take (G .done) D) ++ left-records; verdict = Good }) (record { records = Y; verdict = Good })
+      unfolding D
+      all-is =
+          ap (λ (rs : List Record). record { records = rs; verdict = Good })
+          (append-assoc (recordsOf sheetVersion new .records) (take (G .done) (drop behind R)) left-records
+          ∙ ap (λ (rs : List Record). recordsOf sheetVersion new .records ++ rs) (ap (λ (rs : List Record). take (G .done) (drop behind R) ++ rs) rest-is ∙ take-append-drop (G .done) (drop behind R)))
 
-          -- no record is left
-          pub ends-closed : w .left ≡ 0 → {d₃ : List ℕ} {r : Answer} → Finished v8 d₂ d₃ (closing (w .pen .setting .style)) (w .pen .count) r
-              → Rest v8 x₀ (cut .old .place) d d₃ r
-          ends-closed e {d₃} {r} F =
-              let none : left-records ≡ [] = none-left left-records (sym (G .behind .counted) ∙ e) in
-              left-end v8 x₀ (cut .old .place) d d₂ (w .pen .count) (penState (w .pen) l₂) d₃ r (now-left .1) (rw none at (now-left .0)) F
-            where
-              none-left : (rs : List Record) → length rs ≡ 0 → rs ≡ []
-              none-left [] q = refl
-              none-left (y ∷ ys) q = absurd (omega (arith, q))
+      pub now-left : (Left v8 x₀ (cut .old .place) d d₂ (w .pen .count) (penState (w .pen) l₂) (record { records = left-records; verdict = Good })) × (length d₂ ≡ length d)
+      now-left = left-written chain x₀ (cut .old .place) d (record { records = left-records; verdict = Good }) (rw all-is (left-first d f)) refl
 
-          -- the rest is as it was
-          pub ends-copied : (w .left ≡ 0 → ⊥) → {d₃ : List ℕ} {r : Answer}
-              → Finished v8 d₂ d₃ (drop (w .place .at) file) (record { bytes = w .pen .count .bytes; records = w .pen .count .records + w .left; fault = w .pen .count .fault }) r → Rest v8 x₀ (cut .old .place) d d₃ r
-          ends-copied e {d₃} {r} F =
-              let same-now = G .level (omega arith) in
-              let T = G .behind .standing in
-              left-tail x₀ (cut .old .place) d d₂ (w .pen .count) (penState (w .pen) l₂) (record { records = left-records; verdict = Good }) (drop (w .place .at) file) d₃ (w .left) r
-              (now-left .1) (now-left .0) refl
-              (rw (← same-now) (sayable-any (w .pen .count .records) 0 (stateAt (w .place) b₂) left-records (T .ready .sound .sayable)))
-              (T .ours ∙ ap (λ (st : State). encodeAll v8 st left-records) same-now)
-              (G .behind .counted) F
+      -- no record is left
+      pub ends-closed : w .left ≡ 0 → {d₃ : List ℕ} {r : Answer} → Finished v8 d₂ d₃ (closing (w .pen .setting .style)) (w .pen .count) r
+          → Rest v8 x₀ (cut .old .place) d d₃ r
+      ends-closed e {d₃} {r} F =
+          let none : left-records ≡ [] = none-left left-records (sym (G .behind .counted) ∙ e) in
+          left-end v8 x₀ (cut .old .place) d d₂ (w .pen .count) (penState (w .pen) l₂) d₃ r (now-left .1) (rw none at (now-left .0)) F
+        where
+          none-left : (rs : List Record) → length rs ≡ 0 → rs ≡ []
+          none-left [] q = refl
+          none-left (y ∷ ys) q = absurd (omega (arith, q))
+
+      -- the rest is as it was
+      pub ends-copied : (w .left ≡ 0 → ⊥) → {d₃ : List ℕ} {r : Answer}
+          → Finished v8 d₂ d₃ (drop (w .place .at) file) (record { bytes = w .pen .count .bytes; records = w .pen .count .records + w .left; fault = w .pen .count .fault }) r → Rest v8 x₀ (cut .old .place) d d₃ r
+      ends-copied e {d₃} {r} F =
+          let same-now = G .level (omega arith) in
+          let T = G .behind .standing in
+          left-last v8 x₀ (cut .old .place) d d₂ (w .pen .count) (penState (w .pen) l₂) (record { records = left-records; verdict = Good }) (drop (w .place .at) file) d₃ (w .left) r
+          (now-left .1) (now-left .0) refl
+          (rw (← same-now) (sayable-any (w .pen .count .records) 0 (stateAt (w .place) b₂) left-records (T .ready .sound .sayable)))
+          (T .ours ∙ ap (λ (st : State). encodeAll v8 st left-records) same-now)
+          (G .behind .counted) F
 
     -- ---- `pass`
 

@@ -14,6 +14,9 @@ use Rattle.format.specs.Answers.{answerOf}
 use Rattle.format.specs.declared.Answer.{Answer}
 use Rattle.house.specs.Judging.{OldOpens, oldResult, Cuts}
 use Rattle.house.specs.declared.Run.{Run}
+use Rattle.edit.specs.Pens.{PutsNew, WentOn}
+use Rattle.edit.specs.declared.Pen.{Pen}
+use Rattle.edit.specs.declared.Went.{Went}
 use Rattle.edit.specs.declared.Splice.{Splice}
 use Rattle.edit.specs.declared.Flaw.{Flaw}
 use Rattle.edit.specs.declared.Flaw.the-variants.{Unflawed, At}
@@ -40,6 +43,24 @@ pub record Spliced (file : List ℕ) (cut : Splice) (new b b′ : List ℕ) : Ty
 -- where there is room for them, the old bytes before the run stand at the front of d
 abbrev pub FrontStands : List ℕ → ℕ → List ℕ → Type 0
 FrontStands file at d = at ≤ length d → take at d ≡ take at file
+
+-- the pen before the run, behind the old bytes
+abbrev pub penAt : Splice → Pen
+penAt cut =
+    record {
+      count = record { bytes = cut .front .at; records = cut .run .first; fault = Good };
+      setting = cut .front .setting;
+      len = cut .front .len;
+    }
+
+-- the replacement is written, which leaves `between`, and then records behind the run, which leaves d′: all, or as many as bring reading and
+-- writing to the same state; l and b hold the labels before the run and behind it
+pub record Changed (file : List ℕ) (cut : Splice) (new l b d : List ℕ) (w : Went) (l′ b′ d′ : List ℕ) : Type 0 where
+  pub pen : Pen
+  pub label : List ℕ
+  pub between : List ℕ
+  pub puts : PutsNew new (penAt cut) l d pen label between
+  pub went : WentOn file (record { place = cut .back; pen = pen; left = cut .rest }) b label between w b′ l′ d′
 
 -- a header and records are written into d, which leaves d′
 pub record Writes (h : Header) (x : Result) (d d′ : List ℕ) (r : Answer) : Type 0 where

@@ -3,12 +3,12 @@
 // until reading the old file and writing the new one are in the same state, and from
 // there on the old bytes.
 use format::Answer;
-use format::FILE_LIMIT;
 use format::Fields;
 use format::LABEL_LIMIT;
 use format::Position;
 use format::SHEET_VERSION;
 use format::Setting;
+use format::Verdict;
 use header::Head;
 use house::Judged;
 use house::Old;
@@ -35,7 +35,7 @@ ghost use Rattle.house.specs.Judging.{oldHeader, OldOpens};
 ghost use Rattle.tally.specs.Tallies.{Fits, Adds, Finished, Rest, Passed};
 ghost use Rattle.wire.specs.Laid.{laidIf};
 ghost use Rattle.edit.specs.Pens.{penState, samePosition, sameState, PenFits, Emits, PutsNew, Behind, WentOn};
-ghost use Rattle.edit.specs.Runs.{editedAt, flawVerdict, CutAt, Spliced, FrontStands, Writes, Edits};
+ghost use Rattle.edit.specs.Runs.{editedAt, flawVerdict, CutAt, Spliced, FrontStands, Changed, Writes, Edits};
 
 // What the codes of the next record find, with the counts so far. The label's bytes are
 // lent beside it.
@@ -70,20 +70,21 @@ enum Flaw {
 
 // ---- one record
 
-// One record more, after the label that is the first len bytes of `last`.
+// One record more, after the label that the pen has left in `last`.
 fn put_after(
     out: &mut [u8],
-    count: Tally,
-    setting: Setting,
+    pen: Pen,
     last: &[u8; LABEL_LIMIT],
-    len: usize,
     name: &[u8],
     fields: Fields,
 ) -> Tally
-    requires { ⌜ Fits v8 count × (len ≤ labelLimit) × (length (now last) ≡ labelLimit) × WellFormed (recordOf fields (now name)) ⌝ }
-    ensures { λ r. ⌜ Adds v8 (stateOf setting (take len (now (last .entry)))) (recordOf fields (now (name .entry))) (now (out .entry)) (now (out .exit)) count r ⌝ }
+    requires { ⌜ PenFits pen (now last) × Fits v8 (pen .count) × WellFormed (recordOf fields (now name)) ⌝ }
+    ensures { λ r. ⌜ Adds v8 (penState pen (now (last .entry))) (recordOf fields (now (name .entry))) (now (out .entry)) (now (out .exit)) (pen .count) r ⌝ }
 {
     let before = &last[..];
+    let len = pen.len;
+    let count = pen.count;
+    let setting = pen.setting;
     tally::put_next(out, count, setting, &before[..len], name, fields)
 }
 
@@ -100,29 +101,13 @@ fn put_one(
 {
     let old = pen.len;
     let setting = pen.setting;
-    let count = put_after(out, pen.count, setting, last, old, name, fields);
+    let count = put_after(out, pen, last, name, fields);
     let len = records::keep_label(last, old, name, fields);
     Pen {
         count,
         setting: tally::setting_after(setting, fields),
         len,
     }
-}
-
-// The same of a record whose label is the first n bytes of a buffer.
-fn put_named(
-    out: &mut [u8],
-    pen: Pen,
-    last: &mut [u8; LABEL_LIMIT],
-    name: &[u8; LABEL_LIMIT],
-    n: usize,
-    fields: Fields,
-) -> Pen
-    requires { ⌜ PenFits pen (now last) × Fits v8 (pen .count) × (n ≤ labelLimit) × (length (now name) ≡ labelLimit) × WellFormed (recordOf fields (take n (now name))) ⌝ }
-    ensures { λ r. ⌜ Emits pen (now (last .entry)) (recordOf fields (take n (now (name .entry)))) (now (out .entry)) (now (out .exit)) r (now (last .exit)) ⌝ }
-{
-    let own = &name[..];
-    put_one(out, pen, last, &own[..n], fields)
 }
 
 // ---- the records behind the run
@@ -192,7 +177,9 @@ fn put_behind(
         let Taken::Record { place: to, fields } = taken else {
             return Went { place, pen, left };
         };
-        pen = put_named(out, pen, last, name, to.len, fields);
+        let n = to.len;
+        let own = &name[..];
+        pen = put_one(out, pen, last, &own[..n], fields);
         place = to;
         left -= 1;
     }
@@ -263,29 +250,13 @@ fn put_tail(file: &[u8], at: usize, out: &mut [u8], count: Tally, left: usize) -
     requires { ⌜ (at ≤ length (now file)) × (length (now file) ≤ fileLimit) × (count .bytes ≤ fileLimit + codesLimit) × (count .records + left ≤ 18446744073709551615) ⌝ }
     ensures { λ r. ⌜ Finished v8 (now (out .entry)) (now (out .exit)) (drop at (now (file .entry))) (record { bytes = count .bytes; records = count .records + left; fault = count .fault }) r ⌝ }
 {
-    let fault = count.fault;
-    if fault != 0 {
-        return Answer::Refused {
-            number: 13,
-            place: fault - 1,
-        };
-    }
     let total = count.bytes;
+    let fault = count.fault;
     let tail = &file[at..];
     let bytes = total + tail.len();
     let records = count.records + left;
     lay(out, total, tail);
-    if FILE_LIMIT < bytes {
-        return Answer::Refused {
-            number: 16,
-            place: 0,
-        };
-    }
-    Answer::Done {
-        bytes,
-        records,
-        version: 8,
-    }
+    tally::settle(bytes, records, fault, 8)
 }
 
 // The same where no record is left: the closing codes.
@@ -295,7 +266,45 @@ fn close(out: &mut [u8], pen: Pen) -> Answer
 {
     let setting = pen.setting;
     let count = pen.count;
-    tally::finish(out, setting.style, count.bytes, count.records, count.fault)
+    let fault = count.fault;
+    tally::finish(out, setting.style, count.bytes, count.records, fault)
+}
+
+// The replacement behind the old bytes before the run, and the records behind the run up
+// to where the old bytes go on. `last` holds the label before the run, `name` the one
+// behind it.
+fn put_changed(
+    file: &[u8],
+    cut: Splice,
+    new: &[u8],
+    out: &mut [u8],
+    last: &mut [u8; LABEL_LIMIT],
+    name: &mut [u8; LABEL_LIMIT],
+) -> Went
+    requires { ⌜ Spliced (now file) cut (now new) (now last) (now name) ⌝ }
+    ensures { λ r. ⌜ Changed (now (file .entry)) cut (now (new .entry)) (now (last .entry)) (now (name .entry)) (now (out .entry)) r (now (last .exit)) (now (name .exit)) (now (out .exit)) ⌝ }
+{
+    let front = cut.front;
+    let run = cut.run;
+    let count = Tally {
+        bytes: front.at,
+        records: run.first,
+        fault: Verdict::Good,
+    };
+    let setting = front.setting;
+    let pen = Pen {
+        count,
+        setting,
+        len: front.len,
+    };
+    let replaced = put_new(new, out, pen, last);
+    let back = cut.back;
+    let from = Went {
+        place: back,
+        pen: replaced,
+        left: cut.rest,
+    };
+    put_behind(file, from, name, out, last)
 }
 
 // The edited file from the run on, behind the old bytes before it.
@@ -312,27 +321,7 @@ fn put_edited(
 {
     let mut last = before;
     let mut name = behind;
-    let front = cut.front;
-    let run = cut.run;
-    let count = Tally {
-        bytes: front.at,
-        records: run.first,
-        fault: 0,
-    };
-    let setting = front.setting;
-    let pen = Pen {
-        count,
-        setting,
-        len: front.len,
-    };
-    let replaced = put_new(new, out, pen, &mut last.bytes);
-    let back = cut.back;
-    let from = Went {
-        place: back,
-        pen: replaced,
-        left: cut.rest,
-    };
-    let met = put_behind(file, from, &mut name.bytes, out, &mut last.bytes);
+    let met = put_changed(file, cut, new, out, &mut last.bytes, &mut name.bytes);
     let left = met.left;
     let written = met.pen;
     if left == 0 {

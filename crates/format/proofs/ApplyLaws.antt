@@ -1,7 +1,7 @@
 -- Laws of what an item does to the state: a style, a date, an emptied label and a leg, by what its numbers say, and an item with a label by
 -- its label step. Assumes nothing.
 use Prim.Native.Nat.{ℕ, _≤_, _<_}
-use mathlib.Core.Path.{_≡_, refl}
+use mathlib.Core.Path.{_≡_}
 use mathlib.Core.List.{List, []}
 use lib.ListN.{length}
 use borrow.Author.Tests.{lt-ltb, le-ltb, eq-eqb, ne-eqb}
@@ -68,16 +68,19 @@ module _ (st : State) (n : ℕ) where
 -- ---- what holds of the refusals and of what else an item comes to holds of the item
 
 module _ (P : Next → Type 0) where
-  on-label : (x : Labelled) (go : List ℕ → Next) → ShortLabelled x → P (bad 6) → P (bad 7) → ((m : List ℕ) → length m ≤ labelLimit → P (go m)) → P (onLabel x go)
+  on-label : (x : Labelled) (go : List ℕ → Next) → ShortLabelled x → P (bad 6) → P (bad 7) → ((m : List ℕ) → length m ≤ labelLimit → P (go m))
+      → P (onLabel x go)
   on-label tooShort go z p q f = p
   on-label tooLong go z p q f = q
   on-label (labelled m) go z p q f = f m z
 
-  pub label-case : (l : List ℕ) (cut : Cut) (added : List ℕ) (go : List ℕ → Next) → P (bad 6) → P (bad 7) → ((m : List ℕ) → length m ≤ labelLimit → P (go m)) → P (onLabel (labelStep l cut added) go)
+  pub label-case : (l : List ℕ) (cut : Cut) (added : List ℕ) (go : List ℕ → Next) → P (bad 6) → P (bad 7) → ((m : List ℕ) → length m ≤ labelLimit → P (go m))
+      → P (onLabel (labelStep l cut added) go)
   label-case l cut added go p q f = on-label (labelStep l cut added) go (label-bound l cut added) p q f
 
   pub leg-case : (p : Position) (n : ℕ) (st : State) (flags : ℕ) (to : Point) (l : List ℕ) → P (bad 8)
-      → ((from : Point) → P (made n (leg (record { flags = flags; style = st .setting .style; date = st .setting .date; from = from; to = to }) l) (moved to (named l st))))
+      → ((from : Point) → P (made n (leg (record { flags = flags; style = st .setting .style; date = st .setting .date; from = from; to = to }) l)
+      (moved to (named l st))))
       → P (legFrom p n st flags to l)
   leg-case Unset n st flags to l z f = z
   leg-case (Stands from) n st flags to l z f = f from

@@ -4,9 +4,12 @@ use mathlib.Core.Path.{_≡_, refl}
 use mathlib.Core.List.{List, [], _∷_, _++_}
 use lib.ListN.{take, drop, replicate}
 use Rattle.format.specs.Bytes.{pick, le16, le32, toLe16, toLe32, toBe16, toBe32, widened, same, over}
-use Rattle.format.specs.Header.{Opening, magic, lineEnd, endsInReturn, goodLine, extendedByte, closedHeader, timeLine, titleLine, goodVersion, headerOf, openingOf}
+use Rattle.format.specs.Header.{Opening, magic, lineEnd, endsInReturn, goodLine, extendedByte, closedHeader, timeLine, titleLine, goodVersion}
+use Rattle.format.specs.Header.{headerOf, openingOf}
 use Rattle.format.specs.Label.{dots, dotFrom, keptToDot, labelStep}
-use Rattle.format.specs.Items.{sized, oldPart, lengthSize, lengthValue, longPart, newPart, labelledItem, stationItem, lineItem, sectionItem, moveItem, errorItem, dayItem, spanItem, daysItem, dayOfSeconds, secondsItem, twoSecondsItem, oldDateItem, v7DateItem, oldMiddleItem, oldLowItem, oldHighItem, newDateItem, newLowItem, newHighItem, itemOf}
+use Rattle.format.specs.Items.{sized, oldPart, lengthSize, lengthValue, longPart, newPart, labelledItem, stationItem, lineItem, sectionItem}
+use Rattle.format.specs.Items.{moveItem, errorItem, dayItem, spanItem, daysItem, dayOfSeconds, secondsItem, twoSecondsItem, oldDateItem}
+use Rattle.format.specs.Items.{v7DateItem, oldMiddleItem, oldLowItem, oldHighItem, newDateItem, newLowItem, newHighItem, itemOf}
 use Rattle.format.specs.State.{start, named, station, section, Next, bad, end, on, made, dateOf, badDates}
 use Rattle.format.specs.Iterate.{iter, iterUp}
 use Rattle.format.specs.Sheet.{layout, layoutAll, headerLayout, sheetOf}
@@ -14,7 +17,8 @@ use Rattle.format.specs.Reading.{next, ended, readStep, run, itemsOf, re
 use Rattle.format.specs.Refusals.{Outcome, accepted, refused}
 use Rattle.format.specs.Stepping.{Step, Gathered}
 use Rattle.format.specs.declared.Stamp.{Stamp}
-use Rattle.format.specs.Codes.{common, lengthCodes, partCodes, labelCodes, keptBytes, sameDate, dateIf, fitsShort, allShort, stationCodes, sectionCodes, codes}
+use Rattle.format.specs.Codes.{common, lengthCodes, partCodes, labelCodes, keptBytes, sameDate, dateIf, fitsShort, allShort, stationCodes}
+use Rattle.format.specs.Codes.{sectionCodes, codes}
 use Rattle.format.specs.declared.Point.{Point}
 use Rattle.format.specs.declared.Dated.{Dated}
 use Rattle.format.specs.declared.Dated.the-variants.{Undated, Day}
@@ -94,7 +98,8 @@ abbrev pub partOfLabel : ℕ → ℕ → Shown
 partOfLabel n size = written (take size (drop 1 (codes start (station (record { flags = 0; place = origin }) (replicate n 97)))))
 
 abbrev pub sectionWritten : ℕ → Shown
-sectionWritten down = written (codes start (section (record { last = 0; date = Undated; size = record { left = 32767; right = 32767; up = 32767; down = down } }) (97 ∷ [])))
+sectionWritten down = written (codes start
+    (section (record { last = 0; date = Undated; size = record { left = 32767; right = 32767; up = 32767; down = down } }) (97 ∷ [])))
 
 abbrev pub table : List Row
 table =
@@ -144,5 +149,9 @@ dues (r ∷ rs) = r .due ∷ dues rs
 
 -- THE STATEMENT: row by row, what the definitions give is what is due
 pub cases : givens table ≡ dues table
-unfolding pick le16 le32 toLe16 toLe32 toBe16 toBe32 widened same over magic lineEnd endsInReturn goodLine extendedByte closedHeader timeLine titleLine goodVersion headerOf openingOf dots dotFrom keptToDot labelStep sized oldPart lengthSize lengthValue longPart newPart labelledItem stationItem lineItem sectionItem moveItem errorItem dayItem spanItem daysItem dayOfSeconds secondsItem twoSecondsItem oldDateItem v7DateItem oldMiddleItem oldLowItem oldHighItem newDateItem newLowItem newHighItem itemOf dateOf badDates iter iterUp layout layoutAll headerLayout sheetOf next ended readStep run itemsOf readOutcome readBuffer common lengthCodes partCodes labelCodes keptBytes sameDate dateIf fitsShort allShort stationCodes sectionCodes
+unfolding pick le16 le32 toLe16 toLe32 toBe16 toBe32 widened same over magic lineEnd endsInReturn goodLine extendedByte closedHeader timeLine titleLine
+    goodVersion headerOf openingOf dots dotFrom keptToDot labelStep sized oldPart lengthSize lengthValue longPart newPart labelledItem stationItem lineItem
+    sectionItem moveItem errorItem dayItem spanItem daysItem dayOfSeconds secondsItem twoSecondsItem oldDateItem v7DateItem oldMiddleItem oldLowItem
+    oldHighItem newDateItem newLowItem newHighItem itemOf dateOf badDates iter iterUp layout layoutAll headerLayout sheetOf next ended readStep run itemsOf
+    readOutcome readBuffer common lengthCodes partCodes labelCodes keptBytes sameDate dateIf fitsShort allShort stationCodes sectionCodes
 cases = refl

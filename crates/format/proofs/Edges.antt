@@ -7,11 +7,16 @@ use lib.ListN.{getD, take, replicate}
 use lib.Dec.{eqb}
 use Rattle.format.specs.Bytes.{pick, le16, le32, toLe16, toLe32, toBe16, toBe32, widened, same}
 use Rattle.format.specs.Label.{dots, dotFrom, keptToDot, labelStep}
-use Rattle.format.specs.Items.{Decoded, faulty, whole, sized, oldPart, lengthSize, lengthValue, longPart, newPart, labelledItem, stationItem, lineItem, sectionItem, moveItem, errorItem, dayItem, spanItem, daysItem, dayOfSeconds, secondsItem, twoSecondsItem, oldDateItem, v7DateItem, oldMiddleItem, oldLowItem, oldHighItem, newDateItem, newLowItem, newHighItem, itemOf}
-use Rattle.format.specs.State.{State, start, named, styled, datedBy, moved, Record, leg, station, section, error, Next, bad, end, on, made, dateOf, badDates}
+use Rattle.format.specs.Items.{Decoded, faulty, whole, sized, oldPart, lengthSize, lengthValue, longPart, newPart, labelledItem, stationItem}
+use Rattle.format.specs.Items.{lineItem, sectionItem, moveItem, errorItem, dayItem, spanItem, daysItem, dayOfSeconds, secondsItem}
+use Rattle.format.specs.Items.{twoSecondsItem, oldDateItem, v7DateItem, oldMiddleItem, oldLowItem, oldHighItem, newDateItem, newLowItem}
+use Rattle.format.specs.Items.{newHighItem, itemOf}
+use Rattle.format.specs.State.{State, start, named, styled, datedBy, moved, Record, leg, station, section, error, Next, bad, end, on, made}
+use Rattle.format.specs.State.{dateOf, badDates}
 use Rattle.format.specs.Sheet.{sheetVersion, undatedVersion, layout}
 use Rattle.format.specs.Reading.{next}
-use Rattle.format.specs.Codes.{common, lengthCodes, partCodes, labelCodes, keptBytes, sameDate, samePoint, styleIf, dateIf, moveIf, lineCodes, fitsShort, allShort, stationCodes, sectionCodes, codes, after, closing}
+use Rattle.format.specs.Codes.{common, lengthCodes, partCodes, labelCodes, keptBytes, sameDate, samePoint, styleIf, dateIf, moveIf, lineCodes}
+use Rattle.format.specs.Codes.{fitsShort, allShort, stationCodes, sectionCodes, codes, after, closing}
 use Rattle.format.specs.declared.Dated.{Dated}
 use Rattle.format.specs.declared.Dated.the-variants.{Undated, Day, Range}
 use Rattle.format.proofs.Cases.{Shown, label, date, no, written, other, Row, dateAfter, fromLabel, dateOfItem, origin, givens, dues}
@@ -125,7 +130,10 @@ table =
     ∷ record { given = written (codes (standing 1) (legOf 0 Undated)); due = written (0 ∷ 96 ∷ replicate 12 0) }
     ∷ record { given = written (closing 0); due = written (0 ∷ []) }
     -- an equal label of a station drops and appends its last byte; an empty one writes 00 00 00
-    ∷ record { given = written (codes (named (97 ∷ 98 ∷ []) start) (station (record { flags = 0; place = origin }) (97 ∷ 98 ∷ []))); due = written (128 ∷ 17 ∷ 98 ∷ replicate 12 0) }
+    ∷ record {
+      given = written (codes (named (97 ∷ 98 ∷ []) start) (station (record { flags = 0; place = origin }) (97 ∷ 98 ∷ [])));
+      due = written (128 ∷ 17 ∷ 98 ∷ replicate 12 0);
+    }
     ∷ record { given = written (codes start (station (record { flags = 0; place = origin }) [])); due = written (128 ∷ 0 ∷ 0 ∷ 0 ∷ replicate 12 0) }
     -- a range of 255 days has a span, one of 256 days two days
     ∷ record { given = written (take 4 (codes (standing 5) (legOf 5 (Range 1 256)))); due = written (18 ∷ 1 ∷ 0 ∷ 255 ∷ []) }
@@ -145,7 +153,10 @@ table =
     -- and the date is then in force for what follows
     ∷ record { given = date (after start (sectionOf (Day 7)) .setting .date); due = date (Day 7) }
     -- the section's bytes in a sheet of version 2 and of version 1
-    ∷ record { given = written (layout sheetVersion (sectionOf (Range 7 263))); due = written (0 ∷ 24 ∷ 3 ∷ 0 ∷ 2 ∷ 0 ∷ 7 ∷ 1 ∷ 7 ∷ (replicate 16 0 ++ 97 ∷ [])) }
+    ∷ record {
+      given = written (layout sheetVersion (sectionOf (Range 7 263)));
+      due = written (0 ∷ 24 ∷ 3 ∷ 0 ∷ 2 ∷ 0 ∷ 7 ∷ 1 ∷ 7 ∷ (replicate 16 0 ++ 97 ∷ []));
+    }
     ∷ record { given = written (layout undatedVersion (sectionOf Undated)); due = written (0 ∷ 19 ∷ 3 ∷ 0 ∷ (replicate 16 0 ++ 97 ∷ [])) }
     -- the reserved codes of each version: dates come with v4, XSECT with v5, ERROR with v6, two more dates with v7
     ∷ record { given = reservedCodes 3; due = written (upFrom 0x20 32 ++ (upFrom 0x60 32 ++ upFrom 0x88 120)) }
@@ -153,7 +164,11 @@ table =
     ∷ record { given = reservedCodes 5; due = written (upFrom 0x22 14 ++ (upFrom 0x34 12 ++ (upFrom 0x60 32 ++ upFrom 0x88 120))) }
     ∷ record { given = reservedCodes 6; due = written (upFrom 0x23 13 ++ (upFrom 0x34 12 ++ (upFrom 0x60 32 ++ upFrom 0x88 120))) }
     ∷ record { given = reservedCodes 7; due = written (upFrom 0x25 11 ++ (upFrom 0x34 12 ++ (upFrom 0x60 32 ++ upFrom 0x88 120))) }
-    ∷ record { given = reservedCodes 8; due = written (upFrom 0x05 10 ++ (upFrom 0x14 11 ++ (upFrom 0x20 16 ++ (upFrom 0x34 12 ++ (upFrom 0x48 24 ++ upFrom 0x68 24))))) }
+    ∷ record {
+      given = reservedCodes 8;
+      due = written
+          (upFrom 0x05 10 ++ (upFrom 0x14 11 ++ (upFrom 0x20 16 ++ (upFrom 0x34 12 ++ (upFrom 0x48 24 ++ upFrom 0x68 24)))));
+    }
     -- flags: 0x1f of a LABEL and 0x07 of a LINE in v3 to v7, the first and the last code of each
     ∷ record { given = written (secondBytes 3 (0x40 ∷ 0x5f ∷ 0x80 ∷ 0x87 ∷ [])); due = written (0x00 ∷ 0x1f ∷ 0x00 ∷ 0x07 ∷ []) }
     ∷ record { given = written (secondBytes 4 (0x40 ∷ 0x5f ∷ 0x80 ∷ 0x87 ∷ [])); due = written (0x00 ∷ 0x1f ∷ 0x00 ∷ 0x07 ∷ []) }
@@ -190,5 +205,8 @@ table =
     ∷ []
 
 pub edges : givens table ≡ dues table
-unfolding pick le16 le32 toLe16 toLe32 toBe16 toBe32 widened same dots dotFrom keptToDot labelStep sized oldPart lengthSize lengthValue longPart newPart labelledItem stationItem lineItem sectionItem moveItem errorItem dayItem spanItem daysItem dayOfSeconds secondsItem twoSecondsItem oldDateItem v7DateItem oldMiddleItem oldLowItem oldHighItem newDateItem newLowItem newHighItem itemOf dateOf badDates layout next common lengthCodes partCodes labelCodes keptBytes sameDate samePoint styleIf dateIf moveIf lineCodes fitsShort allShort stationCodes sectionCodes closing
+unfolding pick le16 le32 toLe16 toLe32 toBe16 toBe32 widened same dots dotFrom keptToDot labelStep sized oldPart lengthSize lengthValue longPart newPart
+    labelledItem stationItem lineItem sectionItem moveItem errorItem dayItem spanItem daysItem dayOfSeconds secondsItem twoSecondsItem oldDateItem v7DateItem
+    oldMiddleItem oldLowItem oldHighItem newDateItem newLowItem newHighItem itemOf dateOf badDates layout next common lengthCodes partCodes labelCodes
+    keptBytes sameDate samePoint styleIf dateIf moveIf lineCodes fitsShort allShort stationCodes sectionCodes closing
 edges = refl

@@ -33,7 +33,8 @@ use Rattle.format.proofs.GoodRecords.{items-formed, items-sayable}
 -- ---- reading reaches one state at a place
 
 -- the same bytes from the same state, as many of them, leave the same state
-goes-one : {version : ℕ} {s : List ℕ} {st a : State} {rs : List Record} {k : ℕ} → Goes version s st rs k a → (s′ : List ℕ) (st₀ b : State) (rs′ : List Record) (k′ : ℕ) → s ≡ s′ → st ≡ st₀ → k ≡ k′ → Goes version s′ st₀ rs′ k′ b → a ≡ b
+goes-one : {version : ℕ} {s : List ℕ} {st a : State} {rs : List Record} {k : ℕ} → Goes version s st rs k a
+    → (s′ : List ℕ) (st₀ b : State) (rs′ : List Record) (k′ : ℕ) → s ≡ s′ → st ≡ st₀ → k ≡ k′ → Goes version s′ st₀ rs′ k′ b → a ≡ b
 goes-one {version} {s} {st} stays s′ st₀ b rs′ k′ es et ek stays = et
 goes-one {version} {s} {st} stays s′ st₀ b rs′ k′ es et ek (past n st₁ e f) =
     absurd (let z = subst (SizedNext (length s′)) e (next-sized version s′ st₀) in omega (arith, z))
@@ -70,11 +71,21 @@ reached-from {first = first} begins = record { made-so-far = []; bytes = 0; plac
 reached-from {version} {file} {first} (goes {p = p} {st = st} n st′ r e) =
     let F = reached-from r in
     let q : drop (F .bytes) (drop first file) ≡ drop p file = drop-drop (F .bytes) first file ∙ ap (λ (k : ℕ). drop k file) (sym (F .place)) in
-    record { made-so-far = F .made-so-far ++ []; bytes = F .bytes + (n + 0); place = omega (arith, F .place); walk = goes-then (F .walk) (past n st′ (ap (λ (x : List ℕ). next version x st) q ∙ e) stays) }
+    record {
+      made-so-far = F .made-so-far ++ [];
+      bytes = F .bytes + (n + 0);
+      place = omega (arith, F .place);
+      walk = goes-then (F .walk) (past n st′ (ap (λ (x : List ℕ). next version x st) q ∙ e) stays);
+    }
 reached-from {version} {file} {first} (makes {p = p} {st = st} n rec st′ r e) =
     let F = reached-from r in
     let q : drop (F .bytes) (drop first file) ≡ drop p file = drop-drop (F .bytes) first file ∙ ap (λ (k : ℕ). drop k file) (sym (F .place)) in
-    record { made-so-far = F .made-so-far ++ (rec ∷ []); bytes = F .bytes + (n + 0); place = omega (arith, F .place); walk = goes-then (F .walk) (adds n rec st′ (ap (λ (x : List ℕ). next version x st) q ∙ e) stays) }
+    record {
+      made-so-far = F .made-so-far ++ (rec ∷ []);
+      bytes = F .bytes + (n + 0);
+      place = omega (arith, F .place);
+      walk = goes-then (F .walk) (adds n rec st′ (ap (λ (x : List ℕ). next version x st) q ∙ e) stays);
+    }
 
 pub reached-one : {version : ℕ} {file : List ℕ} {first p : ℕ} {a b : State} → Reached version file first p a → Reached version file first p b → a ≡ b
 reached-one {version} {file} {first} {p} {a} {b} x y =
@@ -90,7 +101,7 @@ formed-take zero rs w = tt
 formed-take (suc j) [] w = tt
 formed-take (suc j) (r ∷ rs) w = (w .0, formed-take j rs (w .1))
 
-formed-drop : (j : ℕ) (rs : List Record) → AllWellFormed rs → AllWellFormed (drop j rs)
+pub formed-drop : (j : ℕ) (rs : List Record) → AllWellFormed rs → AllWellFormed (drop j rs)
 formed-drop zero rs w = w
 formed-drop (suc j) [] w = tt
 formed-drop (suc j) (r ∷ rs) w = formed-drop j rs (w .1)
@@ -99,7 +110,7 @@ formed-append : (rs ts : List Record) → AllWellFormed rs → AllWellFormed ts 
 formed-append [] ts w v = v
 formed-append (r ∷ rs) ts w v = (w .0, formed-append rs ts (w .1) v)
 
-sayable-take : (j n : ℕ) (st : State) (rs : List Record) → recordsVerdict v8 n st rs ≡ Good → recordsVerdict v8 n st (take j rs) ≡ Good
+pub sayable-take : (j n : ℕ) (st : State) (rs : List Record) → recordsVerdict v8 n st rs ≡ Good → recordsVerdict v8 n st (take j rs) ≡ Good
 unfolding recordsVerdict pick
 sayable-take zero n st rs e = refl
 sayable-take (suc j) n st [] e = refl
@@ -115,7 +126,8 @@ codes-all-go (r ∷ rs) n st h w e rest =
     let s = able v8 n st r rs e in
     let more = codesAll v8 (after st r) rs in
     goes-as (sym (append-assoc (codes st r) more rest)) (sym (length-append (codes st r) more))
-    (goes-append (codes st r) (more ++ rest) (codes-go st r h (w .0) (s .0) (more ++ rest)) (codes-all-go rs (n + 1) (after st r) (after-short st r h (w .0)) (w .1) (s .1) rest))
+    (goes-append (codes st r) (more ++ rest) (codes-go st r h (w .0) (s .0) (more ++ rest))
+    (codes-all-go rs (n + 1) (after st r) (after-short st r h (w .0)) (w .1) (s .1) rest))
 
 -- ---- a file from a record on
 
@@ -205,7 +217,8 @@ module _ (file new : List ℕ) (file-bytes : Bytes file) (new-bytes : Bytes new)
   old-sayable = subst (λ (x : Result). recordsVerdict v8 0 start (x .records) ≡ Good) reads (items-sayable v p file file-bytes)
 
   all-formed : AllWellFormed after-edit
-  all-formed = edited-formed rs ns first count fits old-formed (subst (λ (x : Result). AllWellFormed (x .records)) formed (records-formed sheetVersion new new-bytes))
+  all-formed = edited-formed rs ns first count fits old-formed
+      (subst (λ (x : Result). AllWellFormed (x .records)) formed (records-formed sheetVersion new new-bytes))
 
   whole : Result
   whole = record { records = after-edit; verdict = Good }
@@ -271,7 +284,8 @@ module _ (file new : List ℕ) (file-bytes : Bytes file) (new-bytes : Bytes new)
         → drop (codesPlace h after-edit (moved-to rs ns first count fits j)) (take b (editBuffer file first count new old)) ≡ drop (codesPlace h rs j) file
     edit-suffix j past-run st was is =
         let k = moved-to rs ns first count fits j in
-        let e : found h after-edit k ≡ found h rs j = reached-one (finds-found h after-edit k all-formed new-sayable) is ∙ reached-one was (finds-found h rs j old-formed old-sayable) in
+        let e : found h after-edit k ≡ found h rs j = reached-one (finds-found h after-edit k all-formed new-sayable) is
+        ∙ reached-one was (finds-found h rs j old-formed old-sayable) in
         ap (drop (codesPlace h after-edit k)) edited-file
         ∙ from-record h after-edit k
         ∙ ap₂ (encodeAll v8) e (after-run rs ns first count fits j past-run)

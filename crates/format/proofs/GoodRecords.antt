@@ -3,7 +3,7 @@
 use Prim.Native.Nat.{ℕ, _+_, _-_, _%_, _≤_, _<_}
 use mathlib.Core.Path.{_≡_, refl, sym, _∙_}
 use mathlib.Core.List.{List, []}
-use mathlib.Core.Bool.{Bool, true, false, _&&_, _||_, not}
+use mathlib.Core.Bool.{Bool, true, false, _&&_, not}
 use native.Mathlib.Omega.{arith}
 use lib.ListN.{length, getD, take, drop}
 use lib.Dec.{eqb, ltb}
@@ -12,22 +12,21 @@ use Rattle.format.specs.Bytes.{pick, le16, le32, widened, Bytes}
 use Rattle.format.specs.Label.{labelStep, labelLimit}
 use Rattle.format.specs.declared.Cut.{Cut}
 use Rattle.format.specs.declared.Cut.the-variants.{Empty, Back}
-use Rattle.format.specs.Items.{pointOf, dimensionsOf, traverseOf, Item, Stop, Shorten, Style, Move, NoDate, Date, Error, Xsect, Label, Line, Decoded, faulty, whole, sized, behindCode, oldPart, newPart, labelledItem, stationItem, lineItem, sectionItem, moveItem, errorItem, dayItem, spanItem, daysItem, secondsItem, twoSecondsItem, oldDateItem, v7DateItem, oldMiddleItem, oldLowItem, oldHighItem, newDateItem, newLowItem, newHighItem, itemOf}
+use Rattle.format.specs.Items.{pointOf, dimensionsOf, traverseOf, Item, Stop, Shorten, Style, Move, NoDate, Date, Error, Xsect, Label, Line}
+use Rattle.format.specs.Items.{Decoded, faulty, whole, sized, behindCode, oldPart, newPart, labelledItem, stationItem, lineItem, sectionItem}
+use Rattle.format.specs.Items.{moveItem, errorItem, dayItem, spanItem, daysItem, secondsItem, twoSecondsItem, oldDateItem, v7DateItem}
+use Rattle.format.specs.Items.{oldMiddleItem, oldLowItem, oldHighItem, newDateItem, newLowItem, newHighItem, itemOf}
 use Rattle.format.specs.declared.LabelPart.{LabelPart}
 use Rattle.format.specs.declared.LabelPart.the-variants.{Unfinished, Numbers}
-use Rattle.format.specs.State.{State, start, named, Record, leg, station, section, error, Next, bad, end, on, made, badDates, dateOf, onLabel, legFrom, apply, nextOf}
-use Rattle.format.specs.Refusals.{Result, stop, also}
+use Rattle.format.specs.State.{State, start, named, Record, leg, station, section, error, Next, bad, end, on, made, badDates, dateOf, onLabel}
+use Rattle.format.specs.State.{legFrom, apply, nextOf}
+use Rattle.format.specs.Refusals.{Result, stop}
 use Rattle.format.specs.declared.Verdict.the-variants.{Good, Refusal}
-use Rattle.format.specs.declared.Verdict.{Verdict}
 use Rattle.format.specs.WellFormed.{GoodPoint, GoodDimensions, GoodTraverse, GoodDated, WellFormed, AllWellFormed}
 use Rattle.format.specs.Reading.{next, afterItem, readStep, run, itemsOf}
 use Rattle.format.specs.Writing.{v8, recordsVerdict}
 use Rattle.format.specs.Codes.{after, unsayable}
 use Rattle.format.specs.declared.Point.{Point}
-use Rattle.format.specs.declared.Dimensions.{Dimensions}
-use Rattle.format.specs.declared.Traverse.{Traverse}
-use Rattle.format.specs.declared.Dated.{Dated}
-use Rattle.format.specs.declared.Dated.the-variants.{Undated, Day, Range}
 use Rattle.format.specs.declared.Position.{Position}
 use Rattle.format.specs.declared.Position.the-variants.{Unset, Stands}
 use Rattle.format.proofs.Basics.{pick-case, neither}
@@ -53,7 +52,8 @@ point-good : (s : List ℕ) → Bytes s → GoodPoint (pointOf le32 s)
 point-good s b =
     record { x-fits = le32-fits s b; y-fits = le32-fits (drop 4 s) (bytes-drop s b 4); z-fits = le32-fits (drop 8 s) (bytes-drop s b 8) }
 
-dimensions-good : (width : ℕ) (number : List ℕ → ℕ) → ((s : List ℕ) → Bytes s → number s < 4294967296) → (s : List ℕ) → Bytes s → GoodDimensions (dimensionsOf width number s)
+dimensions-good : (width : ℕ) (number : List ℕ → ℕ) → ((s : List ℕ) → Bytes s → number s < 4294967296) → (s : List ℕ) → Bytes s
+    → GoodDimensions (dimensionsOf width number s)
 dimensions-good width number f s b =
     record {
       left-fits = f s b;
@@ -98,7 +98,8 @@ behind-good : (x : Decoded) → GoodDecoded x → GoodDecoded (behindCode x)
 behind-good (faulty k) g = tt
 behind-good (whole n it) g = g
 
-labelled-good : (p : LabelPart) (t : List ℕ) (n : ℕ) (make : ℕ → List ℕ → List ℕ → Item) → Bytes t → ((d : ℕ) (added rest : List ℕ) → Bytes rest → GoodItem (make d added rest)) → GoodDecoded (labelledItem p t n make)
+labelled-good : (p : LabelPart) (t : List ℕ) (n : ℕ) (make : ℕ → List ℕ → List ℕ → Item) → Bytes t
+    → ((d : ℕ) (added rest : List ℕ) → Bytes rest → GoodItem (make d added rest)) → GoodDecoded (labelledItem p t n make)
 unfolding labelledItem
 labelled-good Unfinished t n make b f = tt
 labelled-good (Numbers k d a) t n make b f =
@@ -236,10 +237,12 @@ module _ (st : State) (n : ℕ) (g : GoodState st) where
   named-good : (l : List ℕ) → length l ≤ labelLimit → GoodState (named l st)
   named-good l h = record { label-short = h; style-fits = g .style-fits; date-fits = g .date-fits; position-fits = g .position-fits }
 
-  good-label : (cut : Cut) (added : List ℕ) (go : List ℕ → Next) → ((l : List ℕ) → length l ≤ labelLimit → GoodNext (go l)) → GoodNext (onLabel (labelStep (st .label) cut added) go)
+  good-label : (cut : Cut) (added : List ℕ) (go : List ℕ → Next) → ((l : List ℕ) → length l ≤ labelLimit → GoodNext (go l))
+      → GoodNext (onLabel (labelStep (st .label) cut added) go)
   good-label cut added go f = label-case GoodNext (st .label) cut added go tt tt f
 
-  leg-good : (p : Position) → GoodPosition p → (flags : ℕ) (to : Point) → flags ≤ 7 → GoodPoint to → (l : List ℕ) → length l ≤ labelLimit → GoodNext (legFrom p n st flags to l)
+  leg-good : (p : Position) → GoodPosition p → (flags : ℕ) (to : Point) → flags ≤ 7 → GoodPoint to → (l : List ℕ) → length l ≤ labelLimit
+      → GoodNext (legFrom p n st flags to l)
   leg-good Unset q flags to hf hp l h = tt
   leg-good (Stands from) q flags to hf hp l h = (
     record { flags-fit = hf; style-fits = g .style-fits; date-fits = g .date-fits; from-fits = q; to-fits = hp; label-fits = h },
@@ -250,7 +253,8 @@ module _ (st : State) (n : ℕ) (g : GoodState st) where
   apply-good Stop i = pick-case GoodNext _ _ _ (λ e. tt) λ e. good-label Empty [] _ named-good
   apply-good (Shorten cut) i = good-label cut [] _ named-good
   apply-good (Style k) i =
-      pick-case GoodNext _ _ _ (λ e. tt) λ e. record { label-short = g .label-short; style-fits = omega (arith, i); date-fits = g .date-fits; position-fits = g .position-fits }
+      pick-case GoodNext _ _ _ (λ e. tt) λ e. record
+      { label-short = g .label-short; style-fits = omega (arith, i); date-fits = g .date-fits; position-fits = g .position-fits }
   apply-good (Move p) i = record { label-short = g .label-short; style-fits = g .style-fits; date-fits = g .date-fits; position-fits = i }
   apply-good NoDate i = record { label-short = g .label-short; style-fits = g .style-fits; date-fits = tt; position-fits = g .position-fits }
   apply-good (Date first last) i =
@@ -284,7 +288,8 @@ start-good = record { label-short = omega arith; style-fits = omega arith; date-
 abbrev Makes : List ℕ → State → Result → Type 0
 Makes s st x = Bytes s → GoodState st → AllWellFormed (x .records)
 
-after-makes : (at : ℕ) (s : List ℕ) (x : Next) (go : ℕ → State → Result) → ((k : ℕ) (st : State) → Makes (drop k s) st (go k st)) → Bytes s → GoodNext x → AllWellFormed (afterItem x at s go .records)
+after-makes : (at : ℕ) (s : List ℕ) (x : Next) (go : ℕ → State → Result) → ((k : ℕ) (st : State) → Makes (drop k s) st (go k st)) → Bytes s → GoodNext x
+    → AllWellFormed (afterItem x at s go .records)
 after-makes at s (bad k) go h b g = tt
 after-makes at s end go h b g = tt
 after-makes at s (on n st) go h b g = h n st (bytes-drop s b n) g
@@ -293,7 +298,8 @@ after-makes at s (made n r st) go h b g = (g .0, h n st (bytes-drop s b n) (g .1
 run-makes : (version at : ℕ) (s : List ℕ) (st : State) → Makes s st (run version at s st)
 unfolding run readStep
 run-makes version at s st =
-    iter-ind (readStep version) (λ p. stop (Refusal 5 p)) Makes (λ p u v b g. tt) (λ p u v go h b g. after-makes p u (next version u v) go h b (next-good version u v b g)) at s st
+    iter-ind (readStep version) (λ p. stop (Refusal 5 p)) Makes (λ p u v b g. tt)
+    (λ p u v go h b g. after-makes p u (next version u v) go h b (next-good version u v b g)) at s st
 
 -- every record of a file of bytes is well-formed, in every version
 pub items-formed : (version place : ℕ) (file : List ℕ) → Bytes file → AllWellFormed (itemsOf version place file .records)
@@ -316,7 +322,8 @@ StyleNext k (on n st) = st .setting .style ≡ 5 → k ≡ 5
 StyleNext k (made n r st) = (st .setting .style ≡ k) × LegStyle r k
 
 module _ (st : State) (n : ℕ) where
-  style-label : (cut : Cut) (added : List ℕ) (go : List ℕ → Next) → ((l : List ℕ) → StyleNext (st .setting .style) (go l)) → StyleNext (st .setting .style) (onLabel (labelStep (st .label) cut added) go)
+  style-label : (cut : Cut) (added : List ℕ) (go : List ℕ → Next) → ((l : List ℕ) → StyleNext (st .setting .style) (go l))
+      → StyleNext (st .setting .style) (onLabel (labelStep (st .label) cut added) go)
   style-label cut added go f = label-case (StyleNext (st .setting .style)) (st .label) cut added go tt tt (λ l z. f l)
 
   apply-style : (it : Item) → GoodItem it → StyleNext (st .setting .style) (apply st n it)
@@ -329,7 +336,8 @@ module _ (st : State) (n : ℕ) where
   apply-style (Error t) i = (refl, tt)
   apply-style (Xsect last d k added) i = style-label (Back k) added _ (λ l. (refl, tt))
   apply-style (Label flags p k added) i = style-label (Back k) added _ (λ l. (refl, tt))
-  apply-style (Line flags p k added) i = style-label (Back k) added _ (λ l. leg-case (StyleNext (st .setting .style)) (st .setting .position) n st flags p l tt (λ from. (refl, refl)))
+  apply-style (Line flags p k added) i = style-label (Back k) added _
+      (λ l. leg-case (StyleNext (st .setting .style)) (st .setting .position) n st flags p l tt (λ from. (refl, refl)))
 
 next-of-style : (st : State) (x : Decoded) → GoodDecoded x → StyleNext (st .setting .style) (nextOf st x)
 next-of-style st (faulty k) i = tt
@@ -343,7 +351,8 @@ next-style version s st b = next-of-style st (itemOf version s) (item-good versi
 abbrev Sayable : List ℕ → State → Result → Type 0
 Sayable s st x = Bytes s → (n : ℕ) (w : State) → (st .setting .style ≡ 5 → w .setting .style ≡ 5) → recordsVerdict v8 n w (x .records) ≡ Good
 
-record-sayable : (r : Record) (k : ℕ) (w : State) → LegStyle r k → (k ≡ 5 → w .setting .style ≡ 5) → (unsayable (w .setting .style) r ≡ false) × (k ≡ 5 → after w r .setting .style ≡ 5)
+record-sayable : (r : Record) (k : ℕ) (w : State) → LegStyle r k → (k ≡ 5 → w .setting .style ≡ 5) → (unsayable (w .setting .style) r ≡ false)
+    × (k ≡ 5 → after w r .setting .style ≡ 5)
 record-sayable (leg g label) k w e h =
     (pick-style (eqb (g .style) 5) refl, λ q. e ∙ q)
   where
@@ -354,7 +363,8 @@ record-sayable (station s label) k w e h = (refl, h)
 record-sayable (section s label) k w e h = (refl, h)
 record-sayable (error t) k w e h = (refl, h)
 
-after-sayable : (at : ℕ) (s : List ℕ) (st : State) (x : Next) (go : ℕ → State → Result) → ((k : ℕ) (st′ : State) → Sayable (drop k s) st′ (go k st′)) → Bytes s → StyleNext (st .setting .style) x
+after-sayable : (at : ℕ) (s : List ℕ) (st : State) (x : Next) (go : ℕ → State → Result) → ((k : ℕ) (st′ : State) → Sayable (drop k s) st′ (go k st′))
+    → Bytes s → StyleNext (st .setting .style) x
     → (n : ℕ) (w : State) → (st .setting .style ≡ 5 → w .setting .style ≡ 5) → recordsVerdict v8 n w (afterItem x at s go .records) ≡ Good
 unfolding recordsVerdict pick
 after-sayable at s st (bad k) go h b g n w e = refl

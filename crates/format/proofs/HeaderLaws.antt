@@ -9,7 +9,8 @@ use lib.Seq.{take-at, drop-at, getD-at, length-take-le}
 use lib.Dec.{eqb, ltb, leb}
 use borrow.Author.Tests.{eqb-false, ltb-true, ltb-false, leb-true, leb-false, lt-ltb, le-ltb, le-leb, lt-leb, not-true}
 use Rattle.format.specs.Bytes.{pick}
-use Rattle.format.specs.Header.{Header, Opening, shut, opened, magic, titleLimit, timeLimit, fileLimit, lineEnd, goodLine, extendedByte, closedHeader, timeLine, titleLine, goodVersion, headerOf, openingOf}
+use Rattle.format.specs.Header.{Header, Opening, shut, opened, magic, titleLimit, timeLimit, fileLimit, lineEnd, goodLine, extendedByte}
+use Rattle.format.specs.Header.{closedHeader, timeLine, titleLine, goodVersion, headerOf, openingOf}
 use Rattle.format.specs.Sheet.{goodText}
 use Rattle.format.specs.WellFormed.{GoodHeader}
 use Rattle.format.specs.V7Codes.{v7HeaderCodes}
@@ -25,7 +26,8 @@ unfolding lineEnd pick
 line-end [] rest e = refl
 line-end (b ∷ l) rest e = go (eqb b 10) e (line-end l rest)
   where
-    go : (c : Bool) → pick c 0 (suc (lineEnd l)) ≡ suc (length l) → (lineEnd l ≡ length l → lineEnd (l ++ (10 ∷ rest)) ≡ length l) → pick c 0 (suc (lineEnd (l ++ (10 ∷ rest)))) ≡ suc (length l)
+    go : (c : Bool) → pick c 0 (suc (lineEnd l)) ≡ suc (length l) → (lineEnd l ≡ length l → lineEnd (l ++ (10 ∷ rest)) ≡ length l)
+        → pick c 0 (suc (lineEnd (l ++ (10 ∷ rest)))) ≡ suc (length l)
     go true e h = absurd (omega arith)
     go false e h = ap suc (h (omega arith))
 
@@ -53,7 +55,8 @@ module _ (limit : ℕ) (l rest : List ℕ) (g : GoodText limit l) where
   text-good-line =
       let s = l ++ (10 ∷ rest) in
       let e = length-append l (10 ∷ rest) in
-      and-true (lt-ltb (lineEnd s) (length s) (omega (arith, text-end))) (and-true (le-leb (lineEnd s) limit (omega (arith, text-end, g .short))) (rw (text-line, g .no-return)))
+      and-true (lt-ltb (lineEnd s) (length s) (omega (arith, text-end)))
+      (and-true (le-leb (lineEnd s) limit (omega (arith, text-end, g .short))) (rw (text-line, g .no-return)))
 
 -- a good line is a good text, and a linefeed
 pub record GoodLine (limit : ℕ) (s : List ℕ) : Type 0 where
@@ -126,12 +129,19 @@ module _ (h : Header) (g : GoodHeader h) (digit : ℕ) (third : List ℕ) where
   unfolding timeLine
   time-back version =
       pick-true _ _ (rw at-second (text-good-line timeLimit (h .time) third time-text))
-      ∙ rw (at-second, text-line timeLimit (h .time) third time-text, text-end timeLimit (h .time) third time-text, at-first, take-at (h .title) (10 ∷ second) (length (h .title)) refl)
+      ∙ rw (
+        at-second,
+        text-line timeLimit (h .time) third time-text,
+        text-end timeLimit (h .time) third time-text,
+        at-first,
+        take-at (h .title) (10 ∷ second) (length (h .title)) refl,
+      )
 
   title-back : (version : ℕ) → titleLine version file ≡ closedHeader version file (26 + length (h .title) + length (h .time)) plain
   unfolding titleLine
   title-back version =
-      pick-true _ _ (rw at-first (text-good-line titleLimit (h .title) second title-text)) ∙ rw (at-first, text-end titleLimit (h .title) second title-text) (time-back version)
+      pick-true _ _ (rw at-first (text-good-line titleLimit (h .title) second title-text))
+      ∙ rw (at-first, text-end titleLimit (h .title) second title-text) (time-back version)
 
   at-magic : take 21 file ≡ magic
   unfolding magic
@@ -141,7 +151,8 @@ module _ (h : Header) (g : GoodHeader h) (digit : ℕ) (third : List ℕ) where
   unfolding magic
   at-digit = refl
 
-  lines-read : (version : ℕ) → goodVersion file ≡ true → digit - 48 ≡ version → headerOf file ≡ closedHeader version file (26 + length (h .title) + length (h .time)) plain
+  lines-read : (version : ℕ) → goodVersion file ≡ true → digit - 48 ≡ version
+      → headerOf file ≡ closedHeader version file (26 + length (h .title) + length (h .time)) plain
   unfolding headerOf
   lines-read version good e =
       pick-true _ _ (rw at-magic (same-refl magic)) ∙ (pick-true _ _ good ∙ rw (at-digit, e) (title-back version))
@@ -180,12 +191,14 @@ module _ (h : Header) (g : GoodHeader h) (rest : List ℕ) where
   extended-cases (suc zero) hx p = refl
   extended-cases (suc (suc x)) hx p = absurd (omega arith)
 
-  extended-back : extendedByte file-v8 (26 + length (h .title) + length (h .time)) (record { extended = 0; title = h .title; time = h .time }) ≡ opened 8 (length (headerCodes h)) h
+  extended-back : extendedByte file-v8 (26 + length (h .title) + length (h .time)) (record { extended = 0; title = h .title; time = h .time }) ≡ opened 8
+      (length (headerCodes h)) h
   unfolding extendedByte
   extended-back =
       let p = 26 + length (h .title) + length (h .time) in
       let e : p + 1 ≡ length (headerCodes h) = omega (arith, start-is) in
-      pick-false _ _ (lt-leb (length file-v8) p (omega (arith, file-length, start-is))) ∙ rw (at-third, e) (extended-cases (h .extended) (g .extended-fits) (length (headerCodes h)))
+      pick-false _ _ (lt-leb (length file-v8) p (omega (arith, file-length, start-is)))
+      ∙ rw (at-third, e) (extended-cases (h .extended) (g .extended-fits) (length (headerCodes h)))
 
   good-v8 : goodVersion file-v8 ≡ true
   unfolding magic goodVersion
@@ -216,7 +229,8 @@ module _ (h : Header) (g : GoodHeader h) (unextended : h .extended ≡ 0) (rest 
   v7-header-read : headerOf (v7HeaderCodes h ++ rest) ≡ opened 7 (length (v7HeaderCodes h)) h
   unfolding closedHeader
   v7-header-read =
-      let same-header : record { extended = 0; title = h .title; time = h .time } ≡ h = λ i. record { extended = sym unextended i; title = h .title; time = h .time } in
+      let same-header : record { extended = 0; title = h .title; time = h .time } ≡ h =
+      λ i. record { extended = sym unextended i; title = h .title; time = h .time } in
       rw v7-file-is (lines-read h g 55 rest 7 good-v7 refl ∙ (pick-false _ _ refl ∙ rw (v7-start-is, same-header)))
 
   pub v7-opening-read : length (v7HeaderCodes h ++ rest) ≤ fileLimit → openingOf (v7HeaderCodes h ++ rest) ≡ opened 7 (length (v7HeaderCodes h)) h
@@ -255,7 +269,8 @@ FitsOpening file (opened v p h) = Fits file v p h
 
 module _ (file : List ℕ) (few : length file ≤ 16777216) where
   -- with the extended bit x
-  with-bit : (x : ℕ) → x ≤ 1 → (title time : List ℕ) (p : ℕ) → Lines file title time p → p < length file → Fits file 8 (p + 1) (record { extended = x; title = title; time = time })
+  with-bit : (x : ℕ) → x ≤ 1 → (title time : List ℕ) (p : ℕ) → Lines file title time p → p < length file
+      → Fits file 8 (p + 1) (record { extended = x; title = title; time = time })
   with-bit x hx title time p l h =
       let e = l .place-is in
       record {
@@ -270,7 +285,8 @@ module _ (file : List ℕ) (few : length file ≤ 16777216) where
         few = few;
       }
 
-  without-bit : (version : ℕ) → 3 ≤ version → version < 8 → (title time : List ℕ) (p : ℕ) → Lines file title time p → Fits file version p (record { extended = 0; title = title; time = time })
+  without-bit : (version : ℕ) → 3 ≤ version → version < 8 → (title time : List ℕ) (p : ℕ) → Lines file title time p
+      → Fits file version p (record { extended = 0; title = title; time = time })
   without-bit version h3 h8 title time p l =
       let e = l .place-is in
       record {
@@ -285,7 +301,8 @@ module _ (file : List ℕ) (few : length file ≤ 16777216) where
         few = few;
       }
 
-  extended-fits-at : (title time : List ℕ) (p : ℕ) → Lines file title time p → FitsOpening file (extendedByte file p (record { extended = 0; title = title; time = time }))
+  extended-fits-at : (title time : List ℕ) (p : ℕ) → Lines file title time p
+      → FitsOpening file (extendedByte file p (record { extended = 0; title = title; time = time }))
   unfolding extendedByte
   extended-fits-at title time p l =
       pick-case (FitsOpening file) _ _ _ (λ e. tt) λ e0.

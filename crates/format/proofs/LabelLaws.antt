@@ -103,7 +103,8 @@ unfolding dotFrom dots
 dot-from n k [] = λ h. h
 dot-from n k (b ∷ s) =
     let r = dot-from n (k + 1) s in
-    pick-case (KeptDot n k (b ∷ s)) _ _ _ (λ e. (let p = both (eqb b 46) (eqb (dots s + 1) n) e in dot-here n k b s (eqb-true b 46 (p .0)) (eqb-true (dots s + 1) n (p .1))))
+    pick-case (KeptDot n k (b ∷ s)) _ _ _ (λ e.
+    (let p = both (eqb b 46) (eqb (dots s + 1) n) e in dot-here n k b s (eqb-true b 46 (p .0)) (eqb-true (dots s + 1) n (p .1))))
     (λ e. dot-further n k b s (dotFrom n (k + 1) s) e r)
 
 -- what 01-0e leave: the bytes up to a dot that is not among the 16 dropped, with N dots from it to the last byte that was not dropped

@@ -6,19 +6,24 @@ use mathlib.Core.List.{List, [], _∷_, _++_}
 use lib.ListN.{length, take, drop, replicate}
 use borrow.Author.Tests.{lt-ltb}
 use Rattle.format.specs.Bytes.{pick, le16, le32, be16, be32, toLe16, toLe32, toBe16, toBe32, widened, same}
-use Rattle.format.specs.Header.{Header, shut, opened, magic, lineEnd, endsInReturn, goodLine, extendedByte, closedHeader, timeLine, titleLine, goodVersion, headerOf, openingOf, fileLimit}
+use Rattle.format.specs.Header.{Header, shut, opened, magic, lineEnd, endsInReturn, goodLine, extendedByte, closedHeader, timeLine, titleLine}
+use Rattle.format.specs.Header.{goodVersion, headerOf, openingOf, fileLimit}
 use Rattle.format.specs.Label.{labelStep}
-use Rattle.format.specs.Items.{sized, lengthSize, lengthValue, longPart, newPart, labelledItem, stationItem, lineItem, moveItem, dayItem, spanItem, daysItem, v7DateItem, oldMiddleItem, oldLowItem, newLowItem, newHighItem, itemOf}
+use Rattle.format.specs.Items.{sized, lengthSize, lengthValue, longPart, newPart, labelledItem, stationItem, lineItem, moveItem, dayItem}
+use Rattle.format.specs.Items.{spanItem, daysItem, v7DateItem, oldMiddleItem, oldLowItem, newLowItem, newHighItem, itemOf}
 use Rattle.format.specs.State.{start, named, Record, dateOf, badDates}
 use Rattle.format.specs.Iterate.{iter, iterUp}
-use Rattle.format.specs.Sheet.{sheetVersion, layout, layoutAll, headerLayout, sheetOf, goodDate, dateFrom, legEntry, bodyEntry, framed, entryOf, recordsStep, recordsFrom, recordsOf, goodText, goodHeader, goodFront, frontHeader, behindFront, versionResult, versionOf, sheetResult}
+use Rattle.format.specs.Sheet.{sheetVersion, layout, layoutAll, headerLayout, sheetOf, goodDate, dateFrom, legEntry, bodyEntry, framed, entryOf}
+use Rattle.format.specs.Sheet.{recordsStep, recordsFrom, recordsOf, goodText, goodHeader, goodFront, frontHeader, behindFront, versionResult}
+use Rattle.format.specs.Sheet.{versionOf, sheetResult}
 use Rattle.format.specs.Refusals.{accepted, refused}
 use Rattle.format.specs.Reading.{next, ended, readStep, run, itemsOf, readOutcome}
 use Rattle.format.specs.Codes.{common, lengthCodes, partCodes, labelCodes, sameDate, samePoint, styleIf, dateIf, moveIf, lineCodes, closing, headerCodes}
 use Rattle.format.specs.Writing.{v8, codesAll, afterAll, encodeAll, fileOf, recordsVerdict, sizeVerdict, filedOutcome, writtenOutcome, writeOutcome}
 use Rattle.format.specs.Editing.{houseWritten, edited, houseVerdict, runVerdict, editVerdict, editResult, editOutcome}
 use Rattle.format.specs.Stepping.{Stand, before, stopped, openStand, wrote, ends, refuses, recorded, stepOf, ranOut, stops, gathered}
-use Rattle.format.specs.Times.{isDigit, allDigits, decimalFrom, decimal, leap, monthLengths, monthLength, monthDays, yearDays, dayNumber, realDate, atForm, textMarks, textDigits, textDay, textClock, textZone, textForm, textSeconds, secondsOf, stampOf}
+use Rattle.format.specs.Times.{isDigit, allDigits, decimalFrom, decimal, leap, monthLengths, monthLength, monthDays, yearDays, dayNumber}
+use Rattle.format.specs.Times.{realDate, atForm, textMarks, textDigits, textDay, textClock, textZone, textForm, textSeconds, secondsOf, stampOf}
 use Rattle.format.specs.declared.Stamp.the-variants.{Unstamped, Stamped}
 use Rattle.format.specs.declared.Verdict.{Verdict}
 use Rattle.format.specs.declared.Verdict.the-variants.{Good, Refusal}
@@ -163,12 +168,21 @@ table =
     -- a step into too little room: "On 11 it doesn't advance", and the next step has the record
     ∷ record { given = stepAfter 0 oneStation 16; due = step (record { answer = refuses 11 17; stand = before 8 30 start; bytes = [] }) }
     ∷ record { given = stepAfter 1 oneStation 16; due = step (record { answer = refuses 11 17; stand = before 8 30 start; bytes = [] }) }
-    ∷ record { given = stepAfter 0 oneStation 17; due = step (record { answer = wrote 17 0; stand = before 8 45 (named (97 ∷ []) start); bytes = stationRecord }) }
+    ∷ record {
+      given = stepAfter 0 oneStation 17;
+      due = step (record { answer = wrote 17 0; stand = before 8 45 (named (97 ∷ []) start); bytes = stationRecord });
+    }
     -- the end, 10 and another refusal come again
     ∷ record { given = stepAfter 2 oneStation 17; due = step (record { answer = ends; stand = stopped Good; bytes = [] }) }
     ∷ record { given = stepAfter 3 oneStation 17; due = step (record { answer = ends; stand = stopped Good; bytes = [] }) }
-    ∷ record { given = stepAfter 1 (case1 (0x00 ∷ 0x00 ∷ 0x00 ∷ [])) 17; due = step (record { answer = refuses 10 32; stand = stopped (Refusal 10 32); bytes = [] }) }
-    ∷ record { given = stepAfter 2 (case1 (0x00 ∷ 0x00 ∷ 0x00 ∷ [])) 17; due = step (record { answer = refuses 10 32; stand = stopped (Refusal 10 32); bytes = [] }) }
+    ∷ record {
+      given = stepAfter 1 (case1 (0x00 ∷ 0x00 ∷ 0x00 ∷ [])) 17;
+      due = step (record { answer = refuses 10 32; stand = stopped (Refusal 10 32); bytes = [] });
+    }
+    ∷ record {
+      given = stepAfter 2 (case1 (0x00 ∷ 0x00 ∷ 0x00 ∷ [])) 17;
+      due = step (record { answer = refuses 10 32; stand = stopped (Refusal 10 32); bytes = [] });
+    }
     ∷ record { given = stepAfter 1 (case1 (0x05 ∷ [])) 17; due = step (record { answer = refuses 4 30; stand = stopped (Refusal 4 30); bytes = [] }) }
     ∷ record { given = stepAfter 1 [] 17; due = step (record { answer = refuses 1 0; stand = stopped (Refusal 1 0); bytes = [] }) }
     -- three steps reach the end of that file, two do not
@@ -187,7 +201,14 @@ table =
     ∷ []
 
 pub orders : givens table ≡ dues table
-unfolding pick le16 le32 be16 be32 toLe16 toLe32 toBe16 toBe32 widened same magic lineEnd endsInReturn goodLine extendedByte closedHeader timeLine titleLine goodVersion headerOf openingOf labelStep sized lengthSize lengthValue longPart newPart labelledItem stationItem lineItem moveItem dayItem spanItem daysItem v7DateItem oldMiddleItem oldLowItem newLowItem newHighItem itemOf dateOf badDates iter iterUp layout layoutAll headerLayout sheetOf goodDate dateFrom legEntry bodyEntry framed entryOf recordsStep recordsFrom recordsOf goodText goodHeader goodFront frontHeader behindFront versionResult versionOf sheetResult next ended readStep run itemsOf readOutcome common lengthCodes partCodes labelCodes sameDate samePoint styleIf dateIf moveIf lineCodes closing headerCodes codesAll afterAll encodeAll fileOf recordsVerdict sizeVerdict filedOutcome writtenOutcome writeOutcome houseWritten edited houseVerdict runVerdict editVerdict editResult editOutcome openStand recorded gathered isDigit allDigits decimalFrom decimal leap monthLengths monthLength monthDays yearDays dayNumber realDate atForm textMarks textDigits textDay textClock textZone textForm textSeconds secondsOf stampOf
+unfolding pick le16 le32 be16 be32 toLe16 toLe32 toBe16 toBe32 widened same magic lineEnd endsInReturn goodLine extendedByte closedHeader timeLine titleLine
+    goodVersion headerOf openingOf labelStep sized lengthSize lengthValue longPart newPart labelledItem stationItem lineItem moveItem dayItem spanItem
+    daysItem v7DateItem oldMiddleItem oldLowItem newLowItem newHighItem itemOf dateOf badDates iter iterUp layout layoutAll headerLayout sheetOf goodDate
+    dateFrom legEntry bodyEntry framed entryOf recordsStep recordsFrom recordsOf goodText goodHeader goodFront frontHeader behindFront versionResult versionOf
+    sheetResult next ended readStep run itemsOf readOutcome common lengthCodes partCodes labelCodes sameDate samePoint styleIf dateIf moveIf lineCodes closing
+    headerCodes codesAll afterAll encodeAll fileOf recordsVerdict sizeVerdict filedOutcome writtenOutcome writeOutcome houseWritten edited houseVerdict
+    runVerdict editVerdict editResult editOutcome openStand recorded gathered isDigit allDigits decimalFrom decimal leap monthLengths monthLength monthDays
+    yearDays dayNumber realDate atForm textMarks textDigits textDay textClock textZone textForm textSeconds secondsOf stampOf
 orders = refl
 
 -- 16 comes before all that a header can be refused for

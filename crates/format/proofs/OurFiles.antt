@@ -18,7 +18,8 @@ use Rattle.format.specs.declared.Verdict.the-variants.{Good, Refusal}
 use Rattle.format.specs.WellFormed.{GoodHeader, AllWellFormed}
 use Rattle.format.specs.Reading.{itemsOf}
 use Rattle.format.specs.Codes.{headerCodes}
-use Rattle.format.specs.Writing.{Writer, v8, encodeAll, fileOf, recordsVerdict, sizeVerdict, writingVerdict, filedOutcome, writtenOutcome, writeOutcome, writeBuffer}
+use Rattle.format.specs.Writing.{Writer, v8, encodeAll, fileOf, recordsVerdict, sizeVerdict, writingVerdict, filedOutcome, writtenOutcome}
+use Rattle.format.specs.Writing.{writeOutcome, writeBuffer}
 use Rattle.format.specs.Editing.{houseWritten, edited, houseVerdict, runVerdict, editVerdict, editResult, editFrom, editOutcome, editBuffer}
 use Rattle.format.proofs.Basics.{pick-case, second-picked, same-true, same-refl}
 use Rattle.format.proofs.IterateLaws.{iter-ind}
@@ -40,12 +41,19 @@ pub file-ours : (h : Header) → GoodHeader h → (x : Result) (b n v : ℕ) →
 unfolding houseWritten
 file-ours h g x b n v f W =
     let rs = x .records in
-    record { opens = written-opens h g rs f (W .writable) (W .small); reads = written-items h g rs f (W .writable) (W .small); house = same-refl (fileOf v8 h rs) }
+    record {
+      opens = written-opens h g rs f (W .writable) (W .small);
+      reads = written-items h g rs f (W .writable) (W .small);
+      house = same-refl (fileOf v8 h rs);
+    }
 
 -- what an edit of such a file is to write: 14 is not among what may be wrong
 unfoldable pub toWrite : List Record → ℕ → ℕ → List ℕ → Result
 toWrite rs first count new =
-    record { records = edited rs first count (recordsOf sheetVersion new .records); verdict = orElse (runVerdict rs first count) (recordsOf sheetVersion new .verdict) }
+    record {
+      records = edited rs first count (recordsOf sheetVersion new .records);
+      verdict = orElse (runVerdict rs first count) (recordsOf sheetVersion new .verdict);
+    }
 
 module _ {file : List ℕ} {h : Header} {rs : List Record} (ours : Ours file h rs) (first count : ℕ) (new : List ℕ) where
   pub ours-edit : (room : ℕ) → editOutcome file first count new room ≡ writtenOutcome v8 h (toWrite rs first count new) room
@@ -117,7 +125,8 @@ module _ (file : List ℕ) (first count : ℕ) (new old : List ℕ) (b n w v p :
   pub edited-ours : Bytes file → Bytes new → Ours (take b (editBuffer file first count new old)) h (edited rs first count (recordsOf sheetVersion new .records))
   unfolding editBuffer editResult
   edited-ours file-bytes new-bytes =
-      let f = edited-formed rs (recordsOf sheetVersion new .records) first count edit-fits (items-formed v p file file-bytes) (records-formed sheetVersion new new-bytes) in
+      let f = edited-formed rs (recordsOf sheetVersion new .records) first count edit-fits (items-formed v p file file-bytes)
+      (records-formed sheetVersion new new-bytes) in
       rw (accept, opens, writes-file v8 h asked (length old) b n w answer old)
       (file-ours h (opening-fits file opens .header) asked b n w f (writes v8 h asked (length old) b n w answer))
 
@@ -181,7 +190,8 @@ pub never-14 : {file : List ℕ} {h : Header} {rs : List Record} → Ours file h
 unfolding toWrite
 never-14 {h = h} {rs} ours first count new room p e =
     written-not v8 (λ q. omega arith) h (toWrite rs first count new) room p
-    (or-else-not 14 (runVerdict rs first count) (recordsOf sheetVersion new .verdict) (run-not 14 (λ q. omega arith) rs first count) (records-not 14 (λ q. omega arith) new))
+    (or-else-not 14 (runVerdict rs first count) (recordsOf sheetVersion new .verdict) (run-not 14 (λ q. omega arith) rs first count)
+    (records-not 14 (λ q. omega arith) new))
     (sym (ours-edit ours first count new room) ∙ e)
 
 pub written-never-14 : (sheet : List ℕ) → Bytes sheet → (old : List ℕ) (b n v : ℕ) → writeOutcome v8 sheet (length old) ≡ accepted b n v
@@ -197,7 +207,8 @@ edited-never-14 file first count new old b n w file-bytes new-bytes e =
 
 -- ---- "An edit still takes only v8: a v7 file that reads well gets 14, even one written here" (#110)
 
-other-version-not-ours : (file : List ℕ) {v p : ℕ} {h : Header} → openingOf file ≡ opened v p h → (v ≡ 8 → ⊥) → (xs : List Record) → houseWritten file h xs ≡ false
+other-version-not-ours : (file : List ℕ) {v p : ℕ} {h : Header} → openingOf file ≡ opened v p h → (v ≡ 8 → ⊥) → (xs : List Record)
+    → houseWritten file h xs ≡ false
 unfolding houseWritten fileOf
 other-version-not-ours file {v} {p} {h} opens other xs = go (same file (fileOf v8 h xs)) refl
   where

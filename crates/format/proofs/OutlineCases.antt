@@ -7,7 +7,8 @@ use lib.ListN.{length, replicate}
 use Rattle.format.specs.Bytes.{pick, le16, le32, toBe16, toBe32, widened, same}
 use Rattle.format.specs.Header.{magic, lineEnd, endsInReturn, goodLine, extendedByte, closedHeader, timeLine, titleLine, goodVersion, headerOf, openingOf}
 use Rattle.format.specs.Label.{dots, dotFrom, keptToDot, labelStep}
-use Rattle.format.specs.Items.{sized, oldPart, lengthSize, lengthValue, longPart, newPart, labelledItem, stationItem, lineItem, sectionItem, moveItem, errorItem, oldLowItem, oldHighItem, newLowItem, newHighItem, itemOf}
+use Rattle.format.specs.Items.{sized, oldPart, lengthSize, lengthValue, longPart, newPart, labelledItem, stationItem, lineItem, sectionItem}
+use Rattle.format.specs.Items.{moveItem, errorItem, oldLowItem, oldHighItem, newLowItem, newHighItem, itemOf}
 use Rattle.format.specs.Sheet.{layout}
 use Rattle.format.specs.Reading.{next, ended}
 use Rattle.format.specs.Stepping.{Stand, StepOutcome, wrote, nothing, ends, refuses, openStand, recorded, stepOf}
@@ -61,5 +62,7 @@ table =
     ∷ []
 
 pub outlines : givens table ≡ dues table
-unfolding pick le16 le32 toBe16 toBe32 widened magic lineEnd endsInReturn goodLine extendedByte closedHeader timeLine titleLine goodVersion headerOf openingOf dots dotFrom keptToDot labelStep sized oldPart lengthSize lengthValue longPart newPart labelledItem stationItem lineItem sectionItem moveItem errorItem oldLowItem oldHighItem newLowItem newHighItem itemOf layout next ended openStand recorded same
+unfolding pick le16 le32 toBe16 toBe32 widened magic lineEnd endsInReturn goodLine extendedByte closedHeader timeLine titleLine goodVersion headerOf openingOf
+    dots dotFrom keptToDot labelStep sized oldPart lengthSize lengthValue longPart newPart labelledItem stationItem lineItem sectionItem moveItem errorItem
+    oldLowItem oldHighItem newLowItem newHighItem itemOf layout next ended openStand recorded same
 outlines = refl

@@ -1,20 +1,20 @@
 -- How much of the name stayed (#107): what an item's own drop leaves is the least length in its stretch, and the kept bytes are a common
 -- start of the previous label and this one. Assumes nothing.
-use Prim.Native.Nat.{ℕ, zero, suc, _+_, _-_, _≤_, _<_, min}
+use Prim.Native.Nat.{ℕ, zero, suc, _-_, _≤_}
 use native.Mathlib.Omega.{arith}
 use mathlib.Core.Path.{_≡_, refl, sym, ap, _∙_}
 use mathlib.Core.List.{List, [], _∷_, _++_, append-nil}
 use mathlib.Core.Bool.{Bool, true, false}
 use lib.ListN.{length, take, drop, length-append}
 use lib.Seq.{take-length, take-append-le, length-take-le}
-use lib.Dec.{eqb, ltb}
+use lib.Dec.{ltb}
 use borrow.Author.Tests.{eq-eqb}
-use Rattle.format.specs.Codes.{common, keptBytes, labelCodes, allShort, lineCodes, stationCodes, sectionCodes}
+use Rattle.format.specs.Codes.{common, keptBytes, allShort, lineCodes, stationCodes, sectionCodes}
 use Rattle.format.specs.WellFormed.{GoodPoint, GoodStation, GoodSection}
 use Rattle.format.specs.declared.Station.{Station}
 use Rattle.format.specs.declared.Section.{Section}
 use Rattle.format.specs.Bytes.{pick, same}
-use Rattle.format.specs.Label.{Labelled, tooShort, tooLong, labelled, keptOf, appended, labelStep, labelLimit}
+use Rattle.format.specs.Label.{Labelled, keptOf, appended, labelStep, labelLimit}
 use Rattle.format.specs.declared.Cut.{Cut}
 use Rattle.format.specs.declared.Cut.the-variants.{Empty, Back}
 use Rattle.format.specs.declared.Kept.{Kept}
@@ -23,14 +23,15 @@ use Rattle.format.specs.declared.Position.{Position}
 use Rattle.format.specs.declared.Position.the-variants.{Unset, Stands}
 use Rattle.format.specs.declared.Point.{Point}
 use Rattle.format.specs.Items.{Item, Stop, Shorten, Style, Move, NoDate, Date, Error, Xsect, Label, Line, Decoded, faulty, whole, itemOf}
-use Rattle.format.specs.State.{State, start, Record, leg, station, section, error, Next, bad, end, on, made, named, onLabel, legFrom, apply, nextOf}
+use Rattle.format.specs.State.{State, Record, leg, station, section, error, Next, bad, end, on, made, named, onLabel, legFrom, apply, nextOf}
 use Rattle.format.specs.Reading.{next, ended}
 use Rattle.format.specs.Stepping.{Stand, before as standsBefore, Step, wrote, stopAnswer, recorded, stepNext, stepOf}
 use Rattle.format.specs.declared.Verdict.{Verdict}
 use Rattle.format.specs.declared.Verdict.the-variants.{Good, Refusal}
 use Rattle.format.specs.Outline.{leastOf, ownDrop, dropLeaves, keptOver, carriesLabel, Stretch, begins, goes, makes}
 use Rattle.format.proofs.Basics.{pick-case, same-true}
-use Rattle.format.proofs.WritingLaws.{Shares, common-shares, kept-shares, common-le, station-item, line-item, short-section-item, wide-section-item, same-line-item}
+use Rattle.format.proofs.WritingLaws.{Shares, common-shares, kept-shares, common-le, station-item, line-item, short-section-item}
+use Rattle.format.proofs.WritingLaws.{wide-section-item, same-line-item}
 
 -- ---- what an item does to the label
 
@@ -61,7 +62,8 @@ pub record Begins (l : List ℕ) (cut : Cut) (added m : List ℕ) : Type 0 where
   pub kept : keptOf l cut ≡ Keeps keep
   pub same : m ≡ take keep l ++ added
 
-module _ (P : Next → Type 0) (l : List ℕ) (cut : Cut) (added : List ℕ) (go : List ℕ → Next) (p : P (bad 6)) (q : P (bad 7)) (f : (m : List ℕ) → Begins l cut added m → P (go m)) where
+module _ (P : Next → Type 0) (l : List ℕ) (cut : Cut) (added : List ℕ) (go : List ℕ → Next) (p : P (bad 6)) (q : P (bad 7))
+    (f : (m : List ℕ) → Begins l cut added m → P (go m)) where
   appended-case : (k : Kept) → keptOf l cut ≡ k → P (onLabel (appended k l added) go)
   appended-case Lacks e = p
   appended-case (Keeps n) e =
@@ -97,7 +99,11 @@ back-keeps-from l d added m b = go (ltb (length l) d) refl (b .kept)
         let h : b .keep ≤ length l = omega arith in
         let t : length (take (b .keep) l) ≡ b .keep = length-take-le (b .keep) l h in
         rw (k, b .same)
-        (record { first = h; second = simp length-append (omega arith); equal = sym (take-append-le (b .keep) (take (b .keep) l) added (omega arith) ∙ take-shorter (b .keep) (b .keep) l (omega arith)) })
+        (record {
+          first = h;
+          second = simp length-append (omega arith);
+          equal = sym (take-append-le (b .keep) (take (b .keep) l) added (omega arith) ∙ take-shorter (b .keep) (b .keep) l (omega arith));
+        })
 
 module _ (st : State) (n : ℕ) where
   shortened : (kept : ℕ) (cut : Cut) → Leaves (st .label) kept (onLabel (labelStep (st .label) cut []) (λ l. on n (named l st)))
@@ -117,8 +123,10 @@ module _ (st : State) (n : ℕ) where
   apply-leaves NoDate = start-self (st .label)
   apply-leaves (Date first last) = pick-case (Leaves (st .label) 0) _ _ _ (λ e. tt) (λ e. start-self (st .label))
   apply-leaves (Error t) = (refl, refl)
-  apply-leaves (Xsect last dims d added) = begin-case (Leaves (st .label) (length (st .label) - d)) (st .label) (Back d) added _ tt tt λ m b. back-keeps-from (st .label) d added m b
-  apply-leaves (Label flags p d added) = begin-case (Leaves (st .label) (length (st .label) - d)) (st .label) (Back d) added _ tt tt λ m b. back-keeps-from (st .label) d added m b
+  apply-leaves (Xsect last dims d added) = begin-case (Leaves (st .label) (length (st .label) - d)) (st .label) (Back d) added _ tt tt
+      λ m b. back-keeps-from (st .label) d added m b
+  apply-leaves (Label flags p d added) = begin-case (Leaves (st .label) (length (st .label) - d)) (st .label) (Back d) added _ tt tt
+      λ m b. back-keeps-from (st .label) d added m b
   apply-leaves (Line flags p d added) =
       begin-case (Leaves (st .label) (length (st .label) - d)) (st .label) (Back d) added _ tt tt
       λ m b. leg-leaves (st .setting .position) flags p (length (st .label) - d) m (back-keeps-from (st .label) d added m b)
@@ -163,11 +171,15 @@ module _ (version : ℕ) (file : List ℕ) (first : ℕ) where
   lasts (goes {p} {st} {before} {lengths} n st′ S e) =
       let l = lasts S in
       let s : StartOf (st′ .label) (st .label) = rw e at (next-leaves version (drop p file) st) in
-      record { start-of = start-start (st′ .label) (st .label) before s (l .start-of); at-least = (omega arith, at-least-less (length (st′ .label)) (length (st .label)) lengths (s .0) (l .at-least)) }
+      record {
+        start-of = start-start (st′ .label) (st .label) before s (l .start-of);
+        at-least = (omega arith, at-least-less (length (st′ .label)) (length (st .label)) lengths (s .0) (l .at-least));
+      }
   lasts (makes {p} {st} {before} {lengths} n r st′ S e) =
       made-lasts r st st′ before lengths _ (rw e at (next-leaves version (drop p file) st)) (lasts S)
 
-  module _ {p : ℕ} {st : State} {before lengths : List ℕ} (S : Stretch version file first p st before lengths) (n : ℕ) (r : Record) (st′ : State) (e : next version (drop p file) st ≡ made n r st′) where
+  module _ {p : ℕ} {st : State} {before lengths : List ℕ} (S : Stretch version file first p st before lengths) (n : ℕ) (r : Record) (st′ : State)
+      (e : next version (drop p file) st ≡ made n r st′) where
     abbrev kept : ℕ
     kept = dropLeaves (st .label) (itemOf version (drop p file))
 
@@ -194,7 +206,12 @@ module _ (version : ℕ) (file : List ℕ) (first : ℕ) where
     from-before : Shares (st .label) (st′ .label) kept → Shares before (st′ .label) kept
     from-before k =
         let s = lasts S .start-of in
-        record { first = omega (arith, k .first, s .0); second = k .second; equal = sym (take-shorter kept (length (st .label)) before (k .first)) ∙ ap (take kept) (s .1) ∙ k .equal }
+        record {
+          first = omega (arith, k .first, s .0);
+          second = k .second;
+          equal = sym (take-shorter kept (length (st .label)) before (k .first))
+              ∙ ap (take kept) (s .1) ∙ k .equal;
+        }
 
     outlines : (r : Record) → Appends r (st .label) kept (st′ .label) → Outlines r
     outlines (leg g label) a = from-before a
@@ -241,7 +258,8 @@ module _ (last label : List ℕ) (hl : length last ≤ labelLimit) (rest : List 
       (λ e. rw (wide-section-item last label k hl (g .label-fits) (s .last) (s .size) rest (g .last-fits) (g .dimensions-fit)) b)
 
   -- a leg keeps the longest common start; with 0x20 that is the whole label
-  pub line-kept : (flags : ℕ) (to : Point) → flags ≤ 7 → GoodPoint to → length label ≤ labelLimit → dropLeaves last (itemOf 8 (lineCodes last flags to label ++ rest)) ≡ common last label
+  pub line-kept : (flags : ℕ) (to : Point) → flags ≤ 7 → GoodPoint to → length label ≤ labelLimit
+      → dropLeaves last (itemOf 8 (lineCodes last flags to label ++ rest)) ≡ common last label
   unfolding lineCodes
   line-kept flags to hf g hm =
       pick-case (λ (x : List ℕ). dropLeaves last (itemOf 8 (x ++ rest)) ≡ common last label) (same last label) _ _
@@ -255,24 +273,25 @@ module _ (last label : List ℕ) (hl : length last ≤ labelLimit) (rest : List 
 
 -- ---- what a step answers with its record is the sentence's number
 
-module _ {version : ℕ} {file : List ℕ} {first p : ℕ} {st : State} {label lengths : List ℕ} (S : Stretch version file first p st label lengths) (room b k : ℕ) where
-  abbrev it : Decoded
-  it = itemOf version (drop p file)
+module _ {version : ℕ} {file : List ℕ} {first p : ℕ} {st : State} {label lengths : List ℕ} (S : Stretch version file first p st label lengths) (room b k : ℕ)
+  where
+    abbrev it : Decoded
+    it = itemOf version (drop p file)
 
-  stop-never : (v : Verdict) → stopAnswer v ≡ wrote b k → ⊥
-  stop-never Good e = let z : _≡_ {A = ℕ} 0 1 = cc in omega arith
-  stop-never (Refusal n q) e = let z : _≡_ {A = ℕ} 0 1 = cc in omega arith
+    stop-never : (v : Verdict) → stopAnswer v ≡ wrote b k → ⊥
+    stop-never Good e = let z : _≡_ {A = ℕ} 0 1 = cc in omega arith
+    stop-never (Refusal n q) e = let z : _≡_ {A = ℕ} 0 1 = cc in omega arith
 
-  recorded-kept : (here there : Stand) (r : Record) (kept : ℕ) → recorded here there r kept room .answer ≡ wrote b k → k ≡ kept
-  unfolding recorded
-  recorded-kept here there r kept =
-      pick-case (λ (s : Step). s .answer ≡ wrote b k → k ≡ kept) _ _ _ (λ t e. absurd (let z : _≡_ {A = ℕ} 0 1 = cc in omega arith)) (λ t e. cc)
+    recorded-kept : (here there : Stand) (r : Record) (kept : ℕ) → recorded here there r kept room .answer ≡ wrote b k → k ≡ kept
+    unfolding recorded
+    recorded-kept here there r kept =
+        pick-case (λ (s : Step). s .answer ≡ wrote b k → k ≡ kept) _ _ _ (λ t e. absurd (let z : _≡_ {A = ℕ} 0 1 = cc in omega arith)) (λ t e. cc)
 
-  pub step-kept : stepOf (standsBefore version p st) file room .answer ≡ wrote b k → k ≡ keptOver lengths (st .label) it
-  step-kept = go (next version (drop p file) st) refl
-    where
-      go : (x : Next) → next version (drop p file) st ≡ x → stepNext x version p st (drop p file) room .answer ≡ wrote b k → k ≡ keptOver lengths (st .label) it
-      go (bad n) e q = absurd (stop-never (Refusal n p) q)
-      go end e q = absurd (stop-never (ended p (drop p file)) q)
-      go (on n st′) e q = absurd (let z : _≡_ {A = ℕ} 0 1 = cc in omega arith)
-      go (made n r st′) e q = recorded-kept _ _ r _ q ∙ sym (kept-is-drop version file first S n r st′ e)
+    pub step-kept : stepOf (standsBefore version p st) file room .answer ≡ wrote b k → k ≡ keptOver lengths (st .label) it
+    step-kept = go (next version (drop p file) st) refl
+      where
+        go : (x : Next) → next version (drop p file) st ≡ x → stepNext x version p st (drop p file) room .answer ≡ wrote b k → k ≡ keptOver lengths (st .label) it
+        go (bad n) e q = absurd (stop-never (Refusal n p) q)
+        go end e q = absurd (stop-never (ended p (drop p file)) q)
+        go (on n st′) e q = absurd (let z : _≡_ {A = ℕ} 0 1 = cc in omega arith)
+        go (made n r st′) e q = recorded-kept _ _ r _ q ∙ sym (kept-is-drop version file first S n r st′ e)

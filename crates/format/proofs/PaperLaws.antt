@@ -14,7 +14,7 @@ use Rattle.format.specs.Header.{Header}
 use Rattle.format.specs.Label.{Labelled, tooShort, tooLong, labelled, labelStep}
 use Rattle.format.specs.declared.Cut.the-variants.{Back}
 use Rattle.format.specs.Items.{dimensionsOf, Style, NoDate, Date, Error, Xsect, Label, Line}
-use Rattle.format.specs.State.{State, start, Record, leg, station, section, error, named, Next, bad, end, on, made, onLabel, legFrom, apply}
+use Rattle.format.specs.State.{State, start, Record, leg, station, section, error, named, Next, bad, end, on, made, onLabel, apply}
 use Rattle.format.specs.Sheet.{sheetVersion, dimensionBytes, layoutAll, sheetOf, recordsOf}
 use Rattle.format.specs.WellFormed.{GoodDimensions}
 use Rattle.format.specs.Codes.{allShort, headerCodes}
@@ -98,7 +98,8 @@ sameRecord style date end = end
 sameRecord style date (on n st) = on n (restyled style date st)
 sameRecord style date (made n r st) = made n r (restyled style date st)
 
-same-labelled : (style : ℕ) (date : Dated) (x : Labelled) (go : List ℕ → Next) → onLabel x (λ l. sameRecord style date (go l)) ≡ sameRecord style date (onLabel x go)
+same-labelled : (style : ℕ) (date : Dated) (x : Labelled) (go : List ℕ → Next)
+    → onLabel x (λ l. sameRecord style date (go l)) ≡ sameRecord style date (onLabel x go)
 same-labelled style date tooShort go = refl
 same-labelled style date tooLong go = refl
 same-labelled style date (labelled l) go = refl
@@ -110,7 +111,8 @@ module _ (style : ℕ) (date : Dated) (st : State) (n : ℕ) where
 
   pub station-untouched : (flags : ℕ) (p : Point) (d : ℕ) (added : List ℕ)
       → apply (restyled style date st) n (Label flags p d added) ≡ sameRecord style date (apply st n (Label flags p d added))
-  station-untouched flags p d added = same-labelled style date (labelStep (st .label) (Back d) added) (λ l. made n (station (record { flags = flags; place = p }) l) (named l st))
+  station-untouched flags p d added = same-labelled style date (labelStep (st .label) (Back d) added)
+      (λ l. made n (station (record { flags = flags; place = p }) l) (named l st))
 
 -- a section is the same record whatever style is
 pub section-untouched : (style : ℕ) (st : State) (n last : ℕ) (dims : Dimensions) (d : ℕ) (added : List ℕ)
@@ -194,15 +196,18 @@ module _ (h : Header) (rs : List Record) (j : ℕ) where
   sheet-parts = ap (sheetOf sheetVersion h) (sym (take-append-drop j rs)) ∙ sheet-append h (take j rs) (drop j rs)
 
   pub sheet-before : take (sheetPlace h rs j) (sheetOf sheetVersion h rs) ≡ sheetOf sheetVersion h (take j rs)
-  sheet-before = ap (take (sheetPlace h rs j)) sheet-parts ∙ take-at (sheetOf sheetVersion h (take j rs)) (layoutAll sheetVersion (drop j rs)) (sheetPlace h rs j) refl
+  sheet-before = ap (take (sheetPlace h rs j)) sheet-parts ∙ take-at (sheetOf sheetVersion h (take j rs)) (layoutAll sheetVersion (drop j rs))
+      (sheetPlace h rs j) refl
 
   pub sheet-from : drop (sheetPlace h rs j) (sheetOf sheetVersion h rs) ≡ layoutAll sheetVersion (drop j rs)
-  sheet-from = ap (drop (sheetPlace h rs j)) sheet-parts ∙ drop-at (sheetOf sheetVersion h (take j rs)) (layoutAll sheetVersion (drop j rs)) (sheetPlace h rs j) refl
+  sheet-from = ap (drop (sheetPlace h rs j)) sheet-parts ∙ drop-at (sheetOf sheetVersion h (take j rs)) (layoutAll sheetVersion (drop j rs))
+      (sheetPlace h rs j) refl
 
 -- the old sheet's bytes before the run, those of the replacement, and the old sheet's after the run
 pub edited-sheet : (h : Header) (rs : List Record) (first count : ℕ) (ns : List Record)
     → sheetOf sheetVersion h (edited rs first count ns)
-    ≡ take (sheetPlace h rs first) (sheetOf sheetVersion h rs) ++ (layoutAll sheetVersion ns ++ drop (sheetPlace h rs (first + count)) (sheetOf sheetVersion h rs))
+    ≡ take (sheetPlace h rs first) (sheetOf sheetVersion h rs) ++
+    (layoutAll sheetVersion ns ++ drop (sheetPlace h rs (first + count)) (sheetOf sheetVersion h rs))
 unfolding edited
 edited-sheet h rs first count ns =
     rw (sheet-before h rs first, sheet-from h rs (first + count))

@@ -1,9 +1,9 @@
 -- Any writer whose codes are read back: the records that it writes in a row, with the closing codes, are read back as their images. v8 gives
 -- back every record as it is, v7 with its style not said. Assumes nothing.
 use Prim.Native.Nat.{ℕ, _+_, _≤_}
-use mathlib.Core.Path.{_≡_, refl, sym, ap, _∙_}
+use mathlib.Core.Path.{_≡_, refl, ap, _∙_}
 use mathlib.Core.List.{List, [], _∷_, map, _++_, append-assoc}
-use mathlib.Core.Bool.{Bool, true, false}
+use mathlib.Core.Bool.{false}
 use native.Mathlib.Omega.{arith}
 use lib.ListN.{length}
 use lib.Seq.{drop-append-seam}
@@ -11,8 +11,8 @@ use lib.Dec.{eqb}
 use borrow.Author.Tests.{eqb-false}
 use Rattle.format.specs.Header.{Header, opened, openingOf, fileLimit}
 use Rattle.format.specs.Label.{labelLimit}
-use Rattle.format.specs.State.{notSaid, State, start, Record}
-use Rattle.format.specs.Refusals.{Result, stop, also}
+use Rattle.format.specs.State.{State, start, Record}
+use Rattle.format.specs.Refusals.{stop, also}
 use Rattle.format.specs.declared.Verdict.the-variants.{Good}
 use Rattle.format.specs.WellFormed.{GoodHeader, WellFormed, AllWellFormed}
 use Rattle.format.specs.Reading.{run}

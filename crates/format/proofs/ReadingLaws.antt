@@ -1,27 +1,27 @@
 -- Laws of reading: every item uses at least one byte that is there (progress), the equation of `run`, and the label's bound, once for all
 -- versions. Assumes nothing.
-use Prim.Native.Nat.{ℕ, zero, suc, _+_, _-_, _/_, _%_, _≤_, _<_}
+use Prim.Native.Nat.{ℕ, _+_, _-_, _≤_, _<_}
 use mathlib.Core.Path.{_≡_, refl, sym, ap, _∙_, subst}
-use mathlib.Core.List.{List, [], _∷_, _++_}
-use mathlib.Core.Bool.{Bool, true, false, _&&_}
+use mathlib.Core.Bool.{true}
+use mathlib.Core.List.{List, []}
 use native.Mathlib.Omega.{arith}
-use lib.ListN.{length, getD, take, drop, length-append, length-take, length-drop}
-use lib.Dec.{eqb, ltb, leb}
+use lib.ListN.{length, getD, take, drop, length-drop}
 use lib.Seq.{drop-drop}
 use borrow.Rule.Slice.PartAt.{part-to-end}
-use borrow.Author.Tests.{ltb-true, ltb-false, lt-ltb, le-ltb}
-use Rattle.format.specs.Bytes.{pick, le16, le32}
+use borrow.Author.Tests.{ltb-false, lt-ltb, le-ltb}
+use Rattle.format.specs.Bytes.{pick}
 use Rattle.format.specs.Label.{labelStep, labelLimit}
 use Rattle.format.specs.declared.Cut.{Cut}
 use Rattle.format.specs.declared.Cut.the-variants.{Empty, Back}
-use Rattle.format.specs.Items.{Item, Stop, Shorten, Style, Move, NoDate, Date, Error, Xsect, Label, Line, Decoded, faulty, whole, reserved, sized, withPart, behindCode, labelledItem, stationItem, lineItem, sectionItem, moveItem, errorItem, dayItem, spanItem, daysItem, secondsItem, twoSecondsItem, oldPart, newPart, oldDateItem, v7DateItem, oldMiddleItem, oldLowItem, oldHighItem, newDateItem, newLowItem, newHighItem, itemOf}
+use Rattle.format.specs.Items.{Item, Stop, Shorten, Style, Move, NoDate, Date, Error, Xsect, Label, Line, Decoded, faulty, whole, sized}
+use Rattle.format.specs.Items.{behindCode, labelledItem, stationItem, lineItem, sectionItem, moveItem, errorItem, dayItem, spanItem, daysItem}
+use Rattle.format.specs.Items.{secondsItem, twoSecondsItem, oldPart, newPart, oldDateItem, v7DateItem, oldMiddleItem, oldLowItem, oldHighItem}
+use Rattle.format.specs.Items.{newDateItem, newLowItem, newHighItem, itemOf}
 use Rattle.format.specs.declared.LabelPart.{LabelPart}
 use Rattle.format.specs.declared.LabelPart.the-variants.{Unfinished, Numbers}
-use Rattle.format.specs.State.{State, start, Record, Next, bad, end, on, made, onLabel, apply, nextOf}
-use Rattle.format.specs.Iterate.{iter}
+use Rattle.format.specs.State.{State, Record, Next, bad, end, on, made, onLabel, apply, nextOf}
 use Rattle.format.specs.Refusals.{Result, stop, also}
 use Rattle.format.specs.declared.Verdict.the-variants.{Good, Refusal}
-use Rattle.format.specs.declared.Verdict.{Verdict}
 use Rattle.format.specs.Reading.{next, ended, afterItem, readStep, run, Reached, begins, goes, makes}
 use Rattle.format.specs.declared.Point.{Point}
 use Rattle.format.specs.declared.Position.the-variants.{Unset}
@@ -145,7 +145,8 @@ SizedNext m (on n st) = (1 ≤ n) × (n ≤ m)
 SizedNext m (made n r st) = (1 ≤ n) × (n ≤ m)
 
 module _ (m : ℕ) (st : State) (n : ℕ) (h : 1 ≤ n) (k : n ≤ m) where
-  sized-label : (cut : Cut) (added : List ℕ) (go : List ℕ → Next) → ((l : List ℕ) → SizedNext m (go l)) → SizedNext m (onLabel (labelStep (st .label) cut added) go)
+  sized-label : (cut : Cut) (added : List ℕ) (go : List ℕ → Next) → ((l : List ℕ) → SizedNext m (go l))
+      → SizedNext m (onLabel (labelStep (st .label) cut added) go)
   sized-label cut added go f = label-case (SizedNext m) (st .label) cut added go tt tt (λ l z. f l)
 
   sized-apply : (it : Item) → SizedNext m (apply st n it)
@@ -190,7 +191,8 @@ unfolding readStep
 read-cong version at s st f g e = after-cong (length s) (next version s st) at s f g (next-sized version s st) e
 
 -- reading s is reading its first item, and then what follows it
-pub run-eq : (version at : ℕ) (s : List ℕ) (st : State) → run version at s st ≡ afterItem (next version s st) at s (λ n st′. run version (at + n) (drop n s) st′)
+pub run-eq : (version at : ℕ) (s : List ℕ) (st : State) → run version at s st ≡ afterItem (next version s st) at s
+    (λ n st′. run version (at + n) (drop n s) st′)
 unfolding run readStep
 run-eq version at s st = iter-eq (readStep version) (λ p. stop (Refusal 5 p)) (read-cong version) at s st
 
@@ -265,7 +267,8 @@ ShortNext (on n st) = length (st .label) ≤ labelLimit
 ShortNext (made n r st) = length (st .label) ≤ labelLimit
 
 module _ (st : State) (n : ℕ) (h : length (st .label) ≤ labelLimit) where
-  short-label : (cut : Cut) (added : List ℕ) (go : List ℕ → Next) → ((l : List ℕ) → length l ≤ labelLimit → ShortNext (go l)) → ShortNext (onLabel (labelStep (st .label) cut added) go)
+  short-label : (cut : Cut) (added : List ℕ) (go : List ℕ → Next) → ((l : List ℕ) → length l ≤ labelLimit → ShortNext (go l))
+      → ShortNext (onLabel (labelStep (st .label) cut added) go)
   short-label cut added go f = label-case ShortNext (st .label) cut added go tt tt f
 
   short-apply : (it : Item) → ShortNext (apply st n it)

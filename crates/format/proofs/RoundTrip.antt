@@ -8,18 +8,18 @@ use mathlib.Core.Bool.{Bool, true, false}
 use native.Mathlib.Omega.{arith}
 use lib.ListN.{length, getD, take, drop}
 use lib.Seq.{take-at, drop-append-seam}
-use lib.Dec.{ltb}
 use borrow.Author.Tests.{ltb-false, le-ltb}
 use Rattle.format.specs.Bytes.{pick, over, Bytes}
 use Rattle.format.specs.Header.{Header, opened, openingOf, fileLimit}
 use Rattle.format.specs.State.{State, start, Record}
 use Rattle.format.specs.Sheet.{sheetVersion, sheetOf, sheetResult, versionOf, frontHeader}
-use Rattle.format.specs.Refusals.{Result, orElse, accepted, refused, outcomeOf, bufferOf}
+use Rattle.format.specs.Refusals.{Result, orElse, accepted, outcomeOf, bufferOf}
 use Rattle.format.specs.declared.Verdict.the-variants.{Good, Refusal}
 use Rattle.format.specs.declared.Verdict.{Verdict}
 use Rattle.format.specs.WellFormed.{GoodHeader, AllWellFormed}
 use Rattle.format.specs.Reading.{itemsOf, sheetFrom, readOutcome, readBuffer}
-use Rattle.format.specs.Writing.{Writer, v8, v7, encodeAll, fileOf, recordsVerdict, sizeVerdict, writingVerdict, writtenOutcome, filedOutcome, headedBy, writeOutcome, writeBuffer, twin, v7Twin}
+use Rattle.format.specs.Writing.{Writer, v8, v7, encodeAll, fileOf, recordsVerdict, sizeVerdict, writingVerdict, writtenOutcome, filedOutcome}
+use Rattle.format.specs.Writing.{headedBy, writeOutcome, writeBuffer, twin, v7Twin}
 use Rattle.format.specs.Codes.{headerCodes}
 use Rattle.format.proofs.Basics.{second-picked}
 use Rattle.format.proofs.RefusalLaws.{never}
@@ -44,7 +44,8 @@ pub record Accepted (v : Verdict) (bytes records version room b n w : ℕ) : Typ
   pub version-is : w ≡ version
   pub fits : bytes ≤ room
 
-pub accepted-means : (v : Verdict) (bytes records version room b n w : ℕ) → outcomeOf v bytes records version room ≡ accepted b n w → Accepted v bytes records version room b n w
+pub accepted-means : (v : Verdict) (bytes records version room b n w : ℕ) → outcomeOf v bytes records version room ≡ accepted b n w
+    → Accepted v bytes records version room b n w
 accepted-means Good bytes records version room b n w e =
     let p = second-picked (never 11 bytes b n w) e in
     let q = p .1 in
@@ -57,7 +58,7 @@ accepted-fits A = let q = A .bytes-are in let r = A .fits in omega arith
 
 -- ---- lists
 
-map-same : (rs : List Record) → map (λ r. r) rs ≡ rs
+pub map-same : (rs : List Record) → map (λ r. r) rs ≡ rs
 map-same [] = refl
 map-same (r ∷ rs) = ap (λ (xs : List Record). r ∷ xs) (map-same rs)
 
@@ -88,7 +89,14 @@ module _ (k : Writer) (h : Header) (x : Result) (room b n v : ℕ) (e : writtenO
       let A = accepted-written in
       let y = both-good (x .verdict) (orElse (recordsVerdict k 0 start (x .records)) (sizeVerdict (length whole))) (A .fine) in
       let z = both-good (recordsVerdict k 0 start (x .records)) (sizeVerdict (length whole)) (y .1) in
-      record { given = y .0; writable = z .0; small = size-fits (length whole) (z .1); bytes-are = A .bytes-are; records-are = A .records-are; version-is = A .version-is }
+      record {
+        given = y .0;
+        writable = z .0;
+        small = size-fits (length whole) (z .1);
+        bytes-are = A .bytes-are;
+        records-are = A .records-are;
+        version-is = A .version-is;
+      }
 
   -- it leaves the file at the buffer's front
   pub writes-file : (old : List ℕ) → take b (bufferOf (accepted b n v) whole old) ≡ whole
@@ -105,7 +113,8 @@ module _ (k : Writer) (h : Header) (x : Result) (room b n v : ℕ) (e : writtenO
 
 -- what is written of a sheet by a writer: its header is one that the writer can write
 module _ (k : Writer) (h : Header) (x : Result) (room b n v : ℕ) where
-  headed-writes : (barred : Bool) → writtenOutcome k h (headedBy barred (k .number) x) room ≡ accepted b n v → (barred ≡ false) × (writtenOutcome k h x room ≡ accepted b n v)
+  headed-writes : (barred : Bool) → writtenOutcome k h (headedBy barred (k .number) x) room ≡ accepted b n v → (barred ≡ false)
+      × (writtenOutcome k h x room ≡ accepted b n v)
   headed-writes false e = (refl, e)
   headed-writes true e =
       let w = writes k h (headedBy true (k .number) x) room b n v e in
@@ -113,7 +122,9 @@ module _ (k : Writer) (h : Header) (x : Result) (room b n v : ℕ) where
 
 -- ---- a file that was written, read
 
-module _ {w : Writer} {image : Record → Record} {Fits : State → Type 0} (B : ReadsBack w image Fits) (h : Header) (g : GoodHeader h) (able : w .bars h ≡ false) (rs : List Record) (formed : AllWellFormed rs) (s : recordsVerdict w 0 start rs ≡ Good) (small : length (fileOf w h rs) ≤ fileLimit) where
+module _ {w : Writer} {image : Record → Record} {Fits : State → Type 0} (B : ReadsBack w image Fits) (h : Header) (g : GoodHeader h)
+    (able : w .bars h ≡ false) (rs : List Record) (formed : AllWellFormed rs) (s : recordsVerdict w 0 start rs ≡ Good)
+    (small : length (fileOf w h rs) ≤ fileLimit) where
   pub file-opens : openingOf (fileOf w h rs) ≡ opened (w .version) (length (w .head h)) h
   unfolding fileOf
   file-opens = B .opens h g able (encodeAll w start rs) small
@@ -122,7 +133,8 @@ module _ {w : Writer} {image : Record → Record} {Fits : State → Type 0} (B :
   unfolding itemsOf fileOf
   file-items = rw (drop-append-seam (w .head h) (encodeAll w start rs)) (encode-read B rs 0 start (B .starts) formed s (length (w .head h)))
 
-  pub file-outcome : (room : ℕ) → readOutcome (fileOf w h rs) room ≡ outcomeOf Good (length (sheetOf sheetVersion h (map image rs))) (length rs) (w .version) room
+  pub file-outcome : (room : ℕ) → readOutcome (fileOf w h rs) room ≡ outcomeOf Good (length (sheetOf sheetVersion h (map image rs))) (length rs) (w .version)
+      room
   unfolding readOutcome
   file-outcome room = rw (file-opens, file-items, length-map image rs)
 
@@ -130,7 +142,8 @@ module _ {w : Writer} {image : Record → Record} {Fits : State → Type 0} (B :
   file-sheet = rw (file-opens, file-items)
 
 -- v8 gives back each record as it was
-module _ (h : Header) (g : GoodHeader h) (rs : List Record) (formed : AllWellFormed rs) (s : recordsVerdict v8 0 start rs ≡ Good) (small : length (fileOf v8 h rs) ≤ fileLimit) where
+module _ (h : Header) (g : GoodHeader h) (rs : List Record) (formed : AllWellFormed rs) (s : recordsVerdict v8 0 start rs ≡ Good)
+    (small : length (fileOf v8 h rs) ≤ fileLimit) where
   pub written-opens : openingOf (fileOf v8 h rs) ≡ opened 8 (length (headerCodes h)) h
   written-opens = file-opens v8-reads-back h g refl rs formed s small
 
@@ -143,7 +156,8 @@ module _ (h : Header) (g : GoodHeader h) (rs : List Record) (formed : AllWellFor
 abbrev pub fileIn : ℕ → List ℕ → List ℕ
 fileIn bytes buffer = take bytes buffer
 
-module _ {w : Writer} {image : Record → Record} {Fits : State → Type 0} (B : ReadsBack w image Fits) (sheet : List ℕ) (bytes : Bytes sheet) (old : List ℕ) (b n v : ℕ) (e : writeOutcome w sheet (length old) ≡ accepted b n v) where
+module _ {w : Writer} {image : Record → Record} {Fits : State → Type 0} (B : ReadsBack w image Fits) (sheet : List ℕ) (bytes : Bytes sheet) (old : List ℕ)
+    (b n v : ℕ) (e : writeOutcome w sheet (length old) ≡ accepted b n v) where
   abbrev h : Header
   h = frontHeader sheet
 
@@ -200,7 +214,8 @@ module _ (sheet : List ℕ) (bytes : Bytes sheet) (old : List ℕ) (b n v : ℕ)
 
   pub twin-sheet : (new : List ℕ) → length (twin sheet) ≤ length new → readBuffer (take b (writeBuffer v8 sheet old)) new ≡ over (twin sheet) new
   unfolding twin
-  twin-sheet new fits = rw (map-same (sheetResult sheet .records)) at (image-sheet v8-reads-back sheet bytes old b n v e new (rw (map-same (sheetResult sheet .records)) fits))
+  twin-sheet new fits = rw (map-same (sheetResult sheet .records)) at
+      (image-sheet v8-reads-back sheet bytes old b n v e new (rw (map-same (sheetResult sheet .records)) fits))
 
   -- which of a version 2 sheet is the sheet itself
   module _ (two : getD sheet 0 0 ≡ sheetVersion) where

@@ -19,8 +19,6 @@ use Rattle.format.specs.Sheet.{sheetVersion, undatedVersion, pointBytes,
 use Rattle.format.specs.Refusals.{Result, stop, also}
 use Rattle.format.specs.declared.Verdict.the-variants.{Good, Refusal}
 use Rattle.format.specs.WellFormed.{GoodPoint, GoodDimensions, GoodTraverse, GoodDated, GoodLeg, GoodStation, GoodSection, WellFormed, AllWellFormed, GoodHeader}
-use Rattle.format.specs.declared.Point.{Point}
-use Rattle.format.specs.declared.Dimensions.{Dimensions}
 use Rattle.format.specs.declared.Traverse.{Traverse}
 use Rattle.format.specs.declared.Dated.{Dated}
 use Rattle.format.specs.declared.Dated.the-variants.{Undated, Day, Range}

@@ -15,7 +15,8 @@ use Rattle.format.specs.Refusals.{Result, stop, accepted}
 use Rattle.format.specs.declared.Verdict.the-variants.{Good, Refusal}
 use Rattle.format.specs.declared.Verdict.{Verdict}
 use Rattle.format.specs.Reading.{next, ended, afterItem, run, itemsOf, sheetFrom, readOutcome, readBuffer}
-use Rattle.format.specs.Stepping.{Stand, before, stopped, openStand, ends, refuses, Step, stopAnswer, halted, recorded, stepNext, stepOf, stops, Gathered, afterStep, gathered}
+use Rattle.format.specs.Stepping.{Stand, before, stopped, openStand, ends, refuses, Step, stopAnswer, halted, recorded, stepNext, stepOf, stops}
+use Rattle.format.specs.Stepping.{Gathered, afterStep, gathered}
 use Rattle.format.proofs.Basics.{pick-case}
 use Rattle.format.proofs.RoundTrip.{accepted-means}
 use Rattle.format.proofs.ReadingLaws.{SizedNext, next-sized, run-eq}
@@ -39,7 +40,8 @@ module _ (version : ℕ) (file : List ℕ) (bytes : Bytes file) (room : ℕ) (am
   -- one step and the rest, by what the item comes to
   step-gathers : (n p : ℕ) (st : State) (x : Next) → SizedNext (length (drop p file)) x → GoodNext x
       → ((m : ℕ) (st′ : State) → 1 ≤ m → m ≤ length (drop p file) → GoodState st′ → Gathers n (p + m) st′)
-      → afterStep (stepNext x version p st (drop p file) room .answer) (stepNext x version p st (drop p file) room .bytes) (gathered n (stepNext x version p st (drop p file) room .stand) file room)
+      → afterStep (stepNext x version p st (drop p file) room .answer) (stepNext x version p st (drop p file) room .bytes)
+      (gathered n (stepNext x version p st (drop p file) room .stand) file room)
       ≡ gatheredOf (afterItem x p (drop p file) (λ m st′. run version (p + m) (drop m (drop p file)) st′))
   unfolding recorded pick layoutAll
   step-gathers n p st (bad k) z g h = refl
@@ -71,7 +73,8 @@ module _ (file : List ℕ) (bytes : Bytes file) (room : ℕ) (ample : 4130 ≤ r
   steps-gather = rw opens (gathers v file bytes room ample (suc (length file)) p start start-good (simp length-drop (omega arith)))
 
   -- the reader has stopped, with the verdict of reading; and the bytes of its records, in order, are the sheet's after its header
-  pub steps-are-records : (steps .halt ≡ stops (itemsOf v p file .verdict)) × (sheetFrom (openingOf file) file ≡ sheetVersion ∷ (headerLayout h ++ steps .bytes))
+  pub steps-are-records : (steps .halt ≡ stops (itemsOf v p file .verdict))
+      × (sheetFrom (openingOf file) file ≡ sheetVersion ∷ (headerLayout h ++ steps .bytes))
   unfolding sheetOf
   steps-are-records = (ap (λ (g : Gathered). g .halt) steps-gather, rw (opens, steps-gather))
 

@@ -5,15 +5,17 @@ use mathlib.Core.Path.{_≡_, refl}
 use mathlib.Core.List.{List, [], _∷_, _++_}
 use lib.ListN.{replicate}
 use Rattle.format.specs.Bytes.{pick, le16, le32, be16, be32, toLe16, toLe32, toBe16, toBe32, same}
-use Rattle.format.specs.Header.{Header, magic, lineEnd, endsInReturn}
-use Rattle.format.specs.State.{State, start, named, moved, datedBy, Record, leg, station, section, error}
+use Rattle.format.specs.Header.{magic, lineEnd, endsInReturn}
+use Rattle.format.specs.State.{start, named, moved, Record, station}
 use Rattle.format.specs.Iterate.{iter, iterUp}
 use Rattle.format.specs.Refusals.{accepted, refused}
-use Rattle.format.specs.Sheet.{sheetVersion, layout, layoutAll, headerLayout, sheetOf, goodDate, dateFrom, legEntry, stationEntry, sectionEntry, bodyEntry, framed, entryOf, recordsStep, recordsFrom, recordsOf, goodText, goodHeader, goodFront, frontHeader, behindFront, versionResult, versionOf, sheetResult}
+use Rattle.format.specs.Sheet.{sheetVersion, layout, layoutAll, headerLayout, sheetOf, goodDate, dateFrom, legEntry, stationEntry, sectionEntry}
+use Rattle.format.specs.Sheet.{bodyEntry, framed, entryOf, recordsStep, recordsFrom, recordsOf, goodText, goodHeader, goodFront, frontHeader}
+use Rattle.format.specs.Sheet.{behindFront, versionResult, versionOf, sheetResult}
 use Rattle.format.specs.Codes.{common, sameDate, dateIf, samePoint, moveIf, fitsShort, allShort}
-use Rattle.format.specs.V7Codes.{sixteens, trimCodes, shortenCodes, oldLengthCodes, addedCodes, labelledCodes, v7Dates, v7SectionCodes, v7Codes, v7Closing, v7HeaderCodes}
+use Rattle.format.specs.V7Codes.{sixteens, trimCodes, shortenCodes, oldLengthCodes, addedCodes, labelledCodes, v7Dates, v7SectionCodes, v7Codes}
+use Rattle.format.specs.V7Codes.{v7Closing, v7HeaderCodes}
 use Rattle.format.specs.Writing.{v7, codesAll, afterAll, encodeAll, fileOf, recordsVerdict, sizeVerdict, filedOutcome, writtenOutcome, writeOutcome}
-use Rattle.format.specs.declared.Dated.{Dated}
 use Rattle.format.specs.declared.Dated.the-variants.{Undated, Day, Range}
 use Rattle.format.proofs.Cases.{Shown, written, answer, Row, origin, givens, dues}
 use Rattle.format.proofs.Edges.{legOf, sectionOf}
@@ -68,7 +70,10 @@ table =
     ∷ record { given = written (dateIf v7Dates (Day 1) Undated); due = written (0x24 ∷ []) }
     ∷ record { given = written (v7Codes start (sectionOf (Day 1))); due = written (0x20 ∷ 0x01 ∷ 0x00 ∷ 0x30 ∷ 0x01 ∷ 97 ∷ replicate 8 0) }
     -- "These codes stand straight before the item, after date and MOVE"; "without style codes"
-    ∷ record { given = written (v7Codes (named (97 ∷ []) start) (legOf 0 (Day 1))); due = written (0x20 ∷ 0x01 ∷ 0x00 ∷ 0x0f ∷ (replicate 12 0 ++ (0x00 ∷ 0x80 ∷ 0x00 ∷ replicate 12 0))) }
+    ∷ record {
+      given = written (v7Codes (named (97 ∷ []) start) (legOf 0 (Day 1)));
+      due = written (0x20 ∷ 0x01 ∷ 0x00 ∷ 0x0f ∷ (replicate 12 0 ++ (0x00 ∷ 0x80 ∷ 0x00 ∷ replicate 12 0)));
+    }
     ∷ record { given = written (v7Codes (moved origin start) (legOf 5 Undated)); due = written (0x80 ∷ 0x00 ∷ replicate 12 0) }
     -- "To close, 00 if the label is not empty, then 00"
     ∷ record { given = written (v7Closing []); due = written (0x00 ∷ []) }
@@ -88,5 +93,9 @@ table =
     ∷ []
 
 pub v7-cases : givens table ≡ dues table
-unfolding pick le16 le32 be16 be32 toLe16 toLe32 toBe16 toBe32 same magic lineEnd endsInReturn iter iterUp layout layoutAll headerLayout sheetOf goodDate dateFrom legEntry stationEntry sectionEntry bodyEntry framed entryOf recordsStep recordsFrom recordsOf goodText goodHeader goodFront frontHeader behindFront versionResult versionOf sheetResult common sameDate dateIf samePoint moveIf fitsShort allShort sixteens trimCodes shortenCodes oldLengthCodes addedCodes labelledCodes v7SectionCodes v7Closing v7HeaderCodes codesAll afterAll encodeAll fileOf recordsVerdict sizeVerdict filedOutcome writtenOutcome writeOutcome
+unfolding pick le16 le32 be16 be32 toLe16 toLe32 toBe16 toBe32 same magic lineEnd endsInReturn iter iterUp layout layoutAll headerLayout sheetOf goodDate
+    dateFrom legEntry stationEntry sectionEntry bodyEntry framed entryOf recordsStep recordsFrom recordsOf goodText goodHeader goodFront frontHeader
+    behindFront versionResult versionOf sheetResult common sameDate dateIf samePoint moveIf fitsShort allShort sixteens trimCodes shortenCodes oldLengthCodes
+    addedCodes labelledCodes v7SectionCodes v7Closing v7HeaderCodes codesAll afterAll encodeAll fileOf recordsVerdict sizeVerdict filedOutcome writtenOutcome
+    writeOutcome
 v7-cases = refl

@@ -2,28 +2,30 @@
 -- whose style is not said, reading the codes of a record makes that record, its style not said, leaves the state that writing leaves, and goes
 -- on at what follows. Assumes nothing.
 use Prim.Native.Nat.{ℕ, zero, suc, _+_, _-_, _*_, _/_, _%_, _≤_, _<_}
-use mathlib.Core.Path.{_≡_, refl, sym, ap, _∙_, subst}
+use mathlib.Core.Path.{_≡_, refl, sym, _∙_, subst}
 use mathlib.Core.List.{List, [], _∷_, _++_, append-assoc, append-nil}
-use mathlib.Core.Bool.{Bool, true, false}
+use mathlib.Core.Bool.{false}
 use native.Mathlib.Omega.{arith}
 use lib.ListN.{length, take, drop, length-append, length-drop}
-use lib.Seq.{take-take, take-all, length-take-le, drop-append-seam}
+use lib.Seq.{take-take, take-all, length-take-le}
 use lib.Dec.{eqb, ltb}
-use borrow.Author.Tests.{ltb-true, ltb-false, eqb-true, eqb-false, lt-ltb, le-ltb, eq-eqb, ne-eqb}
+use borrow.Author.Tests.{ltb-true, ltb-false, eqb-true, eqb-false, lt-ltb, le-ltb, ne-eqb}
 use Rattle.format.specs.Bytes.{pick, le16, le32, toLe16, toLe32}
 use Rattle.format.specs.Label.{keptOf, labelled, labelStep, labelLimit}
 use Rattle.format.specs.declared.Kept.the-variants.{Keeps}
 use Rattle.format.specs.declared.Cut.the-variants.{Trim, Back}
-use Rattle.format.specs.Items.{Shorten, whole, oldPart, stationItem, lineItem, sectionItem, moveItem, errorItem, v7DateItem, oldMiddleItem, oldLowItem, oldHighItem, itemOf}
+use Rattle.format.specs.Items.{Shorten, whole, oldPart, stationItem, lineItem, sectionItem, moveItem, errorItem, v7DateItem, oldMiddleItem}
+use Rattle.format.specs.Items.{oldLowItem, oldHighItem, itemOf}
 use Rattle.format.specs.declared.LabelPart.the-variants.{Numbers}
 use Rattle.format.specs.State.{notSaid, State, Record, leg, station, section, error, named, datedBy, moved, on, made}
 use Rattle.format.specs.Sheet.{pointBytes, dimensionBytes, traverseBytes}
-use Rattle.format.specs.WellFormed.{GoodDated, GoodLeg, GoodStation, GoodSection, WellFormed}
+use Rattle.format.specs.WellFormed.{GoodLeg, GoodStation, GoodSection, WellFormed}
 use Rattle.format.specs.Refusals.{stop}
 use Rattle.format.specs.declared.Verdict.the-variants.{Good}
 use Rattle.format.specs.Reading.{next, run}
 use Rattle.format.specs.Codes.{common, dateIf, moveIf, allShort}
-use Rattle.format.specs.V7Codes.{sixteens, trimCodes, shortenCodes, oldLengthCodes, addedCodes, labelledCodes, v7Dates, v7SectionCodes, v7Codes, unstyled, v7After, v7Closing, v7Unable}
+use Rattle.format.specs.V7Codes.{sixteens, trimCodes, shortenCodes, oldLengthCodes, addedCodes, labelledCodes, v7Dates, v7SectionCodes, v7Codes}
+use Rattle.format.specs.V7Codes.{unstyled, v7After, v7Closing, v7Unable}
 use Rattle.format.specs.declared.Dated.{Dated}
 use Rattle.format.specs.declared.Position.{Position}
 use Rattle.format.specs.declared.Position.the-variants.{Stands}
@@ -36,7 +38,8 @@ use Rattle.format.proofs.ApplyLaws.{stop-end, stop-empties}
 use Rattle.format.proofs.ReadingLaws.{run-done, run-on}
 use Rattle.format.proofs.GoingLaws.{Goes, stays, goes-as, goes-on, goes-made, goes-append}
 use Rattle.format.proofs.WritingLaws.{Shares, common-shares, label-read}
-use Rattle.format.proofs.WrittenItems.{there, PartRead, station-read-back, line-read-back, short-section-read-back, wide-section-read-back, DatesRead, date-if-read, move-if-read, error-next}
+use Rattle.format.proofs.WrittenItems.{there, PartRead, station-read-back, line-read-back, short-section-read-back, wide-section-read-back}
+use Rattle.format.proofs.WrittenItems.{DatesRead, date-if-read, move-if-read, error-next}
 
 -- ---- which item a code of v7 is
 
@@ -149,7 +152,8 @@ module _ (rest : List ℕ) where
       (λ q.
       let z = eqb-false r 0 q in
       let y : length (st .label) - (0x0f + r - 15) ≡ k = omega arith in
-      goes-on ((0x0f + r) ∷ []) rest st (named (take k (st .label)) st) (rw y at (trim-next st rest (0x0f + r) (omega (arith, z)) (omega arith) (omega arith) m)))
+      goes-on ((0x0f + r) ∷ []) rest st (named (take k (st .label)) st)
+      (rw y at (trim-next st rest (0x0f + r) (omega (arith, z)) (omega arith) (omega arith) m)))
 
 trims-go : (k : ℕ) (st : State) (rest : List ℕ) → k ≤ length (st .label) → 0 < k → length (st .label) ≤ labelLimit
     → Goes 7 (trimCodes (length (st .label) - k) ++ rest) st [] (length (trimCodes (length (st .label) - k))) (named (take k (st .label)) st)
@@ -226,7 +230,11 @@ module _ (st : State) (rest : List ℕ) (hl : length (st .label) ≤ labelLimit)
   station-go s g h =
       let z : 0x40 + s .flags - 0x40 ≡ s .flags = omega arith in
       labelled-go (0x40 + s .flags) (pointBytes toLe32 (s .place)) (station s m) (named m st)
-      (rw (station-read-back 7 (part-back m k hm) (0x40 + s .flags) rest (s .flags) (s .place) (λ t. code-station (0x40 + s .flags) t (omega arith) (omega arith) ∙ rw z) (g .place-fits), label-on (st .label) m k (common-shares (st .label) m) hm))
+      (rw (
+        station-read-back 7 (part-back m k hm) (0x40 + s .flags) rest (s .flags) (s .place)
+            (λ t. code-station (0x40 + s .flags) t (omega arith) (omega arith) ∙ rw z) (g .place-fits),
+        label-on (st .label) m k (common-shares (st .label) m) hm,
+      ))
 
   -- XSECT, where the date is the section's
   xsect-go : (s : Section) → GoodSection s m → st .setting .date ≡ s .date
@@ -240,10 +248,20 @@ module _ (st : State) (rest : List ℕ) (hl : length (st .label) ≤ labelLimit)
       pick-case (λ (x : List ℕ). Goes 7 (x ++ rest) st (section s m ∷ []) (length x) (named m st)) (allShort d) _ _
       (λ q.
       labelled-go (0x30 + s .last) (dimensionBytes toLe16 d) (section s m) (named m st)
-      (rw (short-section-read-back 7 (part-back m k hm) (0x30 + s .last) rest (s .last) d (is (0x30 + s .last) (omega arith) (omega arith)) (omega arith) (g .dimensions-fit) (omega arith) q, e, hd)))
+      (rw (
+        short-section-read-back 7 (part-back m k hm) (0x30 + s .last) rest (s .last) d (is (0x30 + s .last) (omega arith) (omega arith)) (omega arith)
+            (g .dimensions-fit) (omega arith) q,
+        e,
+        hd,
+      )))
       (λ q.
       labelled-go (0x32 + s .last) (dimensionBytes toLe32 d) (section s m) (named m st)
-      (rw (wide-section-read-back 7 (part-back m k hm) (0x32 + s .last) rest (s .last) d (is (0x32 + s .last) (omega arith) (omega arith)) (omega arith) (g .dimensions-fit) (omega arith), e, hd)))
+      (rw (
+        wide-section-read-back 7 (part-back m k hm) (0x32 + s .last) rest (s .last) d (is (0x32 + s .last) (omega arith) (omega arith)) (omega arith)
+            (g .dimensions-fit) (omega arith),
+        e,
+        hd,
+      )))
 
   -- LINE, where date and position are the leg's and the style is not said
   line-go : (g : Leg) → GoodLeg g m → st .setting .style ≡ notSaid → st .setting .date ≡ g .date → st .setting .position ≡ Stands (g .from)
@@ -254,7 +272,12 @@ module _ (st : State) (rest : List ℕ) (hl : length (st .label) ≤ labelLimit)
       let z : 0x80 + g .flags - 0x80 ≡ g .flags = omega arith in
       let f = w .flags-fit in
       labelled-go (0x80 + g .flags) (pointBytes toLe32 (g .to)) (unstyled (leg g m)) (moved (g .to) (named m st))
-      (rw (line-read-back 7 (part-back m k hm) (0x80 + g .flags) rest (g .flags) (g .to) (λ t. code-line (0x80 + g .flags) t (omega arith) (omega arith) ∙ rw z) (w .to-fits), label-on (st .label) m k (common-shares (st .label) m) hm, hp)
+      (rw (
+        line-read-back 7 (part-back m k hm) (0x80 + g .flags) rest (g .flags) (g .to)
+            (λ t. code-line (0x80 + g .flags) t (omega arith) (omega arith) ∙ rw z) (w .to-fits),
+        label-on (st .label) m k (common-shares (st .label) m) hm,
+        hp,
+      )
       (rw (hs, hd)))
 
 -- ---- the codes of a record
@@ -289,9 +312,11 @@ module _ (l : List ℕ) (date : Dated) (position : Position) (hl : length l ≤ 
       let D = dateIf v7Dates date (s .date) in
       let X = v7SectionCodes l s m in
       goes-as (sym (append-assoc D X rest)) (sym (length-append D X))
-      (goes-append D (X ++ rest) (date-if-read dates-read here (X ++ rest) (s .date) (w .date-fits)) (xsect-go (datedBy (s .date) here) rest hl m (w .label-fits) s w refl))
+      (goes-append D (X ++ rest) (date-if-read dates-read here (X ++ rest) (s .date) (w .date-fits))
+      (xsect-go (datedBy (s .date) here) rest hl m (w .label-fits) s w refl))
 
-  record-go : (r : Record) → WellFormed r → v7Unable r ≡ false → Goes 7 (v7Codes here r ++ rest) here (unstyled r ∷ []) (length (v7Codes here r)) (v7After here r)
+  record-go : (r : Record) → WellFormed r → v7Unable r ≡ false
+      → Goes 7 (v7Codes here r ++ rest) here (unstyled r ∷ []) (length (v7Codes here r)) (v7After here r)
   record-go (leg g m) w u = leg-go g m w
   record-go (station s m) w u = station-go here rest hl m (w .label-fits) s w (ltb-false 0x1f (s .flags) u)
   record-go (section s m) w u = section-go s m w

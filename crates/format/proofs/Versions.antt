@@ -1,21 +1,20 @@
 -- The two versions of a sheet (#106): an old writer refuses version 2, no third version is taken, a version 1 section has no date, and a
 -- version 1 sheet and its version 2 twin are written alike. Assumes nothing.
-use Prim.Native.Nat.{ℕ, _+_, _<_, _≤_}
+use Prim.Native.Nat.{ℕ, _<_}
 use native.Mathlib.Omega.{arith}
 use mathlib.Core.Path.{_≡_, refl, sym, ap, _∙_}
-use mathlib.Core.List.{List, [], _∷_, _++_, append-nil}
-use mathlib.Core.Bool.{Bool, true, false, _&&_}
-use lib.ListN.{length, getD, take, drop, replicate}
-use lib.Dec.{eqb, leb}
-use borrow.Author.Tests.{eqb-true, ne-eqb, lt-leb}
+use mathlib.Core.List.{List, [], _∷_, _++_}
+use mathlib.Core.Bool.{false}
+use lib.ListN.{length, getD}
+use lib.Dec.{leb}
+use borrow.Author.Tests.{ne-eqb, lt-leb}
 use Rattle.format.specs.Bytes.{pick, be16, be32, toBe16, toBe32, Bytes}
-use Rattle.format.specs.Header.{Header}
-use Rattle.format.specs.Label.{labelLimit}
-use Rattle.format.specs.State.{State, Record, section}
-use Rattle.format.specs.Refusals.{Result, stop}
-use Rattle.format.specs.Sheet.{sheetVersion, undatedVersion, sectionSize, undatedSectionSize, undatedSectionBody, layout, Entry, flawed, entry, goodDate, dateFrom, sectionEntry, bodyEntry, framed, entryOf, goodFront, frontHeader, behindFront, recordsOf, versionResult, versionOf, sheetResult}
+use Rattle.format.specs.State.{State, section}
+use Rattle.format.specs.Refusals.{stop}
+use Rattle.format.specs.Sheet.{sheetVersion, undatedVersion, sectionSize, undatedSectionBody, layout, Entry, flawed, entry, goodDate, dateFrom}
+use Rattle.format.specs.Sheet.{sectionEntry, bodyEntry, framed, entryOf, goodFront, frontHeader, versionResult, versionOf, sheetResult}
 use Rattle.format.specs.Codes.{sameDate, v8Dates, dateIf, sectionCodes, codes}
-use Rattle.format.specs.Writing.{Writer, fileOf, writtenOutcome, writeOutcome, writeBuffer, twin}
+use Rattle.format.specs.Writing.{Writer, writeOutcome, writeBuffer, twin}
 use Rattle.format.specs.declared.Section.{Section}
 use Rattle.format.specs.declared.Dated.{Dated}
 use Rattle.format.specs.declared.Dated.the-variants.{Undated, Day, Range}
@@ -36,7 +35,8 @@ old-writer-refuses sheet e = other-version undatedVersion sheet (λ q. omega ari
 -- every byte but 01 and 02 is 12 at 0
 pub no-third-version : (sheet : List ℕ) → (getD sheet 0 0 ≡ undatedVersion → ⊥) → (getD sheet 0 0 ≡ sheetVersion → ⊥) → sheetResult sheet ≡ stop (Refusal 12 0)
 unfolding sheetResult versionOf
-no-third-version sheet h k = ap (λ (v : ℕ). versionResult v sheet) (pick-false undatedVersion sheetVersion (ne-eqb (getD sheet 0 0) undatedVersion h)) ∙ other-version sheetVersion sheet k
+no-third-version sheet h k = ap (λ (v : ℕ). versionResult v sheet) (pick-false undatedVersion sheetVersion (ne-eqb (getD sheet 0 0) undatedVersion h))
+    ∙ other-version sheetVersion sheet k
 
 -- ---- a version 1 section in a version 2 sheet
 
@@ -51,7 +51,8 @@ short-undated s label h =
     pick-case (λ (x : Entry). x ≡ flawed) (framed t) _ _ (λ e. simp k) (λ e. refl)
 
 -- one with a longer label is bad or another section, by its bytes: here left, right, up and down are 0 and the label is `abcdef`
-pub long-undated : entryOf sheetVersion (layout undatedVersion (section (record { last = 0; date = Undated; size = record { left = 0; right = 0; up = 0; down = 0 } }) (97 ∷ 98 ∷ 99 ∷ 100 ∷ 101 ∷ 102 ∷ [])))
+pub long-undated : entryOf sheetVersion (layout undatedVersion
+    (section (record { last = 0; date = Undated; size = record { left = 0; right = 0; up = 0; down = 0 } }) (97 ∷ 98 ∷ 99 ∷ 100 ∷ 101 ∷ 102 ∷ [])))
     ≡ entry 26 (section (record { last = 0; date = Undated; size = record { left = 0; right = 0; up = 97; down = 0x62636465 } }) (102 ∷ []))
 unfolding entryOf framed layout bodyEntry sectionEntry goodDate dateFrom pick be16 be32 toBe16 toBe32
 long-undated = refl
@@ -74,7 +75,8 @@ module _ (sheet : List ℕ) (bytes : Bytes sheet) (good : sheetResult sheet .ver
   pub twin-same : (sheetResult (twin sheet) ≡ sheetResult sheet) × (frontHeader (twin sheet) ≡ frontHeader sheet)
   unfolding twin
   twin-same =
-      let e : sheetResult sheet ≡ record { records = sheetResult sheet .records; verdict = Good } = λ i. record { records = sheetResult sheet .records; verdict = good i } in
+      let e : sheetResult sheet ≡ record { records = sheetResult sheet .records; verdict = Good } =
+      λ i. record { records = sheetResult sheet .records; verdict = good i } in
       let r = records-sheet sheet bytes (sheetResult sheet .records) e in
       let s = sheet-records (frontHeader sheet) (r .header) (sheetResult sheet .records) (r .formed) in
       (s .0 ∙ sym e, s .1)

@@ -1,40 +1,31 @@
 -- Laws of writing: any writer's codes of records in a row, and for v8 `codes-read`: from any state, reading the codes of a record makes
 -- exactly that record, leaves the state that writing leaves, and goes on at what follows. Assumes nothing.
-use Prim.Native.Nat.{ℕ, zero, suc, _+_, _-_, _*_, _/_, _%_, _≤_, _<_}
-use mathlib.Core.Path.{_≡_, refl, sym, ap, ap₂, _∙_, subst}
-use mathlib.Core.List.{List, [], _∷_, _++_, append-assoc, append-nil}
+use Prim.Native.Nat.{ℕ, suc, _+_, _-_, _*_, _/_, _%_, _≤_, _<_}
+use mathlib.Core.Path.{_≡_, refl, sym, ap, ap₂, _∙_}
+use mathlib.Core.List.{List, [], _∷_, _++_, append-assoc}
 use mathlib.Core.Bool.{Bool, true, false, _&&_, _||_, not}
-use native.Mathlib.Nat.{add-zero, add-assoc}
 use native.Mathlib.Omega.{arith}
-use lib.ListN.{length, getD, take, drop, length-append, length-take, length-drop, take-append-drop}
-use lib.Seq.{take-at, drop-at, take-append-seam, drop-append-seam, drop-append-add, drop-length}
+use lib.ListN.{length, take, drop, length-append, length-drop, take-append-drop}
+use lib.Seq.{drop-append-seam, drop-length}
 use lib.Dec.{eqb, ltb, leb}
-use borrow.Author.Tests.{ltb-true, ltb-false, leb-true, leb-false, eqb-true, eqb-false, lt-ltb, le-ltb, le-leb, lt-leb, eq-eqb, ne-eqb, not-false}
-use Rattle.format.specs.Bytes.{pick, same, le16, le32, toLe16, toLe32, widened}
-use Rattle.format.specs.Label.{keptOf, Labelled, labelled, appended, labelStep, labelLimit}
-use Rattle.format.specs.declared.Kept.{Kept}
-use Rattle.format.specs.declared.Kept.the-variants.{Keeps, Lacks}
-use Rattle.format.specs.declared.Cut.{Cut}
+use borrow.Author.Tests.{ltb-true, leb-true, eqb-true, eqb-false, lt-ltb, le-ltb, eq-eqb, ne-eqb, not-false}
+use Rattle.format.specs.Bytes.{pick, same, toLe16, toLe32}
+use Rattle.format.specs.Label.{labelled, labelStep, labelLimit}
 use Rattle.format.specs.declared.Cut.the-variants.{Back}
-use Rattle.format.specs.Items.{pointOf, dimensionsOf, traverseOf, Item, Style, Move, NoDate, Date, Error, Xsect, Label, Line, Decoded, faulty, whole, sized, lengthSize, lengthValue, longPart, newPart, withPart, behindCode, labelledItem, stationItem, lineItem, sectionItem, moveItem, errorItem, dayItem, spanItem, daysItem, newDateItem, newLowItem, newHighItem, itemOf}
-use Rattle.format.specs.declared.LabelPart.{LabelPart}
-use Rattle.format.specs.declared.LabelPart.the-variants.{Unfinished, Numbers}
-use Rattle.format.specs.State.{State, start, Record, leg, station, section, error, named, styled, datedBy, moved, Next, bad, end, on, made, dateOf, badDates, onLabel, legFrom, apply, nextOf}
+use Rattle.format.specs.Items.{Style, Xsect, Label, Line, whole, sized, lengthSize, lengthValue, longPart, newPart, labelledItem, stationItem, lineItem, sectionItem, moveItem, errorItem, newDateItem, newLowItem, newHighItem, itemOf}
+use Rattle.format.specs.declared.LabelPart.the-variants.{Numbers}
+use Rattle.format.specs.State.{State, Record, leg, station, section, error, named, styled, datedBy, moved, on, made}
 use Rattle.format.specs.Sheet.{pointBytes, dimensionBytes, traverseBytes}
-use Rattle.format.specs.Refusals.{Result, stop, also}
-use Rattle.format.specs.declared.Verdict.the-variants.{Good, Refusal}
-use Rattle.format.specs.declared.Verdict.{Verdict}
-use Rattle.format.specs.WellFormed.{GoodPoint, GoodDimensions, GoodTraverse, GoodDated, GoodLeg, GoodStation, GoodSection, WellFormed, AllWellFormed}
-use Rattle.format.specs.Reading.{next, ended, afterItem, run}
-use Rattle.format.specs.Writing.{Writer, v8, codesAll, afterAll, encodeAll, recordsVerdict}
-use Rattle.format.specs.Codes.{common, lengthCodes, partCodes, labelCodes, keptBytes, v8Dates, styleIf, dateIf, moveIf, lineCodes, stationCodes, fitsShort, allShort, sectionCodes, errorCodes, codes, settingAfter, after, closing, unsayable}
+use Rattle.format.specs.Refusals.{stop}
+use Rattle.format.specs.declared.Verdict.the-variants.{Good}
+use Rattle.format.specs.WellFormed.{GoodPoint, GoodDimensions, GoodTraverse, GoodLeg, GoodStation, GoodSection, WellFormed}
+use Rattle.format.specs.Reading.{next, run}
+use Rattle.format.specs.Writing.{Writer, codesAll, afterAll, encodeAll, recordsVerdict}
+use Rattle.format.specs.Codes.{common, lengthCodes, partCodes, labelCodes, keptBytes, v8Dates, styleIf, dateIf, moveIf, lineCodes, stationCodes, allShort, sectionCodes, errorCodes, codes, settingAfter, after, closing, unsayable}
 use Rattle.format.specs.declared.Point.{Point}
 use Rattle.format.specs.declared.Dimensions.{Dimensions}
 use Rattle.format.specs.declared.Traverse.{Traverse}
-use Rattle.format.specs.declared.Dated.{Dated}
-use Rattle.format.specs.declared.Dated.the-variants.{Undated, Day, Range}
-use Rattle.format.specs.declared.Position.{Position}
-use Rattle.format.specs.declared.Position.the-variants.{Unset, Stands}
+use Rattle.format.specs.declared.Position.the-variants.{Stands}
 use Rattle.format.specs.declared.Setting.{Setting}
 use Rattle.format.specs.declared.Fields.{Fields}
 use Rattle.format.specs.declared.Fields.the-variants.{Leg as FieldsLeg, Station as FieldsStation, Section as FieldsSection, Error as FieldsError}
@@ -42,12 +33,12 @@ use Rattle.format.specs.Fields.{recordOf}
 use Rattle.format.specs.declared.Leg.{Leg}
 use Rattle.format.specs.declared.Station.{Station}
 use Rattle.format.specs.declared.Section.{Section}
-use Rattle.format.proofs.Basics.{pick-case, pick-true, pick-false, second-picked, both, neither, and-true, or-false, same-true, same-refl, le16-to, le32-to, widened-low, widened-high}
-use Rattle.format.proofs.Rows.{le16-width, le32-width, point-back, traverse-back, wide-dimensions-back, short-dimensions-back}
+use Rattle.format.proofs.Basics.{pick-case, second-picked, both, same-true, same-refl, le32-to}
+use Rattle.format.proofs.Rows.{le32-width, point-back}
 use Rattle.format.proofs.LabelLaws.{step-fits, back-keeps}
 use Rattle.format.proofs.ApplyLaws.{style-first, style-end}
 use Rattle.format.proofs.ReadingLaws.{run-done, run-on}
-use Rattle.format.proofs.GoingLaws.{Goes, goes-as, goes-made, goes-append, goes-run}
+use Rattle.format.proofs.GoingLaws.{Goes, goes-as, goes-made, goes-append}
 use Rattle.format.proofs.WrittenItems.{there, PartRead, station-read-back, line-read-back, short-section-read-back, wide-section-read-back, written-if, DatesRead, date-if-read, move-if-read, error-next}
 
 -- ---- any writer: records in a row

@@ -1,22 +1,22 @@
 -- What is written is bytes: each number of a good sheet's file is below 256. Assumes nothing.
-use Prim.Native.Nat.{ℕ, zero, suc, _+_, _-_, _*_, _/_, _%_, _≤_, _<_}
-use mathlib.Core.Path.{_≡_, refl, sym, ap, _∙_}
+use Prim.Native.Nat.{ℕ, zero, suc, _+_, _-_, _*_, _%_, _≤_, _<_}
+use mathlib.Core.Path.{_≡_, refl}
 use mathlib.Core.List.{List, [], _∷_, _++_}
-use mathlib.Core.Bool.{Bool, true, false, _&&_, _||_}
+use mathlib.Core.Bool.{Bool, true, _&&_, _||_}
 use native.Mathlib.Omega.{arith}
-use lib.ListN.{length, getD, take, drop}
-use lib.Seq.{getD-drop}
-use lib.Dec.{eqb, ltb, leb}
+use lib.ListN.{length}
+use lib.Dec.{ltb, leb}
 use borrow.Author.Tests.{ltb-true, leb-true}
 use Rattle.format.specs.Bytes.{pick, toLe16, toLe32, Bytes}
 use Rattle.format.specs.Header.{Header, magic}
-use Rattle.format.specs.Label.{labelLimit}
 use Rattle.format.specs.State.{State, start, Record, leg, station, section, error}
 use Rattle.format.specs.Sheet.{pointBytes, dimensionBytes, traverseBytes}
 use Rattle.format.specs.WellFormed.{GoodDated, GoodHeader, WellFormed, AllWellFormed}
 use Rattle.format.specs.Writing.{Writer, v8, v7, codesAll, encodeAll, fileOf}
-use Rattle.format.specs.V7Codes.{sixteens, trimCodes, shortenCodes, oldLengthCodes, addedCodes, labelledCodes, v7Dates, v7SectionCodes, v7Codes, v7Closing, v7HeaderCodes}
-use Rattle.format.specs.Codes.{lengthCodes, partCodes, labelCodes, keptBytes, common, datedCodes, v8Dates, styleIf, dateIf, moveIf, lineCodes, stationCodes, sectionCodes, errorCodes, codes, closing, headerCodes}
+use Rattle.format.specs.V7Codes.{sixteens, trimCodes, shortenCodes, oldLengthCodes, addedCodes, labelledCodes, v7Dates, v7SectionCodes, v7Codes}
+use Rattle.format.specs.V7Codes.{v7Closing, v7HeaderCodes}
+use Rattle.format.specs.Codes.{lengthCodes, partCodes, labelCodes, common, datedCodes, v8Dates, styleIf, dateIf, moveIf, lineCodes}
+use Rattle.format.specs.Codes.{stationCodes, sectionCodes, errorCodes, codes, closing, headerCodes}
 use Rattle.format.specs.declared.DateCodes.{DateCodes}
 use Rattle.format.specs.declared.Point.{Point}
 use Rattle.format.specs.declared.Dimensions.{Dimensions}
@@ -72,7 +72,8 @@ module _ (to : ℕ → List ℕ) (f : (n : ℕ) → All (to n)) where
 length-bytes : (n : ℕ) → All (lengthCodes n)
 unfolding lengthCodes
 length-bytes n =
-    pick-case All _ _ _ (λ e. (let h : n < 255 = ltb-true _ _ e in bytes-cons n [] (omega arith) bytes-nil)) (λ e. bytes-cons 0xff _ (omega arith) (le32-bytes n))
+    pick-case All _ _ _ (λ e. (let h : n < 255 = ltb-true _ _ e in bytes-cons n [] (omega arith) bytes-nil))
+    (λ e. bytes-cons 0xff _ (omega arith) (le32-bytes n))
 
 part-bytes : (d a : ℕ) → All (partCodes d a)
 unfolding partCodes
@@ -101,7 +102,8 @@ date-bytes {c} B Undated g = bytes-cons (c .none) [] (B .none-below) bytes-nil
 date-bytes {c} B (Day d) g = bytes-cons (c .day) _ (B .day-below) (le16-bytes d)
 date-bytes {c} B (Range d e) g =
     pick-case All _ _ _
-    (λ q. (let h : e - d ≤ 255 = leb-true _ _ q in bytes-cons (c .span) _ (B .span-below) (bytes-append _ _ (le16-bytes d) (bytes-cons (e - d) [] (omega arith) bytes-nil))))
+    (λ q. (let h : e - d ≤ 255 = leb-true _ _ q in
+    bytes-cons (c .span) _ (B .span-below) (bytes-append _ _ (le16-bytes d) (bytes-cons (e - d) [] (omega arith) bytes-nil))))
     (λ q. bytes-cons (c .days) _ (B .days-below) (bytes-append _ _ (le16-bytes d) (le16-bytes e)))
 
 v8-dates : DateBytes v8Dates
@@ -149,7 +151,8 @@ codes-bytes st (error t) g f = bytes-cons 0x1f _ (omega arith) (traverse-bytes t
 
 closing-bytes : (style : ℕ) → All (closing style)
 unfolding closing
-closing-bytes style = pick-case All _ _ _ (λ e. bytes-cons 0 [] (omega arith) bytes-nil) (λ e. bytes-cons 0 _ (omega arith) (bytes-cons 0 [] (omega arith) bytes-nil))
+closing-bytes style = pick-case All _ _ _ (λ e. bytes-cons 0 [] (omega arith) bytes-nil)
+    (λ e. bytes-cons 0 _ (omega arith) (bytes-cons 0 [] (omega arith) bytes-nil))
 
 -- whether every number is below 256
 allBytes : List ℕ → Bool
@@ -223,7 +226,8 @@ v8-bytes =
           (let x = g .extended-fits in
           bytes-append magic _ magic-bytes
           (bytes-cons 118 _ (omega arith) (bytes-cons 56 _ (omega arith) (bytes-cons 10 _ (omega arith)
-          (bytes-append _ _ ft (bytes-cons 10 _ (omega arith) (bytes-append _ _ fm (bytes-cons 10 _ (omega arith) (bytes-cons (h .extended * 128) [] (omega arith) bytes-nil)))))))));
+          (bytes-append _ _ ft (bytes-cons 10 _ (omega arith)
+          (bytes-append _ _ fm (bytes-cons 10 _ (omega arith) (bytes-cons (h .extended * 128) [] (omega arith) bytes-nil)))))))));
       record-bytes = codes-bytes;
       end-bytes = λ st. closing-bytes (st .setting .style);
     }
@@ -237,7 +241,8 @@ v7-bytes =
           (bytes-cons 118 _ (omega arith) (bytes-cons 55 _ (omega arith) (bytes-cons 10 _ (omega arith)
           (bytes-append _ _ ft (bytes-cons 10 _ (omega arith) (bytes-append _ _ fm (bytes-cons 10 [] (omega arith) bytes-nil)))))));
       record-bytes = v7-codes-bytes;
-      end-bytes = λ st. pick-case All _ _ _ (λ e. bytes-cons 0x00 [] (omega arith) bytes-nil) (λ e. bytes-cons 0x00 _ (omega arith) (bytes-cons 0x00 [] (omega arith) bytes-nil));
+      end-bytes = λ st. pick-case All _ _ _ (λ e. bytes-cons 0x00 [] (omega arith) bytes-nil)
+          (λ e. bytes-cons 0x00 _ (omega arith) (bytes-cons 0x00 [] (omega arith) bytes-nil));
     }
 
 module _ {w : Writer} (B : WritesBytes w) where

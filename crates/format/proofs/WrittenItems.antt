@@ -3,14 +3,15 @@
 use Prim.Native.Nat.{ℕ, suc, _+_, _-_, _%_, _≤_, _<_}
 use mathlib.Core.Path.{_≡_, refl, sym, ap, ap₂, _∙_, subst}
 use mathlib.Core.List.{List, [], _∷_, _++_, append-assoc}
-use mathlib.Core.Bool.{Bool, true, false, _&&_}
+use mathlib.Core.Bool.{Bool, true, false}
 use native.Mathlib.Omega.{arith}
 use lib.ListN.{length, take, drop, length-append}
 use lib.Seq.{take-append-seam, drop-append-seam, drop-append-add}
 use lib.Dec.{eqb, ltb}
 use borrow.Author.Tests.{eqb-true, lt-ltb, le-ltb, eq-eqb, ne-eqb}
 use Rattle.format.specs.Bytes.{pick, le16, le32, toLe16, toLe32}
-use Rattle.format.specs.Items.{pointOf, traverseOf, Item, NoDate, Xsect, Label, Line, Decoded, whole, sized, withPart, labelledItem, stationItem, lineItem, sectionItem, moveItem, errorItem, dayItem, spanItem, daysItem, itemOf}
+use Rattle.format.specs.Items.{pointOf, traverseOf, Item, NoDate, Xsect, Label, Line, whole, sized, labelledItem, stationItem, lineItem}
+use Rattle.format.specs.Items.{sectionItem, moveItem, errorItem, dayItem, spanItem, daysItem, itemOf}
 use Rattle.format.specs.declared.LabelPart.{LabelPart}
 use Rattle.format.specs.declared.LabelPart.the-variants.{Numbers}
 use Rattle.format.specs.State.{State, error, datedBy, moved, on, made, dateOf, badDates}
@@ -26,7 +27,7 @@ use Rattle.format.specs.declared.Dated.{Dated}
 use Rattle.format.specs.declared.Dated.the-variants.{Undated, Day, Range}
 use Rattle.format.specs.declared.Position.{Position}
 use Rattle.format.specs.declared.Position.the-variants.{Unset, Stands}
-use Rattle.format.proofs.Basics.{pick-case, pick-true, pick-false, both, le16-to}
+use Rattle.format.proofs.Basics.{pick-case, pick-true, pick-false, and-true, both, le16-to}
 use Rattle.format.proofs.Rows.{le16-width, le32-width, point-back, traverse-back, wide-dimensions-back, short-dimensions-back}
 use Rattle.format.proofs.GoingLaws.{Goes, stays, goes-on}
 
@@ -120,6 +121,12 @@ same-date (Range b c) Undated t = cc
 same-date (Range b c) (Day d) t = cc
 same-date (Range b c) (Range d e) t = let p = both (eqb b d) (eqb c e) t in ap₂ Range (eqb-true b d (p .0)) (eqb-true c e (p .1))
 
+pub same-date-refl : (d : Dated) → sameDate d d ≡ true
+unfolding sameDate
+same-date-refl Undated = refl
+same-date-refl (Day d) = eq-eqb d d refl
+same-date-refl (Range d e) = and-true (eq-eqb d d refl) (eq-eqb e e refl)
+
 module _ {version : ℕ} {c : DateCodes} (D : DatesRead version c) (st : State) (rest : List ℕ) where
   day-next : (d : ℕ) → d < 65536 → next version (c .day ∷ (toLe16 d ++ rest)) st ≡ on 3 (datedBy (Day d) st)
   unfolding next dayItem sized badDates dateOf toLe16 pick
@@ -160,7 +167,8 @@ module _ {version : ℕ} {c : DateCodes} (D : DatesRead version c) (st : State) 
       → Goes version (dateIf c (st .setting .date) date ++ rest) st [] (length (dateIf c (st .setting .date) date)) (datedBy date st)
   unfolding dateIf
   date-if-read date g =
-      written-if version (λ s. s .setting .date) datedBy (λ s. refl) st date _ (datedCodes c date) rest (same-date (st .setting .date) date) (λ e. date-next date g)
+      written-if version (λ s. s .setting .date) datedBy (λ s. refl) st date _ (datedCodes c date) rest (same-date (st .setting .date) date)
+      (λ e. date-next date g)
 
 -- ---- MOVE and ERROR
 
@@ -171,7 +179,11 @@ same-point p q t =
     let b = both (eqb (p .y) (q .y)) (eqb (p .z) (q .z)) (a .1) in
     λ i. record { x = eqb-true (p .x) (q .x) (a .0) i; y = eqb-true (p .y) (q .y) (b .0) i; z = eqb-true (p .z) (q .z) (b .1) i }
 
-stands-at : (q : Position) (p : Point) → standsAt q p ≡ true → q ≡ Stands p
+pub same-point-refl : (p : Point) → samePoint p p ≡ true
+unfolding samePoint
+same-point-refl p = and-true (eq-eqb (p .x) (p .x) refl) (and-true (eq-eqb (p .y) (p .y) refl) (eq-eqb (p .z) (p .z) refl))
+
+pub stands-at : (q : Position) (p : Point) → standsAt q p ≡ true → q ≡ Stands p
 stands-at Unset p t = cc
 stands-at (Stands q) p t = ap Stands (same-point q p t)
 
@@ -180,7 +192,8 @@ abbrev placed : Position → State → State
 placed q st = record { label = st .label; setting = record { style = st .setting .style; date = st .setting .date; position = q } }
 
 module _ (version : ℕ) (st : State) (rest : List ℕ) where
-  move-next : ((t : List ℕ) → itemOf version (0x0f ∷ t) ≡ moveItem (0x0f ∷ t)) → (p : Point) → GoodPoint p → next version (0x0f ∷ (pointBytes toLe32 p ++ rest)) st ≡ on 13 (moved p st)
+  move-next : ((t : List ℕ) → itemOf version (0x0f ∷ t) ≡ moveItem (0x0f ∷ t)) → (p : Point) → GoodPoint p
+      → next version (0x0f ∷ (pointBytes toLe32 p ++ rest)) st ≡ on 13 (moved p st)
   unfolding next moveItem sized pick
   move-next is p g =
       let e : pointOf le32 (pointBytes toLe32 p ++ rest) ≡ p = point-back p rest g in
@@ -202,5 +215,6 @@ module _ (version : ℕ) (st : State) (rest : List ℕ) where
   unfolding moveIf
   move-if-read is from g =
       let n : length (0x0f ∷ pointBytes toLe32 from) ≡ 13 = simp (length-append, le32-width) in
-      written-if version (λ s. s .setting .position) placed (λ s. refl) st (Stands from) _ (0x0f ∷ pointBytes toLe32 from) rest (stands-at (st .setting .position) from)
+      written-if version (λ s. s .setting .position) placed (λ s. refl) st (Stands from) _ (0x0f ∷ pointBytes toLe32 from) rest
+      (stands-at (st .setting .position) from)
       (λ e. rw n (move-next is from g))

@@ -1,6 +1,6 @@
 -- Refusals and their order, document 01, "Numbers for no": why reading or writing stopped, what it made before that, the answer and what a
 -- lent buffer then holds. Assumes nothing.
-use Prim.Native.Nat.{ℕ, zero, suc}
+use Prim.Native.Nat.{ℕ}
 use mathlib.Core.List.{List, [], _∷_}
 use lib.Dec.{ltb}
 use Rattle.format.specs.Bytes.{pick, over}
@@ -12,11 +12,6 @@ use Rattle.format.specs.declared.Verdict.the-variants.{Good, Refusal}
 abbrev pub orElse : Verdict → Verdict → Verdict
 orElse Good v = v
 orElse (Refusal n p) v = Refusal n p
-
--- a refusal that is kept as one number: its place and one, or 0 for none
-abbrev pub refusalAt : ℕ → ℕ → Verdict
-refusalAt n zero = Good
-refusalAt n (suc p) = Refusal n p
 
 -- ---- the records made before a reading stopped, and why it stopped
 

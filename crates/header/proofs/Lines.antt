@@ -43,7 +43,11 @@ versioned file g =
     let p = both (eqb (getD file 21 0) 118) (leb 51 v && (leb v 56 && d)) g in
     let q = both (leb 51 v) (leb v 56 && d) (p .1) in
     let r = both (leb v 56) d (q .1) in
-    record { low = leb-true 51 v (q .0); high = leb-true v 56 (r .0); behind = less-or-not (length file) 24 (λ h. absurd (let f = version-short file h in let z : _≡_ {A = ℕ} 0 1 = cc in omega arith)) (λ h. h) }
+    record {
+      low = leb-true 51 v (q .0);
+      high = leb-true v 56 (r .0);
+      behind = less-or-not (length file) 24 (λ h. absurd (let f = version-short file h in let z : _≡_ {A = ℕ} 0 1 = cc in omega arith)) (λ h. h);
+    }
 
 -- ---- a line
 

@@ -43,3 +43,13 @@ heldOf s = record {
 -- where a reader stands whose numbers are s, with what the label's buffer holds
 abbrev pub stateStand : List ℕ → List ℕ → Stand
 stateStand s label = standSeen (heldOf s) label
+
+-- a stand at another place, with another label length and position
+abbrev pub standsAt : Held → ℕ → ℕ → Position → Held
+standsAt h place len position = record {
+  phase = h .phase;
+  version = h .version;
+  place = place;
+  len = len;
+  setting = record { style = h .setting .style; date = h .setting .date; position = position };
+}

@@ -1,14 +1,17 @@
 // Where a step reader stands, as numbers that its caller holds from one step to the next.
 // Any numbers are some stand: nothing that a caller puts there is unsafe.
 use format::Dated;
+use format::LABEL_LIMIT;
 use format::Point;
 use format::Position;
 use format::Setting;
+use laying::Quick;
 use step::Phase;
 use step::Stand;
 ghost use mathlib.Core.Path.{_≡_};
 ghost use Prim.Native.Nat.{_%_, _<_};
-ghost use Rattle.held.specs.Numbers.{phaseOf, dateOf, positionOf, heldOf};
+ghost use Rattle.held.specs.Numbers.{phaseOf, dateOf, positionOf, heldOf, standsAt};
+ghost use Rattle.held.specs.Shortly.{Briefly};
 
 // How many numbers a stand takes.
 pub const STAND_NUMBERS: usize = 14;
@@ -232,4 +235,98 @@ pub fn numbers_of(stand: Stand) -> [u64; STAND_NUMBERS]
         position.y,
         position.z,
     ]
+}
+
+// ---- one step over one of the commonest items: most of the numbers stay as they are
+
+// The numbers of a stand with another place, label length and position.
+fn moved_on(
+    s: &[u64; STAND_NUMBERS],
+    place: usize,
+    len: usize,
+    point: PlaceNumbers,
+) -> [u64; STAND_NUMBERS]
+    ensures { λ r. ⌜ heldOf r ≡ standsAt (heldOf (now (s .entry))) place len (positionOf (point .kind) (point .x) (point .y) (point .z)) ⌝ }
+{
+    [
+        s[0],
+        s[1],
+        s[2],
+        s[3],
+        place as u64,
+        len as u64,
+        s[6],
+        s[7],
+        s[8],
+        s[9],
+        point.kind,
+        point.x,
+        point.y,
+        point.z,
+    ]
+}
+
+// The same with the position that they have.
+fn passed_on(s: &[u64; STAND_NUMBERS], place: usize, len: usize) -> [u64; STAND_NUMBERS]
+    ensures { λ r. ⌜ heldOf r ≡ standsAt (heldOf (now (s .entry))) place len (heldOf (now (s .entry)) .setting .position) ⌝ }
+{
+    let position = PlaceNumbers {
+        kind: s[10],
+        x: s[11],
+        y: s[12],
+        z: s[13],
+    };
+    moved_on(s, place, len, position)
+}
+
+// What a step came to: a record; none; or it was not taken.
+pub enum Brief {
+    Other,
+    Nothing,
+    Record { bytes: usize, kept: usize },
+}
+
+// One step from the stand that the numbers say, where the item is one of the commonest and
+// there is room for every record. Else nothing is touched.
+pub fn short_step(
+    file: &[u8],
+    s: &mut [u64; STAND_NUMBERS],
+    bytes: &mut [u8; LABEL_LIMIT],
+    out: &mut [u8],
+) -> Brief
+    ensures { λ r. ⌜ Briefly r (now (s .entry)) (now (bytes .entry)) (now (file .entry)) (now (out .entry)) (now (s .exit)) (now (bytes .exit)) (now (out .exit)) ⌝ }
+{
+    let stand = held_of(s);
+    let place = stand.place;
+    let quick = step::short_at(file, stand, bytes, out);
+    match quick {
+        Quick::Other => Brief::Other,
+        Quick::Leg {
+            size,
+            len,
+            to,
+            kept,
+        } => {
+            let position = place_numbers(Position::Stands { point: to });
+            let after = moved_on(s, place + size, len, position);
+            *s = after;
+            let n = 34 + len;
+            Brief::Record { bytes: n, kept }
+        }
+        Quick::Made {
+            size,
+            len,
+            bytes: n,
+            kept,
+        } => {
+            let after = passed_on(s, place + size, len);
+            *s = after;
+            Brief::Record { bytes: n, kept }
+        }
+        Quick::Trim { len } => {
+            let after = passed_on(s, place + 1, len);
+            *s = after;
+            Brief::Nothing
+        }
+    }
 }

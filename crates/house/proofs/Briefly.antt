@@ -20,12 +20,12 @@ use Rattle.format.specs.declared.Leg.{Leg}
 use Rattle.format.specs.State.{State, Record, leg}
 use Rattle.format.specs.Sheet.{pointBytes}
 use Rattle.format.specs.WellFormed.{GoodPoint, WellFormed}
-use Rattle.format.specs.Codes.{datedCodes, v8Dates, common, shortPart, partCodes, labelCodes, sameDate, samePoint, standsAt, styleIf, dateIf, moveIf, lineCodes, codes, unsayable}
-use Rattle.format.specs.declared.Dated.{Dated}
-use Rattle.format.specs.declared.Dated.the-variants.{Undated, Day, Range}
+use Rattle.format.specs.Codes.{datedCodes, v8Dates, common, shortPart, partCodes, labelCodes, styleIf, dateIf, moveIf, lineCodes, codes, unsayable}
 use Rattle.format.specs.declared.Point.{Point}
 use Rattle.format.specs.declared.Position.the-variants.{Stands}
 use Rattle.format.proofs.Basics.{pick-true, pick-false, and-true, less-or-not}
+use Rattle.format.proofs.SheetLaws.{bytes-drop}
+use Rattle.format.proofs.WrittenItems.{same-date-refl, same-point-refl}
 use Rattle.format.proofs.WritingLaws.{Shares, label-read}
 use Rattle.label.specs.Seen.{Tells}
 use Rattle.label.specs.declared.Relabelled.the-variants.{TooShort, TooLong, Fits}
@@ -37,22 +37,7 @@ use Rattle.wire.proofs.Laws.{same-false, common-front, common-here, common-spen
 use Rattle.house.specs.Walking.{Ready, BriefLine, briefLeg, Passed-on}
 use Rattle.house.proofs.One.{steps}
 
--- ---- equal dates and points
-
-one-date : (d : Dated) → sameDate d d ≡ true
-unfolding sameDate
-one-date Undated = refl
-one-date (Day d) = eq-eqb d d refl
-one-date (Range d e) = and-true (eq-eqb d d refl) (eq-eqb e e refl)
-
-one-point : (p : Point) → samePoint p p ≡ true
-unfolding samePoint
-one-point p = and-true (eq-eqb (p .x) (p .x) refl) (and-true (eq-eqb (p .y) (p .y) refl) (eq-eqb (p .z) (p .z) refl))
-
 -- ---- a place is written back as it stood
-
-bytes-drop : (s : List ℕ) → Bytes s → (k : ℕ) → Bytes (drop k s)
-bytes-drop s b k i = rw (getD-drop k s i 0) (b (k + i))
 
 four : (s : List ℕ) → Bytes s → 4 ≤ length s → toLe32 (le32 s) ≡ take 4 s
 four s b h = back-4 s h (record { byte-0 = b 0; byte-1 = b 1; byte-2 = b 2; byte-3 = b 3 })
@@ -164,7 +149,7 @@ module _ (s : List ℕ) (st : State) (from : Point) (keep add : ℕ) (stands : s
   brief-codes =
       let style = st .setting .style in
       let date = st .setting .date in
-      rw (stands, pick-true [] (style ∷ []) (eq-eqb style style refl), pick-true [] (datedCodes v8Dates date) (one-date date), pick-true [] (0x0f ∷ pointBytes toLe32 from) (one-point from))
+      rw (stands, pick-true [] (style ∷ []) (eq-eqb style style refl), pick-true [] (datedCodes v8Dates date) (same-date-refl date), pick-true [] (0x0f ∷ pointBytes toLe32 from) (same-point-refl from))
       (line-is s (st .label) keep add L bytes)
 
 -- a style after itself is never refused
@@ -229,34 +214,6 @@ module _ (file : List ℕ) (p : Place) (b : List ℕ) (R : Ready file p b) (byte
         steps = steps file p b R r formed (again s st from keep add) (ap (λ (n : ℕ). take n s) size ∙ sym codes-are) _ b′ (omega (arith, size))
             (ap (stateOf (record { style = p .setting .style; date = p .setting .date; position = Stands (pointOf le32 (drop (2 + add) s)) })) l) (K .label-short) (K .label-whole);
       }
-
--- ---- `extend`
-
-module _ (b b′ added : List ℕ) (len off : ℕ) (short : len ≤ 4096) (whole : length b ≡ 4096) (inside : off ≤ len) (fits : len - off + length added ≤ 4096) where
-  abbrev m : List ℕ
-  m = take (len - off) b ++ added
-
-  kept-size : length (take (len - off) b) ≡ len - off
-  kept-size = length-take-le (len - off) b (omega arith)
-
-  stepped : labelStep (take len b) (Back off) added ≡ labelled m
-  stepped =
-      let n = length-take-le len b (omega arith) in
-      let size : length m ≡ len - off + length added = length-append (take (len - off) b) added ∙ ap (λ (i : ℕ). i + length added) kept-size in
-      let e : length (take len b) - (len - off) ≡ off = omega (arith, n) in
-      let d : drop (len - off) m ≡ added = ap (λ (i : ℕ). drop i m) (sym kept-size) ∙ drop-append-seam (take (len - off) b) added in
-      let sh : Shares (take len b) m (len - off) =
-      record { first = omega (arith, n); second = omega (arith, size); equal = take-take (len - off) len b (omega arith) ∙ sym (take-at (take (len - off) b) added (len - off) kept-size) } in
-      rw (e, d) at (label-read (take len b) m (len - off) sh (omega (arith, size)))
-
-  pub extend-short : Tells TooShort b′ (labelStep (take len b) (Back off) added) → ⊥
-  extend-short T = let q : tooShort ≡ labelled m = T .same ∙ stepped in let z : _≡_ {A = ℕ} 0 1 = cc in omega arith
-
-  pub extend-long : Tells TooLong b′ (labelStep (take len b) (Back off) added) → ⊥
-  extend-long T = let q : tooLong ≡ labelled m = T .same ∙ stepped in let z : _≡_ {A = ℕ} 0 1 = cc in omega arith
-
-  pub extend-fits : (n kept : ℕ) → Tells (Fits n kept) b′ (labelStep (take len b) (Back off) added) → Swaps b′ m n
-  extend-fits n kept T = let q : labelled (take n b′) ≡ labelled m = T .same ∙ stepped in record { label-is = cc; label-short = T .short; label-whole = T .whole }
 
 -- ---- `point_at` and `brief_line`
 

@@ -3,7 +3,7 @@
 use Prim.Native.Nat.{ℕ, _+_, _-_, _≤_, _<_}
 use mathlib.Core.Path.{_≡_, refl, sym, ap, ap₂, _∙_}
 use mathlib.Core.Bool.{Bool, true, false}
-use mathlib.Core.List.{List, [], _∷_, _++_, append-assoc}
+use mathlib.Core.List.{List, [], _∷_, _++_}
 use native.Mathlib.Omega.{arith}
 use lib.ListN.{length, take, drop, length-take, length-drop, take-append-drop}
 use lib.Seq.{drop-drop, drop-append-seam, take-at, length-take-le}
@@ -14,7 +14,7 @@ use Rattle.format.specs.Refusals.{Result, stop, also}
 use Rattle.format.specs.WellFormed.{WellFormed, AllWellFormed}
 use Rattle.format.specs.declared.Verdict.the-variants.{Good, Refusal}
 use Rattle.format.specs.Reading.{run}
-use Rattle.format.specs.Writing.{v8, codesAll, afterAll, encodeAll}
+use Rattle.format.specs.Writing.{v8, encodeAll}
 use Rattle.format.specs.Codes.{codes, settingAfter, labelAfter, after, closing, unsayable}
 use Rattle.format.specs.Fields.{recordOf, stateOf}
 use Rattle.format.specs.declared.Fields.{Fields}
@@ -30,6 +30,7 @@ use Rattle.records.specs.declared.Found.the-variants.{Refused as FoundRefused, 
 use Rattle.wire.proofs.Laws.{same-false}
 use Rattle.records.specs.declared.Place.{Place}
 use Rattle.house.specs.Walking.{restOf, rulesFrom, Ready, Met, Steps}
+use Rattle.tally.proofs.Left.{encode-more, encode-none}
 use Rattle.house.proofs.Splice.{codes-some}
 
 -- what was put at the front of a buffer
@@ -54,16 +55,6 @@ module _ (file : List ℕ) (at : ℕ) (X : List ℕ) where
   stands-part e = let z : at + length X - at ≡ length X = omega arith in rw z at e
 
 -- ---- a record
-
--- what the rules give for a record and those behind it
-pub encode-more : (st : State) (r : Record) (rs : List Record) → encodeAll v8 st (r ∷ rs) ≡ codes st r ++ encodeAll v8 (after st r) rs
-unfolding encodeAll codesAll afterAll
-encode-more st r rs = append-assoc (codes st r) _ _
-
--- and at the end
-pub encode-none : (st : State) → encodeAll v8 st [] ≡ closing (st .setting .style)
-unfolding encodeAll codesAll afterAll
-encode-none st = refl
 
 module _ (file : List ℕ) (p : Place) (b : List ℕ) (R : Ready file p b) (r : Record) where
   abbrev st : State
@@ -118,7 +109,7 @@ module _ (file : List ℕ) (p : Place) (b : List ℕ) (R : Ready file p b) (r : 
     -- others stand there
     pub foreign-codes : same (take (length X) (drop (p .at) file)) X ≡ false → drop (p .at) file ≡ rulesFrom file (p .at) st → ⊥
     foreign-codes e q =
-        let z : drop (p .at) file ≡ X ++ encodeAll v8 (after st r) (M .others) = q ∙ ap (encodeAll v8 st) (M .records) ∙ encode-more st r (M .others) in
+        let z : drop (p .at) file ≡ X ++ encodeAll v8 (after st r) (M .others) = q ∙ ap (encodeAll v8 st) (M .records) ∙ encode-more v8 st r (M .others) in
         differs _ X e (ap (take (length X)) z ∙ take-at X (encodeAll v8 (after st r) (M .others)) (length X) refl)
 
 -- a record's own label, or none: which of two buffers is all one for a traverse error
@@ -160,7 +151,7 @@ module _ (file : List ℕ) (p : Place) (b s s′ : List ℕ) (m : ℕ) (K : Swap
 
   pub found-foreign : Finds 8 file (record { at = p .at; len = m; setting = p .setting }) s FoundEnd s′ → same (drop (p .at) file) (closing (p .setting .style)) ≡ false → drop (p .at) file ≡ rulesFrom file (p .at) (stateAt p b) → ⊥
   found-foreign F e q =
-      differs _ _ e (q ∙ ap (λ (x : Result). encodeAll v8 (stateAt p b) (x .records)) (copy-reads ∙ F .same) ∙ encode-none (stateAt p b))
+      differs _ _ e (q ∙ ap (λ (x : Result). encodeAll v8 (stateAt p b) (x .records)) (copy-reads ∙ F .same) ∙ encode-none v8 (stateAt p b))
 
   pub found-met : {to : Place} {f : Fields} → Finds 8 file (record { at = p .at; len = m; setting = p .setting }) s (FoundRecord to f) s′ → Met file p b (recordOf f (labelIn to s′))
   found-met {to} F = record { others = leftAt 8 file to s′ .records; records = ap (λ (x : Result). x .records) (copy-reads ∙ F .same) }

@@ -2,7 +2,7 @@
 -- left, in the state that reading has reached there. So two files in the same state before the same records go on alike. Assumes nothing.
 use Prim.Native.Nat.{ℕ, zero, suc, _+_, _≤_, _<_}
 use mathlib.Core.Path.{_≡_, refl, ap, _∙_, subst}
-use mathlib.Core.List.{List, [], _∷_, map}
+use mathlib.Core.List.{List, [], _∷_}
 use mathlib.Core.Bool.{false}
 use native.Mathlib.Omega.{arith}
 use lib.ListN.{length, take, drop}
@@ -20,13 +20,9 @@ use Rattle.format.proofs.ReadingLaws.{SizedNext, next-sized}
 use Rattle.format.proofs.GoingLaws.{Goes, past, adds}
 use Rattle.format.proofs.WritingLaws.{able, after-short, codes-go}
 use Rattle.format.proofs.ReadBack.{encode-read, v8-reads-back}
-use Rattle.format.proofs.EditingLaws.{from-record}
+use Rattle.format.proofs.EditingLaws.{formed-drop, from-record}
+use Rattle.format.proofs.RoundTrip.{map-same}
 use Rattle.house.specs.Walking.{GoodSetting}
-
--- v8 gives back each record as it is
-map-same : (rs : List Record) → map (λ r. r) rs ≡ rs
-map-same [] = refl
-map-same (r ∷ rs) = ap (λ (xs : List Record). r ∷ xs) (map-same rs)
 
 -- ---- records left
 
@@ -36,23 +32,12 @@ unfolding recordsVerdict pick
 sayable-any m n st [] e = refl
 sayable-any m n st (r ∷ rs) e = let s = able v8 n st r rs e in rw (s .0) (sayable-any (m + 1) (n + 1) (after st r) rs (s .1))
 
-pub sayable-take : (j n : ℕ) (st : State) (rs : List Record) → recordsVerdict v8 n st rs ≡ Good → recordsVerdict v8 n st (take j rs) ≡ Good
-unfolding recordsVerdict pick
-sayable-take zero n st rs e = refl
-sayable-take (suc j) n st [] e = refl
-sayable-take (suc j) n st (r ∷ rs) e = let s = able v8 n st r rs e in rw (s .0) (sayable-take j (n + 1) (after st r) rs (s .1))
-
 pub sayable-drop : (j m n : ℕ) (st : State) (rs : List Record) → recordsVerdict v8 n st rs ≡ Good
     → recordsVerdict v8 m (afterAll v8 st (take j rs)) (drop j rs) ≡ Good
 unfolding afterAll recordsVerdict
 sayable-drop zero m n st rs e = sayable-any m n st rs e
 sayable-drop (suc j) m n st [] e = refl
 sayable-drop (suc j) m n st (r ∷ rs) e = sayable-drop j m (n + 1) (after st r) rs (able v8 n st r rs e .1)
-
-pub formed-drop : (j : ℕ) (rs : List Record) → AllWellFormed rs → AllWellFormed (drop j rs)
-formed-drop zero rs w = w
-formed-drop (suc j) [] w = tt
-formed-drop (suc j) (r ∷ rs) w = formed-drop j rs (w .1)
 
 -- the label stays short
 pub after-fits : (j : ℕ) (st : State) (rs : List Record) → length (st .label) ≤ labelLimit → AllWellFormed rs

@@ -15,8 +15,9 @@ use Rattle.format.proofs.WritingLaws.{codes-append, after-append, encode-append
 use Rattle.records.specs.Places.{stateAt, Inside}
 use Rattle.records.specs.declared.Place.{Place}
 use Rattle.house.specs.Walking.{restOf, rulesFrom, Sound, Ready, Steps, Passed-on, Walks, Ends}
-use Rattle.house.proofs.Splice.{formed-drop, sayable-drop, good-all}
-use Rattle.house.proofs.One.{encode-none}
+use Rattle.format.proofs.EditingLaws.{formed-drop}
+use Rattle.house.proofs.Splice.{sayable-drop, good-all}
+use Rattle.tally.proofs.Left.{encode-none}
 
 pub walk-none : (file : List ℕ) (p : Place) (b : List ℕ) → Inside file p b → Walks file (p .at) (stateAt p b) 0 p b
 unfolding codesAll afterAll
@@ -127,7 +128,7 @@ module _ {file : List ℕ} {p : Place} {b : List ℕ} {limit : ℕ} {q : Place} 
         readable = ap (λ (x : Result). x .verdict) (e .0);
         counted = rw none;
         few = omega (arith, W .inside .place-inside);
-        ours = e .1 ∙ sym (encode-none (stateAt q c)) ∙ ap (encodeAll v8 (stateAt q c)) (sym none);
+        ours = e .1 ∙ sym (encode-none v8 (stateAt q c)) ∙ ap (encodeAll v8 (stateAt q c)) (sym none);
       } in
       subst (Ends file (p .at) (stateAt p b)) (add-zero passed) (walk-ends W E)
 

@@ -219,6 +219,6 @@ begins-cuts run {rest = rest} A B E =
     let c = begins-count B E in
     record { house = begins-house B E; all = omega (arith, c .0); few = c .1; before = begins-stands A; behind = begins-stands B }
 
--- more records than bytes
-pub never-all : {file : List ℕ} {at : ℕ} {st : State} {to : Place} {b : List ℕ} → length file ≤ 16777216 → Walks file at st 16777217 to b → ⊥
-never-all small W = omega (arith, W .few, W .inside .place-inside)
+-- behind a header there are fewer records than the file has bytes
+pub never-all : {file : List ℕ} {at : ℕ} {st : State} {to : Place} {b : List ℕ} → 0 < at → Walks file at st (length file) to b → ⊥
+never-all some W = omega (arith, W .few, W .inside .place-inside)

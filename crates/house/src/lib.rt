@@ -1,18 +1,14 @@
 // Whether a file is house-written (document 01's word for one that the writing rules
 // would have produced): its records are read one after another, and the codes of each
 // are compared with the file's bytes.
-use format::Cut;
-use format::FILE_LIMIT;
 use format::Fields;
 use format::LABEL_LIMIT;
 use format::Point;
 use format::Position;
 use format::Setting;
-use label::Relabelled;
 use records::Found;
 use records::Place;
 ghost use mathlib.Core.Path.{_≡_};
-ghost use mathlib.Core.List.{_++_};
 ghost use Prim.Native.Nat.{_+_, _-_, _≤_};
 ghost use lib.ListN.{length, take, drop};
 ghost use Rattle.format.specs.Bytes.{same, le32};
@@ -53,7 +49,7 @@ pub enum Taken {
 }
 
 // The same of some records: the end comes after fewer, or they are passed.
-pub enum Stretch {
+enum Stretch {
     Refused { number: u8, place: usize },
     Foreign,
     End { records: usize },
@@ -78,11 +74,14 @@ pub enum Judged {
     },
 }
 
+// The bytes of the longest header. No record has more codes.
+pub const HEADER_LIMIT: usize = 4187;
+
 // Room for the codes of the header or of a record.
-pub fn room() -> [u8; 4187]
+pub fn room() -> [u8; HEADER_LIMIT]
     ensures { λ r. ⌜ length r ≡ headerLimit ⌝ }
 {
-    [0; 4187]
+    [0; HEADER_LIMIT]
 }
 
 // Whether these codes stand in the file from `at` on.
@@ -108,61 +107,42 @@ fn copy_label(label: &[u8; LABEL_LIMIT], len: usize, spare: &mut [u8; LABEL_LIMI
     records::swap_label(spare, 0, &own[..len])
 }
 
-// The codes of a record with a label of n bytes, after what reading finds at `from`.
+// The codes of a record of this name, after what reading finds at `from`.
 fn put_codes(
     room: &mut [u8],
     from: Place,
     last: &[u8; LABEL_LIMIT],
-    name: &[u8; LABEL_LIMIT],
-    n: usize,
+    name: &[u8],
     fields: Fields,
 ) -> usize
-    requires { ⌜ (from .len ≤ labelLimit) × (length (now last) ≡ labelLimit) × (n ≤ labelLimit) × (length (now name) ≡ labelLimit) × WellFormed (recordOf fields (take n (now name))) ⌝ }
-    ensures { λ r. ⌜ Puts (now (room .entry)) (now (room .exit)) (codes (stateAt from (now (last .entry))) (recordOf fields (take n (now (name .entry))))) codesLimit r ⌝ }
+    requires { ⌜ (from .len ≤ labelLimit) × (length (now last) ≡ labelLimit) × WellFormed (recordOf fields (now name)) ⌝ }
+    ensures { λ r. ⌜ Puts (now (room .entry)) (now (room .exit)) (codes (stateAt from (now (last .entry))) (recordOf fields (now (name .entry)))) codesLimit r ⌝ }
 {
     let before = &last[..];
-    let own = &name[..];
     let len = from.len;
-    codes::put_record(room, from.setting, &before[..len], &own[..n], fields)
+    codes::put_record(room, from.setting, &before[..len], name, fields)
 }
 
-// Keeps a record's label, the first n bytes of `name`, as the one before the next.
-fn keep(
-    last: &mut [u8; LABEL_LIMIT],
-    len: usize,
-    name: &[u8; LABEL_LIMIT],
-    n: usize,
-    fields: Fields,
-) -> usize
-    requires { ⌜ (len ≤ labelLimit) × (length (now last) ≡ labelLimit) × (n ≤ labelLimit) × (length (now name) ≡ labelLimit) ⌝ }
-    ensures { λ r. ⌜ Keeps (now (last .entry)) (now (last .exit)) len (take n (now (name .entry))) fields r ⌝ }
-{
-    let own = &name[..];
-    records::keep_label(last, len, &own[..n], fields)
-}
-
-// The record that reading made, whose label is the first n bytes of `name`, held to the
-// writing rules.
+// The record that reading made, of this name, held to the writing rules.
 fn take_made(
     file: &[u8],
     from: Place,
     label: &mut [u8; LABEL_LIMIT],
-    name: &[u8; LABEL_LIMIT],
-    n: usize,
+    name: &[u8],
     fields: Fields,
     room: &mut [u8],
 ) -> Taken
-    requires { ⌜ Ready (now file) from (now label) × Met (now file) from (now label) (recordOf fields (take n (now name))) × (n ≤ labelLimit) × (length (now name) ≡ labelLimit) × (length (now room) ≡ headerLimit) ⌝ }
+    requires { ⌜ Ready (now file) from (now label) × Met (now file) from (now label) (recordOf fields (now name)) × (length (now name) ≤ labelLimit) × (length (now room) ≡ headerLimit) ⌝ }
     ensures { λ r. ⌜ Takes (now (file .entry)) from (now (label .entry)) r (now (label .exit)) × (length (now (room .exit)) ≡ headerLimit) ⌝ }
 {
     let at = from.at;
     let len = from.len;
     let setting = from.setting;
-    let size = put_codes(room, from, label, name, n, fields);
+    let size = put_codes(room, from, label, name, fields);
     if !stands(file, at, &room[..size]) {
         return Taken::Foreign;
     }
-    let m = keep(label, len, name, n, fields);
+    let m = records::keep_label(label, len, name, fields);
     let place = Place {
         at: at + size,
         len: m,
@@ -207,7 +187,9 @@ pub fn take_record(
             Taken::Foreign
         }
         Found::Record { place: to, fields } => {
-            take_made(file, from, label, spare, to.len, fields, room)
+            let n = to.len;
+            let name = &spare[..];
+            take_made(file, from, label, &name[..n], fields, room)
         }
     }
 }
@@ -277,19 +259,6 @@ fn point_at(s: &[u8]) -> Point
     Point { x, y, z }
 }
 
-// The label of len bytes, of which `off` are dropped, with the bytes that come.
-fn extend(label: &mut [u8; LABEL_LIMIT], len: usize, off: usize, added: &[u8]) -> usize
-    requires { ⌜ (len ≤ labelLimit) × (length (now label) ≡ labelLimit) × (off ≤ len) × (len - off + length (now added) ≤ labelLimit) ⌝ }
-    ensures { λ r. ⌜ Swaps (now (label .exit)) (take (len - off) (now (label .entry)) ++ now (added .entry)) r ⌝ }
-{
-    let after = label::label_step(label, len, Cut::Back { bytes: off }, added);
-    match after {
-        Relabelled::TooShort => len,
-        Relabelled::TooLong => len,
-        Relabelled::Fits { len: m, kept: _ } => m,
-    }
-}
-
 // The leg that such a LINE makes where a position is set.
 fn take_brief(file: &[u8], from: Place, label: &mut [u8; LABEL_LIMIT]) -> Passing
     requires { ⌜ Ready (now file) from (now label) ⌝ }
@@ -309,7 +278,7 @@ fn take_brief(file: &[u8], from: Place, label: &mut [u8; LABEL_LIMIT]) -> Passin
         return Passing::Other;
     };
     let end = 2 + add;
-    let m = extend(label, len, len - keep, &rest[2..end]);
+    let m = records::relabel(label, len, len - keep, &rest[2..end]);
     let point = point_at(&rest[end..]);
     let after = Setting {
         style: setting.style,
@@ -327,12 +296,7 @@ fn take_brief(file: &[u8], from: Place, label: &mut [u8; LABEL_LIMIT]) -> Passin
 // ---- a stretch of records
 
 // At most `limit` records from a place on, each held to the writing rules.
-pub fn judge_records(
-    file: &[u8],
-    from: Place,
-    label: &mut [u8; LABEL_LIMIT],
-    limit: usize,
-) -> Stretch
+fn judge_records(file: &[u8], from: Place, label: &mut [u8; LABEL_LIMIT], limit: usize) -> Stretch
     requires { ⌜ Ready (now file) from (now label) ⌝ }
     ensures { λ r. ⌜ Stretches (now (file .entry)) from (now (label .entry)) limit r (now (label .exit)) ⌝ }
 {
@@ -349,15 +313,9 @@ pub fn judge_records(
         }
         let taken = take_record(file, place, label, &mut spare.bytes, &mut room);
         match taken {
-            Taken::Refused { number, place: p } => {
-                return Stretch::Refused { number, place: p };
-            }
-            Taken::Foreign => {
-                return Stretch::Foreign;
-            }
-            Taken::End => {
-                return Stretch::End { records: passed };
-            }
+            Taken::Refused { number, place: p } => return Stretch::Refused { number, place: p },
+            Taken::Foreign => return Stretch::Foreign,
+            Taken::End => return Stretch::End { records: passed },
             Taken::Record {
                 place: to,
                 fields: _,
@@ -413,7 +371,7 @@ fn foreign(file: &[u8], old: Old) -> Judged
 }
 
 // The records behind the run: the file is house-written where they and its end are as
-// the writing rules give them.
+// the writing rules give them. A file has fewer records than bytes.
 fn judge_rest(
     file: &[u8],
     old: Old,
@@ -429,7 +387,7 @@ fn judge_rest(
     let len = copy_label(behind, back.len, &mut last.bytes);
     let at = back.at;
     let setting = back.setting;
-    let all = FILE_LIMIT + 1;
+    let all = file.len();
     let three = judge_records(file, Place { at, len, setting }, &mut last.bytes, all);
     match three {
         Stretch::Refused { number, place } => Judged::Refused { number, place },

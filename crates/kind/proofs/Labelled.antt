@@ -25,8 +25,10 @@ module _ (s : List ℕ) (bare : Bool) (tail : Tail) (p : List ℕ → LabelPart)
   pub labelled-made : (k d a : ℕ) → Numbers k d a ≡ partThere bare tail p s
       → whole (1 + (k + a + tailOf tail)) (makeOf tail d (take a (drop (1 + k) s)) (drop (1 + (k + a)) s)) ≡ labelledBy bare tail p (drop 1 s)
   unfolding labelledBy
-  labelled-made k d a e = rw (← drop-drop k 1 s, ← drop-drop (k + a) 1 s) (labelled-some (drop 1 s) (tailOf tail) (makeOf tail) (pick bare (Numbers 0 0 0) (p (drop 1 s))) k d a e)
+  labelled-made k d a e = rw (← drop-drop k 1 s, ← drop-drop (k + a) 1 s)
+      (labelled-some (drop 1 s) (tailOf tail) (makeOf tail) (pick bare (Numbers 0 0 0) (p (drop 1 s))) k d a e)
 
   -- the part x, and the count n of what follows, as the code has them
-  pub labelled-there : (x q : LabelPart) (n : ℕ) → x ≡ pick bare (Numbers 0 0 0) (p (drop 1 s)) → n ≡ tailOf tail → q ≡ finished x (drop 1 s) n → q ≡ partThere bare tail p s
+  pub labelled-there : (x q : LabelPart) (n : ℕ) → x ≡ pick bare (Numbers 0 0 0) (p (drop 1 s)) → n ≡ tailOf tail → q ≡ finished x (drop 1 s) n
+      → q ≡ partThere bare tail p s
   labelled-there x q n ex en e = e ∙ rw (ex, en)

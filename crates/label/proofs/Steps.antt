@@ -49,7 +49,8 @@ module _ (b : List ℕ) (len k : ℕ) (added : List ℕ) (hb : length b ≡ 4096
   pub step-whole : length (paste b k added (length added)) ≡ 4096
   step-whole = length-paste b k added (length added) (omega arith) (omega arith) ∙ hb
 
-  pub step-laid : (cut : Cut) → Keeps k ≡ keptOf (take len b) cut → labelled (take (k + length added) (paste b k added (length added))) ≡ labelStep (take len b) cut added
+  pub step-laid : (cut : Cut) → Keeps k ≡ keptOf (take len b) cut
+      → labelled (take (k + length added) (paste b k added (length added))) ≡ labelStep (take len b) cut added
   step-laid cut e =
       let p = take-paste b k added (length added) (omega arith) (omega arith) in
       ap labelled (p ∙ simp (take-length, take-take k len b hk)) ∙ sym (step-fits (take len b) cut added k (sym e) h)

@@ -3,16 +3,17 @@ use Prim.Native.Nat.{ℕ}
 use mathlib.Core.Path.{_≡_, refl}
 use mathlib.Core.List.{List, [], _∷_, _++_}
 use lib.ListN.{replicate}
-use Rattle.format.specs.Bytes.{pick, le16, le32, be16, be32, toLe16, toLe32, toBe16, toBe32, widened, same, over}
+use Rattle.format.specs.Bytes.{pick, le16, le32, toLe16, toLe32, toBe16, toBe32, widened, same, over}
 use Rattle.format.specs.Header.{magic, lineEnd, endsInReturn, goodLine, extendedByte, closedHeader, timeLine, titleLine, goodVersion, headerOf, openingOf}
-use Rattle.format.specs.Label.{dots, dotFrom, keptToDot, labelStep}
-use Rattle.format.specs.Items.{sized, oldPart, lengthSize, lengthValue, longPart, newPart, labelledItem, stationItem, lineItem, sectionItem, moveItem, errorItem, dayItem, spanItem, daysItem, newDateItem, newLowItem, newHighItem, itemOf}
-use Rattle.format.specs.State.{dateOf, badDates}
+use Rattle.format.specs.Label.{labelStep}
+use Rattle.format.specs.Items.{sized, oldPart, lengthSize, lengthValue, longPart, newPart, labelledItem, stationItem, lineItem, sectionItem, moveItem}
+use Rattle.format.specs.Items.{errorItem, newDateItem, newLowItem, newHighItem, itemOf}
 use Rattle.format.specs.Iterate.{iter, iterUp}
 use Rattle.format.specs.Sheet.{layout, layoutAll, headerLayout, sheetOf}
-use Rattle.format.specs.Reading.{next, ended, readStep, run, itemsOf, readOutcome, readBuffer}
+use Rattle.format.specs.Reading.{next, ended, readStep, run, itemsOf, readOutcome}
 use Rattle.listing.specs.Text.{digitsUp, decimalText, signedText, hexDigit, plain, escapedByte, escaped, textOf, spaced, line}
-use Rattle.listing.specs.Lines.{versionWord, titleWord, timeWord, extendedWord, stationWord, legWord, sectionWord, errorWord, endWord, refusedWord, atWord, noneWord, legLine, stationLine, sectionLine, errorLine, headerLine, endLine, refusalLine, tooLongLine, recordLines, restOf, listingOf, listerText}
+use Rattle.listing.specs.Lines.{versionWord, titleWord, timeWord, extendedWord, stationWord, legWord, endWord, noneWord, legLine, stationLine}
+use Rattle.listing.specs.Lines.{headerLine, endLine, recordLines, restOf, listingOf, listerText}
 
 -- "the header of case 1 and items 82 03 61 2e 31, twelve 00; 00; 0f, twelve 00; 40 20 64 00 00 00 00 00 00 00 ff ff ff ff; 00"
 abbrev pub case14 : List ℕ
@@ -38,5 +39,9 @@ printed14 =
 
 -- what the lister prints for the file of case 14 is what document 01 shows
 pub case-14 : listerText case14 ≡ printed14
-unfolding pick le16 le32 toLe16 toLe32 toBe16 toBe32 widened same over magic lineEnd endsInReturn goodLine extendedByte closedHeader timeLine titleLine goodVersion headerOf openingOf labelStep sized oldPart lengthSize lengthValue longPart newPart labelledItem stationItem lineItem sectionItem moveItem errorItem newDateItem newLowItem newHighItem itemOf iter iterUp layout layoutAll headerLayout sheetOf next ended readStep run itemsOf readOutcome digitsUp decimalText signedText hexDigit plain escapedByte escaped textOf spaced line versionWord titleWord timeWord extendedWord stationWord legWord endWord noneWord legLine stationLine headerLine endLine recordLines restOf listingOf listerText
+unfolding pick le16 le32 toLe16 toLe32 toBe16 toBe32 widened same over magic lineEnd endsInReturn goodLine extendedByte closedHeader timeLine titleLine
+    goodVersion headerOf openingOf labelStep sized oldPart lengthSize lengthValue longPart newPart labelledItem stationItem lineItem sectionItem moveItem
+    errorItem newDateItem newLowItem newHighItem itemOf iter iterUp layout layoutAll headerLayout sheetOf next ended readStep run itemsOf readOutcome digitsUp
+    decimalText signedText hexDigit plain escapedByte escaped textOf spaced line versionWord titleWord timeWord extendedWord stationWord legWord endWord
+    noneWord legLine stationLine headerLine endLine recordLines restOf listingOf listerText
 case-14 = refl

@@ -1,11 +1,11 @@
 -- Laws of numbers and text as they print: a number's sign, and each way that a byte and a text go. Assumes nothing.
-use mathlib.Core.Path.{_≡_, refl, sym, ap, ap₂, _∙_}
+use mathlib.Core.Path.{_≡_, refl, sym, ap}
 use mathlib.Core.List.{List, [], _∷_, _++_, append-assoc, append-nil}
-use mathlib.Core.Bool.{Bool, true, false}
+use mathlib.Core.Bool.{true, false}
 use Prim.Native.Nat.{ℕ, _+_, _-_, _*_, _/_, _%_, _≤_, _<_}
 use native.Mathlib.Numerals.{add-one}
 use native.Mathlib.Omega.{arith}
-use borrow.Author.Tests.{lt-ltb, le-ltb, eq-eqb, ne-eqb, lt-leb, le-leb}
+use borrow.Author.Tests.{lt-ltb, le-ltb}
 use lib.ListN.{length, take, getD}
 use lib.Seq.{take-suc}
 use Rattle.format.specs.Bytes.{pick, same}
@@ -46,7 +46,8 @@ unfolding escaped
 escaped-next s i h = rw (add-one i, take-suc s i 0 h, escaped-append (take i s) (getD s i 0 ∷ []), append-nil)
 
 -- one byte more of a text
-pub escape-next : (s : List ℕ) {d d′ d″ : List ℕ} {k r r′ i : ℕ} → i < length s → Put (3 * i) (escaped (take i s)) d k r d′ → Put 3 (escapedByte (getD s i 0)) d′ r r′ d″
+pub escape-next : (s : List ℕ) {d d′ d″ : List ℕ} {k r r′ i : ℕ} → i < length s → Put (3 * i) (escaped (take i s)) d k r d′
+    → Put 3 (escapedByte (getD s i 0)) d′ r r′ d″
     → Put (3 * (i + 1)) (escaped (take (i + 1) s)) d k r′ d″
 escape-next s {i = i} h p q = put-as (put-then p q) (omega arith) (escaped-next s i h)
 

@@ -1,6 +1,6 @@
 -- A record's line is at most four times as long as the record in a sheet. Assumes nothing.
-use mathlib.Core.Path.{_≡_, refl}
-use mathlib.Core.List.{List, [], _∷_, _++_}
+use mathlib.Core.Path.{refl}
+use mathlib.Core.List.{List, [], _∷_}
 use Prim.Native.Nat.{ℕ, _+_, _-_, _*_, _≤_, _<_}
 use native.Mathlib.Omega.{arith}
 use lib.ListN.{length, length-append}
@@ -14,8 +14,8 @@ use Rattle.format.specs.declared.Dated.{Dated}
 use Rattle.format.specs.declared.Dated.the-variants.{Undated, Day, Range}
 use Rattle.format.proofs.Basics.{pick-case}
 use Rattle.format.proofs.SheetLaws.{layout-leg, layout-station, section-least, layout-error}
-use Rattle.listing.specs.Text.{decimalText, signedText, escapedByte, escaped, textOf, spaced, line}
-use Rattle.listing.specs.Lines.{noneWord, legWord, stationWord, sectionWord, errorWord, dateText, pointWords, dimensionWords, traverseWords, legLine, stationLine, sectionLine, errorLine, recordLine}
+use Rattle.listing.specs.Text.{decimalText, signedText, escapedByte, escaped, textOf, spaced}
+use Rattle.listing.specs.Lines.{noneWord, legWord, stationWord, sectionWord, errorWord, dateText, pointWords, dimensionWords, traverseWords, recordLine}
 use Rattle.listing.proofs.Digits.{digits-few}
 use Rattle.listing.proofs.Parts.{leg-parts, station-parts, section-parts, error-parts}
 
@@ -86,7 +86,8 @@ traverse-few t g =
 
 -- ---- lines
 
-leg-few : (flags style : ℕ) (date : Dated) → flags ≤ 7 → style ≤ 5 → GoodDated date → length (spaced (decimalText flags ∷ decimalText style ∷ dateText date ∷ [])) ≤ 16
+leg-few : (flags style : ℕ) (date : Dated) → flags ≤ 7 → style ≤ 5 → GoodDated date
+    → length (spaced (decimalText flags ∷ decimalText style ∷ dateText date ∷ [])) ≤ 16
 unfolding spaced
 leg-few flags style date hf hs g =
     let a = digits-few 0 flags (omega arith) in

@@ -58,16 +58,19 @@ sheet-listing version h g rs w l =
 
 -- ---- for a file that was read: its sheet stands at the front of the buffer
 
-pub sheet-read : (file sheet : List ℕ) (b n w : ℕ) → accepted b n w ≡ readOutcome file (length sheet) → take b (readBuffer file sheet) ≡ sheetFrom (openingOf file) file
+pub sheet-read : (file sheet : List ℕ) (b n w : ℕ) → accepted b n w ≡ readOutcome file (length sheet)
+    → take b (readBuffer file sheet) ≡ sheetFrom (openingOf file) file
 unfolding readOutcome readBuffer over
 sheet-read file sheet b n w e = go (openingOf file) refl
   where
     go : (o : Opening) → openingOf file ≡ o → take b (readBuffer file sheet) ≡ sheetFrom (openingOf file) file
-    go (shut k p) q = absurd (let c : accepted b n w ≡ refused k p = e ∙ ap (λ (y : Opening). readFrom y file (length sheet)) q in let z : _≡_ {A = ℕ} 0 1 = cc in omega arith)
+    go (shut k p) q = absurd (let c : accepted b n w ≡ refused k p = e ∙ ap (λ (y : Opening). readFrom y file (length sheet)) q in
+        let z : _≡_ {A = ℕ} 0 1 = cc in omega arith)
     go (opened v p h) q =
         let x = itemsOf v p file in
         let S = sheetOf sheetVersion h (x .records) in
         let c : accepted b n w ≡ readFrom (opened v p h) file (length sheet) = e ∙ ap (λ (y : Opening). readFrom y file (length sheet)) q in
         let A = accepted-means (x .verdict) (length S) (length (x .records)) v (length sheet) b n w (sym c) in
-        let s : readBuffer file sheet ≡ over S sheet = ap (λ (y : Outcome). bufferOf y (sheetFrom (openingOf file) file) sheet) (sym e) ∙ ap (λ (y : Opening). over (sheetFrom y file) sheet) q in
+        let s : readBuffer file sheet ≡ over S sheet = ap (λ (y : Outcome). bufferOf y (sheetFrom (openingOf file) file) sheet) (sym e)
+        ∙ ap (λ (y : Opening). over (sheetFrom y file) sheet) q in
         ap (take b) s ∙ take-at S (drop (length S) sheet) b (sym (A .bytes-are)) ∙ ap (λ (y : Opening). sheetFrom y file) (sym q)

@@ -3,16 +3,15 @@
 use mathlib.Core.Path.{_≡_}
 use mathlib.Core.List.{List, [], _∷_, _++_, append-assoc, append-nil}
 use Prim.Native.Nat.{ℕ}
-use Rattle.format.specs.Header.{Header}
-use Rattle.format.specs.declared.Point.{Point}
-use Rattle.format.specs.declared.Dimensions.{Dimensions}
 use Rattle.format.specs.declared.Traverse.{Traverse}
 use Rattle.format.specs.declared.Leg.{Leg}
 use Rattle.format.specs.declared.Station.{Station}
 use Rattle.format.specs.declared.Section.{Section}
 use Rattle.format.specs.declared.Dated.{Dated}
 use Rattle.listing.specs.Text.{decimalText, signedText, textOf, spaced, line}
-use Rattle.listing.specs.Lines.{versionWord, titleWord, timeWord, extendedWord, stationWord, legWord, sectionWord, errorWord, endWord, refusedWord, atWord, dateText, pointWords, dimensionWords, traverseWords, legLine, stationLine, sectionLine, errorLine, headerLine, endLine, refusalLine}
+use Rattle.listing.specs.Lines.{versionWord, titleWord, timeWord, extendedWord, stationWord, legWord, sectionWord, errorWord, endWord}
+use Rattle.listing.specs.Lines.{refusedWord, atWord, dateText, pointWords, dimensionWords, traverseWords, legLine, stationLine, sectionLine}
+use Rattle.listing.specs.Lines.{errorLine, headerLine, endLine, refusalLine}
 
 -- a space and a word; a space and a number; a space, text and a linefeed; a space, a number and a linefeed
 abbrev word : List ℕ → List ℕ
@@ -76,11 +75,13 @@ header-join : (w v t n i m x u e : List ℕ)
 header-join w v t n i m x u e = simp (append-assoc, append-nil)
 
 pub header-parts : (version : ℕ) (title time : List ℕ) {n extended : ℕ} → n ≡ extended
-    → headerFront version title ++ word timeWord ++ word (textOf time) ++ word extendedWord ++ lastNumber n ≡ headerLine version (record { extended = extended; title = title; time = time })
+    → headerFront version title ++ word timeWord ++ word (textOf time) ++ word extendedWord ++ lastNumber n ≡ headerLine version
+    (record { extended = extended; title = title; time = time })
 unfolding headerLine line spaced
 header-parts version title time e =
     rw e
-    (header-join versionWord (word (decimalText version)) (word titleWord) (word (textOf title)) (word timeWord) (word (textOf time)) (word extendedWord) (word (decimalText _)) (10 ∷ []))
+    (header-join versionWord (word (decimalText version)) (word titleWord) (word (textOf title)) (word timeWord) (word (textOf time)) (word extendedWord)
+    (word (decimalText _)) (10 ∷ []))
 
 pub end-parts : (n : ℕ) → endWord ++ lastNumber n ≡ endLine n
 unfolding endLine line spaced

@@ -1,17 +1,16 @@
 -- A turn of the loop over a sheet's records, on plain values, and the whole listing. Assumes nothing.
-use mathlib.Core.Path.{_≡_, refl, sym, ap, ap₂, _∙_}
+use mathlib.Core.Path.{_≡_, refl, sym, ap, _∙_}
 use mathlib.Core.List.{List, [], _∷_, _++_, append-assoc}
 use mathlib.Core.Bool.{false}
-use Prim.Native.Nat.{ℕ, suc, _+_, _-_, _*_, _≤_, _<_}
-use native.Mathlib.Nat.{add-zero, zero-add}
+use Prim.Native.Nat.{ℕ, suc, _+_, _-_, _*_, _≤_}
+use native.Mathlib.Nat.{add-zero}
 use native.Mathlib.Omega.{arith}
 use lib.ListN.{length, take, drop, length-take, length-drop, drop-of-length-le}
-use borrow.Author.Tests.{le-ltb}
 use lib.Seq.{drop-drop}
 use borrow.Rule.Slice.PartAt.{part-to-end}
-use Rattle.format.specs.Bytes.{pick, over, Bytes}
+use Rattle.format.specs.Bytes.{pick, Bytes}
 use Rattle.format.specs.State.{Record}
-use Rattle.format.specs.Sheet.{Entry, flawed, entry, entryOf, framed, recordsFrom, recordsOf, goodFront, frontHeader, behindFront, versionResult, versionOf, sheetResult}
+use Rattle.format.specs.Sheet.{flawed, entry, entryOf, recordsFrom, recordsOf, goodFront, frontHeader, versionResult, versionOf, sheetResult}
 use Rattle.format.specs.Refusals.{Result}
 use Rattle.format.specs.declared.Verdict.the-variants.{Good, Refusal}
 use Rattle.format.specs.Label.{labelLimit}
@@ -22,7 +21,7 @@ use Rattle.sheet.specs.declared.Entry.{Entry as Found}
 use Rattle.sheet.specs.declared.Entry.the-variants.{Flawed, Whole}
 use Rattle.format.proofs.SheetLaws.{entry-sized, entry-read, bytes-drop, records-none, records-more}
 use Rattle.listing.specs.Lines.{recordLine, recordLines, endLine, restOf, headerLine, listingOf}
-use Rattle.listing.specs.Puts.{Put, Wrote, fitted, lineLimit}
+use Rattle.listing.specs.Puts.{Put, lineLimit}
 use Rattle.listing.proofs.Stores.{put-none, put-then, put-as, put-within}
 use Rattle.listing.proofs.Lengths.{record-short}
 
@@ -50,7 +49,12 @@ module _ (v : ℕ) (sheet : List ℕ) (at : ℕ) where
     entry-place h =
         let i = T .inside in
         let e : length (take (length sheet - at) (drop at sheet)) ≡ length sheet - at = ap length (part-to-end sheet at) ∙ length-drop at sheet in
-        record { least = entry-sized v (drop at sheet) entry-at .least; label-from = i .from-within; behind = omega (arith, i .within); label-short = simp length-take (omega (arith, i .short)) }
+        record {
+          least = entry-sized v (drop at sheet) entry-at .least;
+          label-from = i .from-within;
+          behind = omega (arith, i .within);
+          label-short = simp length-take (omega (arith, i .short));
+        }
 
 -- ---- the records from a place on
 
@@ -90,7 +94,8 @@ listed-none v sheet from old begin h =
     record { so-far = []; place = 0; inside = h; few = omega arith; put = put-as (put-none old begin) (omega arith) refl; same = refl }
 
 module _ {v : ℕ} {sheet old new : List ℕ} {from begin at k records : ℕ} (L : Listed v sheet from old begin new at k records) where
-  pub listed-more : Bytes sheet → {size k′ : ℕ} {r : Record} {new′ : List ℕ} → entryOf v (drop at sheet) ≡ entry size r → Put lineLimit (recordLine r) new k k′ new′
+  pub listed-more : Bytes sheet → {size k′ : ℕ} {r : Record} {new′ : List ℕ} → entryOf v (drop at sheet) ≡ entry size r
+      → Put lineLimit (recordLine r) new k k′ new′
       → Listed v sheet from old begin new′ (at + size) k′ (records + 1)
   listed-more b {size} {k′} {r} {new′} e q =
       let z = entry-sized v (drop at sheet) e in
@@ -188,6 +193,7 @@ module _ (v : ℕ) (sheet : List ℕ) (q : v ≡ versionOf sheet) (version : ℕ
     pub time-short : length timePart ≤ 64
     time-short = rw time-size (simp length-take (omega (arith, F .time-short)))
 
-    pub whole-some : headerLine version (record { extended = extended; title = titlePart; time = timePart }) ++ restOf 0 (recordsOf v (drop (7 + k + m) sheet) .records) ≡ listingOf version (frontHeader sheet) (sheetResult sheet .records)
+    pub whole-some : headerLine version (record { extended = extended; title = titlePart; time = timePart }) ++ restOf 0
+        (recordsOf v (drop (7 + k + m) sheet) .records) ≡ listingOf version (frontHeader sheet) (sheetResult sheet .records)
     unfolding sheetResult versionResult listingOf pick
     whole-some = rw (title-size, time-size, ← q) (simp (F .good, F .header, F .behind))

@@ -1,9 +1,9 @@
 -- Words in lists of bytes: stores one after the other, and the bytes of a number. Assumes nothing.
 use Prim.Native.Nat.{ℕ, _+_, _*_, _/_, _%_, _≤_, _<_}
-use mathlib.Core.Path.{_≡_, refl, sym, ap, _∙_}
-use mathlib.Core.List.{List, [], _∷_, _++_}
+use mathlib.Core.Path.{_≡_, refl, sym, _∙_}
+use mathlib.Core.List.{List, [], _∷_}
 use native.Mathlib.Omega.{arith}
-use lib.ListN.{length, getD, take, drop, set}
+use lib.ListN.{length, getD, take, set}
 use Rattle.format.specs.Bytes.{le32, toLe32, toBe32, over}
 use Rattle.number.specs.Four.{Four, toLe64}
 
@@ -21,7 +21,8 @@ stores-4 (x0 ∷ x1 ∷ x2 ∷ x3 ∷ l) a0 a1 a2 a3 h = refl
 
 -- ---- 8 stores one after the other
 
-pub stores-8 : (l : List ℕ) (a0 a1 a2 a3 a4 a5 a6 a7 : ℕ) → 8 ≤ length l → set (set (set (set (set (set (set (set l 0 a0) 1 a1) 2 a2) 3 a3) 4 a4) 5 a5) 6 a6) 7 a7 ≡ over (a0 ∷ a1 ∷ a2 ∷ a3 ∷ a4 ∷ a5 ∷ a6 ∷ a7 ∷ []) l
+pub stores-8 : (l : List ℕ) (a0 a1 a2 a3 a4 a5 a6 a7 : ℕ) → 8 ≤ length l
+    → set (set (set (set (set (set (set (set l 0 a0) 1 a1) 2 a2) 3 a3) 4 a4) 5 a5) 6 a6) 7 a7 ≡ over (a0 ∷ a1 ∷ a2 ∷ a3 ∷ a4 ∷ a5 ∷ a6 ∷ a7 ∷ []) l
 unfolding over
 stores-8 [] a0 a1 a2 a3 a4 a5 a6 a7 h = absurd (omega arith)
 stores-8 (x0 ∷ []) a0 a1 a2 a3 a4 a5 a6 a7 h = absurd (omega arith)
@@ -42,7 +43,8 @@ taken-4 (x0 ∷ x1 ∷ []) h = absurd (omega arith)
 taken-4 (x0 ∷ x1 ∷ x2 ∷ []) h = absurd (omega arith)
 taken-4 (x0 ∷ x1 ∷ x2 ∷ x3 ∷ l) h = refl
 
-pub taken-8 : (l : List ℕ) → 8 ≤ length l → take 8 l ≡ getD l 0 0 ∷ getD l 1 0 ∷ getD l 2 0 ∷ getD l 3 0 ∷ getD l 4 0 ∷ getD l 5 0 ∷ getD l 6 0 ∷ getD l 7 0 ∷ []
+pub taken-8 : (l : List ℕ) → 8 ≤ length l → take 8 l ≡ getD l 0 0 ∷ getD l 1 0 ∷ getD l 2 0 ∷ getD l 3 0 ∷ getD l 4 0 ∷ getD l 5 0 ∷ getD l 6 0 ∷ getD l 7 0 ∷
+    []
 taken-8 [] h = absurd (omega arith)
 taken-8 (x0 ∷ []) h = absurd (omega arith)
 taken-8 (x0 ∷ x1 ∷ []) h = absurd (omega arith)
@@ -65,17 +67,27 @@ bytes-4 a0 a1 a2 a3 h0 h1 h2 h3 =
     let e3 : (a3) % 256 ≡ a3 = omega arith in
     rw (q1, q2, q3, e0, e1, e2, e3)
 
-pub bytes-8 : (a0 a1 a2 a3 a4 a5 a6 a7 : ℕ) → a0 < 256 → a1 < 256 → a2 < 256 → a3 < 256 → a4 < 256 → a5 < 256 → a6 < 256 → a7 < 256 → toLe64 (a0 + a1 * 256 + a2 * 65536 + a3 * 16777216 + a4 * 4294967296 + a5 * 1099511627776 + a6 * 281474976710656 + a7 * 72057594037927936) ≡ a0 ∷ a1 ∷ a2 ∷ a3 ∷ a4 ∷ a5 ∷ a6 ∷ a7 ∷ []
+pub bytes-8 : (a0 a1 a2 a3 a4 a5 a6 a7 : ℕ) → a0 < 256 → a1 < 256 → a2 < 256 → a3 < 256 → a4 < 256 → a5 < 256 → a6 < 256 → a7 < 256
+    → toLe64 (a0 + a1 * 256 + a2 * 65536 + a3 * 16777216 + a4 * 4294967296 + a5 * 1099511627776 + a6 * 281474976710656 + a7 * 72057594037927936) ≡ a0 ∷ a1 ∷
+    a2 ∷ a3 ∷ a4 ∷ a5 ∷ a6 ∷ a7 ∷ []
 unfolding toLe64
 bytes-8 a0 a1 a2 a3 a4 a5 a6 a7 h0 h1 h2 h3 h4 h5 h6 h7 =
-    let q1 : (a0 + a1 * 256 + a2 * 65536 + a3 * 16777216 + a4 * 4294967296 + a5 * 1099511627776 + a6 * 281474976710656 + a7 * 72057594037927936) / 256 ≡ a1 + a2 * 256 + a3 * 65536 + a4 * 16777216 + a5 * 4294967296 + a6 * 1099511627776 + a7 * 281474976710656 = omega arith in
-    let q2 : (a0 + a1 * 256 + a2 * 65536 + a3 * 16777216 + a4 * 4294967296 + a5 * 1099511627776 + a6 * 281474976710656 + a7 * 72057594037927936) / 65536 ≡ a2 + a3 * 256 + a4 * 65536 + a5 * 16777216 + a6 * 4294967296 + a7 * 1099511627776 = omega arith in
-    let q3 : (a0 + a1 * 256 + a2 * 65536 + a3 * 16777216 + a4 * 4294967296 + a5 * 1099511627776 + a6 * 281474976710656 + a7 * 72057594037927936) / 16777216 ≡ a3 + a4 * 256 + a5 * 65536 + a6 * 16777216 + a7 * 4294967296 = omega arith in
-    let q4 : (a0 + a1 * 256 + a2 * 65536 + a3 * 16777216 + a4 * 4294967296 + a5 * 1099511627776 + a6 * 281474976710656 + a7 * 72057594037927936) / 4294967296 ≡ a4 + a5 * 256 + a6 * 65536 + a7 * 16777216 = omega arith in
-    let q5 : (a0 + a1 * 256 + a2 * 65536 + a3 * 16777216 + a4 * 4294967296 + a5 * 1099511627776 + a6 * 281474976710656 + a7 * 72057594037927936) / 1099511627776 ≡ a5 + a6 * 256 + a7 * 65536 = omega arith in
-    let q6 : (a0 + a1 * 256 + a2 * 65536 + a3 * 16777216 + a4 * 4294967296 + a5 * 1099511627776 + a6 * 281474976710656 + a7 * 72057594037927936) / 281474976710656 ≡ a6 + a7 * 256 = omega arith in
-    let q7 : (a0 + a1 * 256 + a2 * 65536 + a3 * 16777216 + a4 * 4294967296 + a5 * 1099511627776 + a6 * 281474976710656 + a7 * 72057594037927936) / 72057594037927936 ≡ a7 = omega arith in
-    let e0 : (a0 + a1 * 256 + a2 * 65536 + a3 * 16777216 + a4 * 4294967296 + a5 * 1099511627776 + a6 * 281474976710656 + a7 * 72057594037927936) % 256 ≡ a0 = omega arith in
+    let q1 : (a0 + a1 * 256 + a2 * 65536 + a3 * 16777216 + a4 * 4294967296 + a5 * 1099511627776 + a6 * 281474976710656 + a7 * 72057594037927936) / 256 ≡ a1 +
+    a2 * 256 + a3 * 65536 + a4 * 16777216 + a5 * 4294967296 + a6 * 1099511627776 + a7 * 281474976710656 = omega arith in
+    let q2 : (a0 + a1 * 256 + a2 * 65536 + a3 * 16777216 + a4 * 4294967296 + a5 * 1099511627776 + a6 * 281474976710656 + a7 * 72057594037927936) / 65536 ≡ a2
+    + a3 * 256 + a4 * 65536 + a5 * 16777216 + a6 * 4294967296 + a7 * 1099511627776 = omega arith in
+    let q3 : (a0 + a1 * 256 + a2 * 65536 + a3 * 16777216 + a4 * 4294967296 + a5 * 1099511627776 + a6 * 281474976710656 + a7 * 72057594037927936) / 16777216 ≡
+    a3 + a4 * 256 + a5 * 65536 + a6 * 16777216 + a7 * 4294967296 = omega arith in
+    let q4 : (a0 + a1 * 256 + a2 * 65536 + a3 * 16777216 + a4 * 4294967296 + a5 * 1099511627776 + a6 * 281474976710656 + a7 * 72057594037927936) / 4294967296
+    ≡ a4 + a5 * 256 + a6 * 65536 + a7 * 16777216 = omega arith in
+    let q5 : (a0 + a1 * 256 + a2 * 65536 + a3 * 16777216 + a4 * 4294967296 + a5 * 1099511627776 + a6 * 281474976710656 + a7 * 72057594037927936) /
+    1099511627776 ≡ a5 + a6 * 256 + a7 * 65536 = omega arith in
+    let q6 : (a0 + a1 * 256 + a2 * 65536 + a3 * 16777216 + a4 * 4294967296 + a5 * 1099511627776 + a6 * 281474976710656 + a7 * 72057594037927936) /
+    281474976710656 ≡ a6 + a7 * 256 = omega arith in
+    let q7 : (a0 + a1 * 256 + a2 * 65536 + a3 * 16777216 + a4 * 4294967296 + a5 * 1099511627776 + a6 * 281474976710656 + a7 * 72057594037927936) /
+    72057594037927936 ≡ a7 = omega arith in
+    let e0 : (a0 + a1 * 256 + a2 * 65536 + a3 * 16777216 + a4 * 4294967296 + a5 * 1099511627776 + a6 * 281474976710656 + a7 * 72057594037927936) % 256 ≡ a0 =
+    omega arith in
     let e1 : (a1 + a2 * 256 + a3 * 65536 + a4 * 16777216 + a5 * 4294967296 + a6 * 1099511627776 + a7 * 281474976710656) % 256 ≡ a1 = omega arith in
     let e2 : (a2 + a3 * 256 + a4 * 65536 + a5 * 16777216 + a6 * 4294967296 + a7 * 1099511627776) % 256 ≡ a2 = omega arith in
     let e3 : (a3 + a4 * 256 + a5 * 65536 + a6 * 16777216 + a7 * 4294967296) % 256 ≡ a3 = omega arith in

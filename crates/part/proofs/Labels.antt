@@ -2,16 +2,16 @@
 use Prim.Native.Nat.{ℕ, suc, _+_, _-_, _*_, _≤_, _<_}
 use mathlib.Core.Path.{_≡_, refl, sym, ap, _∙_}
 use mathlib.Core.List.{List, [], _∷_, _++_}
-use mathlib.Core.Bool.{Bool, true, false, _&&_, _||_}
+use mathlib.Core.Bool.{true, false, _&&_}
 use native.Mathlib.Omega.{arith}
-use lib.ListN.{length, take}
+use lib.ListN.{length}
 use lib.Seq.{take-all}
-use lib.Dec.{eqb, ltb, leb}
-use borrow.Author.Tests.{lt-ltb, le-ltb, leb-true, eq-eqb, ne-eqb}
+use lib.Dec.{leb}
+use borrow.Author.Tests.{lt-ltb, le-ltb, leb-true, eq-eqb}
 use Rattle.format.specs.Bytes.{pick, same, toLe32}
 use Rattle.format.specs.Codes.{common, keptBytes, lengthCodes, shortPart, partCodes}
 use Rattle.format.proofs.Basics.{pick-true, pick-false, both, same-true, same-refl}
-use Rattle.format.proofs.WritingLaws.{common-le, common-take}
+use Rattle.format.proofs.WritingLaws.{common-take}
 use Rattle.wire.proofs.Laws.{same-false}
 
 -- ---- whether two labels are the same, by how much they have in common

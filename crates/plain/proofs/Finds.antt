@@ -1,14 +1,14 @@
 -- A record whose label part takes one byte, and its codes, on plain values. Assumes nothing.
-use Prim.Native.Nat.{ℕ, _+_, _-_, _*_, _≤_, _<_}
-use mathlib.Core.Path.{_≡_, refl, sym, ap, _∙_}
-use mathlib.Core.List.{List, [], _∷_, _++_}
-use mathlib.Core.Bool.{Bool, true, false, _&&_, _||_}
+use Prim.Native.Nat.{ℕ, _+_, _-_, _*_, _≤_}
+use mathlib.Core.Path.{_≡_, sym, ap, _∙_}
+use mathlib.Core.List.{List, _∷_, _++_}
+use mathlib.Core.Bool.{true, false, _&&_}
 use native.Mathlib.Omega.{arith}
-use lib.ListN.{length, take, drop, length-take, length-drop}
-use lib.Dec.{ltb, leb}
+use lib.ListN.{length, drop, length-take, length-drop}
+use lib.Dec.{leb}
 use borrow.Author.Tests.{leb-true, le-ltb}
 use Rattle.format.specs.Bytes.{same}
-use Rattle.format.specs.Codes.{common, shortPart, partCodes, labelCodes, codes}
+use Rattle.format.specs.Codes.{common, shortPart, labelCodes, codes}
 use Rattle.format.specs.Fields.{recordOf, stateOf}
 use Rattle.format.specs.declared.Position.{Position}
 use Rattle.format.specs.declared.Setting.{Setting}

@@ -35,7 +35,8 @@ use Rattle.measure.specs.Totals.{passedBy, passOf}
 use Rattle.measure.specs.declared.Passed.{Passed}
 use Rattle.measure.specs.declared.Passed.the-variants.{Refused, Done}
 use Rattle.measure.proofs.Sums.{pass-also, pass-stop}
-use Rattle.read.specs.Pass.{laidBy, lay, ReadsTo}
+use Rattle.laying.specs.Quickly.{laidBy}
+use Rattle.read.specs.Pass.{lay, ReadsTo}
 use Rattle.header.specs.Head.{saying, Opens}
 use Rattle.format.specs.declared.Answer.the-variants.{Done as AnswerDone, Refused as AnswerRefused}
 

@@ -2,20 +2,13 @@
 use Prim.Native.Nat.{ℕ, _+_}
 use mathlib.Core.List.{List, [], _∷_}
 use lib.ListN.{length}
-use Rattle.format.specs.State.{Record, Next, bad, end, on, made}
+use Rattle.format.specs.State.{Record}
 use Rattle.format.specs.Sheet.{sheetVersion, layout}
 use Rattle.wire.specs.Laid.{laidIf}
 use mathlib.Core.Path.{_≡_}
 use Rattle.format.specs.Reading.{readOutcome, readBuffer}
 use Rattle.format.specs.Answers.{answerOf}
 use Rattle.format.specs.declared.Answer.{Answer}
-
--- d with the record that an item makes, if any, in it from k on, where it fits
-abbrev pub laidBy : Next → List ℕ → ℕ → List ℕ
-laidBy (bad n) d k = d
-laidBy end d k = d
-laidBy (on n st) d k = d
-laidBy (made n r st) d k = laidIf d k (layout sheetVersion r)
 
 -- d with the records in it from k on, each where it fits
 unfoldable pub lay : List ℕ → ℕ → List Record → List ℕ

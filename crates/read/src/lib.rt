@@ -9,31 +9,29 @@ ghost use Rattle.format.specs.Answers.{answerOf};
 ghost use Rattle.format.specs.Fields.{stateOf};
 ghost use Rattle.item.specs.Seen.{Tells};
 ghost use Rattle.measure.specs.Totals.{passOf};
-ghost use Rattle.read.specs.Pass.{laidBy, lay, ReadsTo};
-ghost use Rattle.read.specs.Quickly.{Joined, Quickly};
-ghost use Rattle.format.specs.State.{leg, station, section};
-ghost use Rattle.format.specs.Sheet.{sheetVersion, layout};
-ghost use Rattle.wire.specs.Laid.{laidIf};
-ghost use Rattle.short.specs.Brief.{nameAt};
-ghost use Rattle.item.specs.Commonest.{extended};
+ghost use Rattle.format.specs.Items.{itemOf};
+ghost use Rattle.format.specs.Outline.{dropLeaves};
+ghost use Rattle.laying.specs.Quickly.{laidBy, Quickly};
+ghost use Rattle.read.specs.Pass.{lay, ReadsTo};
 ghost use Rattle.header.specs.Head.{Opens};
 ghost use Rattle.format.specs.Header.{fileLimit};
 ghost use Rattle.format.specs.Label.{labelLimit};
 ghost use Rattle.format.specs.Sheet.{frontLimit};
 use format::Answer;
 use format::LABEL_LIMIT;
-use format::Leg;
-use format::Point;
 use format::Position;
-use format::Section;
 use format::Setting;
-use format::Station;
 use header::Head;
 use item::Step;
 use item::leg_at;
 use item::section_at;
 use item::station_at;
 use item::with_position;
+use laying::Joint;
+use laying::Quick;
+use laying::lay_leg;
+use laying::lay_section;
+use laying::lay_station;
 use measure::Passed;
 use short::Short;
 use short::short_item;
@@ -69,90 +67,6 @@ fn lay_item(
     it
 }
 
-// What one of the commonest items comes to: another item; a leg, with the item's size, the
-// label's new length and where it leads; a station or a cross-section, with the record's
-// bytes; or the label's length after a trim.
-enum Quick {
-    Other,
-    Leg {
-        size: usize,
-        len: usize,
-        to: Point,
-    },
-    Made {
-        size: usize,
-        len: usize,
-        bytes: usize,
-    },
-    Trim {
-        len: usize,
-    },
-}
-
-// How many bytes of the label an item keeps, and how many it adds.
-struct Joint {
-    keep: usize,
-    add: usize,
-}
-
-// Lays the leg of a short LINE at the front of s into the sheet from `out` on, where it
-// fits, and extends the label.
-fn lay_leg(
-    s: &[u8],
-    bytes: &mut [u8; LABEL_LIMIT],
-    joint: Joint,
-    fields: Leg,
-    sheet: &mut [u8],
-    out: usize,
-)
-    requires { ⌜ Joined joint (now s) (now bytes) out ⌝ }
-    ensures label { λ _. ⌜ now (bytes .exit) ≡ extended (now (bytes .entry)) (joint .keep) (now (s .entry)) ⌝ }
-    ensures sheet { λ _. ⌜ now (sheet .exit) ≡ laidIf (now (sheet .entry)) out (layout sheetVersion (leg fields (nameAt (now (s .entry)) (joint .keep) (joint .add) (now (bytes .entry))))) ⌝ }
-{
-    let keep = joint.keep;
-    let behind = 2 + joint.add;
-    record::lay_short_leg(sheet, out, fields, bytes, keep, &s[2..behind]);
-    label::extend(bytes, keep, &s[2..]);
-}
-
-// The same of a station and a short LABEL.
-fn lay_station(
-    s: &[u8],
-    bytes: &mut [u8; LABEL_LIMIT],
-    joint: Joint,
-    fields: Station,
-    sheet: &mut [u8],
-    out: usize,
-)
-    requires { ⌜ Joined joint (now s) (now bytes) out ⌝ }
-    ensures label { λ _. ⌜ now (bytes .exit) ≡ extended (now (bytes .entry)) (joint .keep) (now (s .entry)) ⌝ }
-    ensures sheet { λ _. ⌜ now (sheet .exit) ≡ laidIf (now (sheet .entry)) out (layout sheetVersion (station fields (nameAt (now (s .entry)) (joint .keep) (joint .add) (now (bytes .entry))))) ⌝ }
-{
-    let keep = joint.keep;
-    let behind = 2 + joint.add;
-    record::lay_short_station(sheet, out, fields, bytes, keep, &s[2..behind]);
-    label::extend(bytes, keep, &s[2..]);
-}
-
-// The same of a cross-section and a short XSECT.
-fn lay_section(
-    s: &[u8],
-    bytes: &mut [u8; LABEL_LIMIT],
-    joint: Joint,
-    fields: Section,
-    sheet: &mut [u8],
-    out: usize,
-)
-    requires { ⌜ Joined joint (now s) (now bytes) out ⌝ }
-    ensures label { λ _. ⌜ now (bytes .exit) ≡ extended (now (bytes .entry)) (joint .keep) (now (s .entry)) ⌝ }
-    ensures sheet { λ _. ⌜ now (sheet .exit) ≡ laidIf (now (sheet .entry)) out (layout sheetVersion (section fields (nameAt (now (s .entry)) (joint .keep) (joint .add) (now (bytes .entry))))) ⌝ }
-{
-    let keep = joint.keep;
-    let behind = 2 + joint.add;
-    record::lay_short_section(sheet, out, fields, bytes, keep, &s[2..behind]);
-    label::extend(bytes, keep, &s[2..]);
-}
-
 // The item at the front of s, in the state of a setting and a label, where it is one of
 // the commonest: its record, where it makes one, is laid into the sheet from `out` on.
 fn lay_short(
@@ -165,7 +79,7 @@ fn lay_short(
     out: usize,
 ) -> Quick
     requires { ⌜ (len ≤ labelLimit) × (length (now bytes) ≡ labelLimit) × (out < 2 ^ 62) ⌝ }
-    ensures { λ r. ⌜ Quickly r (next version (now (s .entry)) (stateOf setting (take len (now (bytes .entry))))) setting (now (bytes .entry)) (now (bytes .exit)) (now (sheet .entry)) (now (sheet .exit)) out ⌝ }
+    ensures { λ r. ⌜ Quickly r (next version (now (s .entry)) (stateOf setting (take len (now (bytes .entry))))) (dropLeaves (take len (now (bytes .entry))) (itemOf version (now (s .entry)))) setting (now (bytes .entry)) (now (bytes .exit)) (now (sheet .entry)) (now (sheet .exit)) out ⌝ }
 {
     let position = setting.position;
     let it = short_item(version, s, len);
@@ -181,6 +95,7 @@ fn lay_short(
                     size: 14 + add,
                     len: keep + add,
                     to,
+                    kept: keep,
                 }
             }
         },
@@ -192,6 +107,7 @@ fn lay_short(
                 size: 14 + add,
                 len: m,
                 bytes: 16 + m,
+                kept: keep,
             }
         }
         Short::Section { keep, add, code } => {
@@ -202,6 +118,7 @@ fn lay_short(
                 size: 2 + add + sides(code),
                 len: m,
                 bytes: 25 + m,
+                kept: keep,
             }
         }
         Short::Trim { len: m } => Quick::Trim { len: m },
@@ -225,14 +142,24 @@ fn pass(file: &[u8], version: u8, place: usize, sheet: &mut [u8], front: usize) 
         let old = label.len;
         let quick = lay_short(version, rest, &mut label.bytes, old, setting, sheet, out);
         match quick {
-            Quick::Leg { size, len, to } => {
+            Quick::Leg {
+                size,
+                len,
+                to,
+                kept: _,
+            } => {
                 label.len = len;
                 setting = with_position(setting, to);
                 out += 34 + len;
                 records += 1;
                 at += size;
             }
-            Quick::Made { size, len, bytes } => {
+            Quick::Made {
+                size,
+                len,
+                bytes,
+                kept: _,
+            } => {
                 label.len = len;
                 out += bytes;
                 records += 1;

@@ -7,9 +7,10 @@ use format::Setting;
 use item::Step;
 use label::Relabelled;
 ghost use mathlib.Core.Path.{_≡_};
-ghost use Prim.Native.Nat.{_+_, _≤_};
-ghost use lib.ListN.{length};
-ghost use Rattle.records.specs.Places.{Starts, Finds};
+ghost use mathlib.Core.List.{_++_};
+ghost use Prim.Native.Nat.{_+_, _-_, _≤_, _<_};
+ghost use lib.ListN.{length, take};
+ghost use Rattle.records.specs.Places.{Starts, endedAt, Finds};
 ghost use Rattle.records.specs.Keeping.{Swaps, Keeps};
 ghost use Rattle.format.specs.Label.{labelLimit};
 
@@ -40,6 +41,20 @@ pub fn first_place(at: usize) -> Place
     }
 }
 
+// The end item at `at`, with so many bytes from it on: 10 where bytes follow it.
+fn ended(at: usize, left: usize) -> Found
+    requires { ⌜ at < 18446744073709551615 ⌝ }
+    ensures { λ r. ⌜ r ≡ endedAt at left ⌝ }
+{
+    if 1 < left {
+        return Found::Refused {
+            number: 10,
+            place: at + 1,
+        };
+    }
+    Found::End
+}
+
 // The next record of the file.
 pub fn next_record(file: &[u8], version: u8, from: Place, bytes: &mut [u8; LABEL_LIMIT]) -> Found
     requires { ⌜ (from .at ≤ length (now file)) × (from .len ≤ labelLimit) × (length (now bytes) ≡ labelLimit) ⌝ }
@@ -52,18 +67,8 @@ pub fn next_record(file: &[u8], version: u8, from: Place, bytes: &mut [u8; LABEL
         let rest = &file[at..];
         let it = item::take_item(version, rest, bytes, len, setting);
         match it {
-            Step::Bad { number } => {
-                return Found::Refused { number, place: at };
-            }
-            Step::End => {
-                if 1 < rest.len() {
-                    return Found::Refused {
-                        number: 10,
-                        place: at + 1,
-                    };
-                }
-                return Found::End;
-            }
+            Step::Bad { number } => return Found::Refused { number, place: at },
+            Step::End => return ended(at, rest.len()),
             Step::On {
                 size,
                 len: m,
@@ -80,16 +85,28 @@ pub fn next_record(file: &[u8], version: u8, from: Place, bytes: &mut [u8; LABEL
                 fields,
                 kept: _,
             } => {
-                return Found::Record {
-                    place: Place {
-                        at: at + size,
-                        len: m,
-                        setting: after,
-                    },
-                    fields,
+                let place = Place {
+                    at: at + size,
+                    len: m,
+                    setting: after,
                 };
+                return Found::Record { place, fields };
             }
         }
+    }
+}
+
+// The label of len bytes in a buffer, of which `off` are dropped, with the bytes that
+// come: answers its length.
+pub fn relabel(bytes: &mut [u8; LABEL_LIMIT], len: usize, off: usize, added: &[u8]) -> usize
+    requires { ⌜ (len ≤ labelLimit) × (length (now bytes) ≡ labelLimit) × (off ≤ len) × (len - off + length (now added) ≤ labelLimit) ⌝ }
+    ensures { λ r. ⌜ Swaps (now (bytes .exit)) (take (len - off) (now (bytes .entry)) ++ now (added .entry)) r ⌝ }
+{
+    let after = label::label_step(bytes, len, Cut::Back { bytes: off }, added);
+    match after {
+        Relabelled::TooShort => len,
+        Relabelled::TooLong => len,
+        Relabelled::Fits { len: m, kept: _ } => m,
     }
 }
 
@@ -98,12 +115,7 @@ pub fn swap_label(bytes: &mut [u8; LABEL_LIMIT], len: usize, name: &[u8]) -> usi
     requires { ⌜ (len ≤ labelLimit) × (length (now bytes) ≡ labelLimit) × (length (now name) ≤ labelLimit) ⌝ }
     ensures { λ r. ⌜ Swaps (now (bytes .exit)) (now (name .entry)) r ⌝ }
 {
-    let after = label::label_step(bytes, len, Cut::Back { bytes: len }, name);
-    match after {
-        Relabelled::TooShort => len,
-        Relabelled::TooLong => len,
-        Relabelled::Fits { len: m, kept: _ } => m,
-    }
+    relabel(bytes, len, len, name)
 }
 
 // The label after a record of this name, in a buffer that held the one before, of len

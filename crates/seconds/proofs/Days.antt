@@ -66,7 +66,8 @@ module _ (row m : ℕ) (hr : row < 2) (h1 : 1 ≤ m) (hm : m ≤ 12) where
 
   pub month-short : monthLength row m ≤ 31
   unfolding monthLength
-  month-short = leb-true (getD (monthLengths row) (m - 1) 0) 31 (both (leb (getD (monthLengths row) (m - 1) 0) 31) (leb (monthDays row (m - 1)) 335) small-at .0)
+  month-short = leb-true (getD (monthLengths row) (m - 1) 0) 31
+      (both (leb (getD (monthLengths row) (m - 1) 0) 31) (leb (monthDays row (m - 1)) 335) small-at .0)
 
   pub months-short : monthDays row (m - 1) ≤ 335
   months-short = leb-true (monthDays row (m - 1)) 335 (both (leb (getD (monthLengths row) (m - 1) 0) 31) (leb (monthDays row (m - 1)) 335) small-at .1)

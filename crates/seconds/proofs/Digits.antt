@@ -39,7 +39,8 @@ grows (b ∷ s) n = let h = grows s (n * 10 + (b - 48)) in omega arith
 
 module _ (n : ℕ) (s : List ℕ) (i : ℕ) (h : i < length s) where
   next : numberFrom n (drop i s)
-      ≡ spelled ((isDigit (getD s i 0) && allDigits (drop (suc i) s)) && leb (decimalFrom (n * 10 + (getD s i 0 - 48)) (drop (suc i) s)) 4294967295) (decimalFrom (n * 10 + (getD s i 0 - 48)) (drop (suc i) s))
+      ≡ spelled ((isDigit (getD s i 0) && allDigits (drop (suc i) s)) && leb (decimalFrom (n * 10 + (getD s i 0 - 48)) (drop (suc i) s)) 4294967295)
+      (decimalFrom (n * 10 + (getD s i 0 - 48)) (drop (suc i) s))
   unfolding numberFrom allDigits decimalFrom
   next = ap (numberFrom n) (drop-cons s i 0 h)
 
@@ -93,7 +94,8 @@ module _ (w : ℕ) (fits : largest w 0 ≤ 4294967295) (l : List ℕ) where
   unfolding numberFrom decimal
   field-is = go (allDigits (take w l)) refl
     where
-      go : (b : Bool) → allDigits (take w l) ≡ b → spelled (b && leb (decimalFrom 0 (take w l)) 4294967295) (decimalFrom 0 (take w l)) ≡ spelled b (decimalFrom 0 (take w l))
+      go : (b : Bool) → allDigits (take w l) ≡ b → spelled (b && leb (decimalFrom 0 (take w l)) 4294967295) (decimalFrom 0 (take w l)) ≡ spelled b
+          (decimalFrom 0 (take w l))
       go true e =
           let z = few w l 0 0 (omega arith) e in
           simp (le-leb (decimalFrom 0 (take w l)) 4294967295 (omega arith))

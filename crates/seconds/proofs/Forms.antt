@@ -9,7 +9,8 @@ use lib.Seq.{drop-cons, drop-length}
 use lib.Dec.{eqb, leb}
 use borrow.Author.Tests.{leb-true, eq-eqb}
 use Rattle.format.specs.Bytes.{pick, same}
-use Rattle.format.specs.Times.{allDigits, decimal, field, dayNumber, atForm, textMarks, textDigits, textDay, textClock, textZone, textForm, textSeconds, secondsOf}
+use Rattle.format.specs.Times.{allDigits, decimal, field, dayNumber, atForm, textMarks, textDigits, textDay, textClock, textZone, textForm}
+use Rattle.format.specs.Times.{textSeconds, secondsOf}
 use Rattle.format.specs.declared.Spelled.the-variants.{Unreadable, Number}
 use Rattle.format.proofs.Basics.{both, and-true, pick-true, pick-false, same-true}
 use Rattle.format.specs.declared.Spelled.{Spelled}
@@ -32,7 +33,8 @@ no-right true false c d e = refl
 no-right false b c d e = refl
 
 -- where the marks are right but for the last, that one decides
-pub last-mark : (line : List ℕ) → getD line 3 0 ≡ 44 → getD line 8 0 ≡ 46 → getD line 11 0 ≡ 46 → getD line 14 0 ≡ 32 → getD line 17 0 ≡ 58 → getD line 20 0 ≡ 58
+pub last-mark : (line : List ℕ) → getD line 3 0 ≡ 44 → getD line 8 0 ≡ 46 → getD line 11 0 ≡ 46 → getD line 14 0 ≡ 32 → getD line 17 0 ≡ 58
+    → getD line 20 0 ≡ 58
     → eqb (getD line 23 0) 32 ≡ textMarks line
 unfolding textMarks
 last-mark line a b c d e f = rw (a, b, c, d, e, f)
@@ -155,7 +157,11 @@ module _ (line : List ℕ) where
         let y = both clockDigits (textClock line) (q .0) in
         let z : textForm line ≡ true = form-is ∙ and-true (and-true (x .0) (y .0)) (and-true (x .1) (y .1)) in
         let v : d * 86400 + t ≡ days * 86400 + time = ap₂ (λ (a b : ℕ). a * 86400 + b) (p .1) (q .1) in
-        record { is = ap Number v ∙ sym (pick-true _ _ z); days-fit = omega (arith, days-small (x .1), p .1); time-fits = omega (arith, time-small (y .1), q .1) }
+        record {
+          is = ap Number v ∙ sym (pick-true _ _ z);
+          days-fit = omega (arith, days-small (x .1), p .1);
+          time-fits = omega (arith, time-small (y .1), q .1);
+        }
 
   -- ---- either form
 

@@ -25,11 +25,13 @@ pub none-at : (version : ℕ) (s : List ℕ) (at place number : ℕ) → length 
 none-at version s at place number h = rw (drop-of-length-le s h) (records-none version place number)
 
 module _ (version : ℕ) (s : List ℕ) (at : ℕ) (h : at < length s) where
-  more-at : (place number : ℕ) → recordsFrom version place (drop at s) number ≡ entryStep (entryOf version (drop at s)) number (λ k m. recordsFrom version (place + k) (drop k (drop at s)) m)
+  more-at : (place number : ℕ) → recordsFrom version place (drop at s) number ≡ entryStep (entryOf version (drop at s)) number
+      (λ k m. recordsFrom version (place + k) (drop k (drop at s)) m)
   more-at place number = records-more version place (drop at s) number (simp length-drop (omega arith))
 
   -- no well-formed record is there
-  pub flawed-at : EntryTold Flawed version (take (length s - at) (drop at s)) → (place number : ℕ) → recordsFrom version place (drop at s) number ≡ stop (Refusal 12 number)
+  pub flawed-at : EntryTold Flawed version (take (length s - at) (drop at s)) → (place number : ℕ)
+      → recordsFrom version place (drop at s) number ≡ stop (Refusal 12 number)
   flawed-at T place number = let e : flawed ≡ entryOf version (drop at s) = simp part-to-end at (T .same) in more-at place number ∙ rw (← e)
 
   -- one of n bytes is, whose label starts at its byte k
@@ -52,5 +54,6 @@ module _ (version : ℕ) (s : List ℕ) (at : ℕ) (h : at < length s) where
     pub found-short : length (part s (at + k) (at + n)) ≤ 4096
     found-short = simp (length-take, length-drop) (omega (arith, T .inside .short))
 
-    pub found-at : (place number : ℕ) → recordsFrom version place (drop at s) number ≡ also found (recordsFrom version (place + n) (drop (at + n) s) (number + 1))
+    pub found-at : (place number : ℕ) → recordsFrom version place (drop at s) number ≡ also found
+        (recordsFrom version (place + n) (drop (at + n) s) (number + 1))
     found-at place number = more-at place number ∙ rw (← found-is, drop-drop n at s)

@@ -1,16 +1,15 @@
 -- The front of a sheet, of the bytes that the code reads, on plain values. Assumes nothing.
 use Prim.Native.Nat.{ℕ, _+_, _-_, _≤_, _<_}
-use mathlib.Core.Path.{_≡_, refl, sym, ap, _∙_}
+use mathlib.Core.Path.{_≡_, refl, ap, _∙_}
 use mathlib.Core.List.{List}
-use mathlib.Core.Bool.{Bool, true, false, _&&_, and-false}
+use mathlib.Core.Bool.{true, false, and-false}
 use native.Mathlib.Omega.{arith}
 use lib.ListN.{length, getD, take, drop, length-drop}
-use lib.Seq.{getD-drop, drop-drop, length-take-le}
+use lib.Seq.{drop-drop, length-take-le}
 use lib.Dec.{leb, eqb}
 use borrow.Author.Tests.{le-leb, lt-leb, eq-eqb, ne-eqb}
-use Rattle.format.specs.Bytes.{pick, be16}
-use Rattle.format.specs.Header.{Header}
-use Rattle.format.specs.Sheet.{framed, goodText, headerFrom, goodHeader, goodFront, frontHeader, behindFront}
+use Rattle.format.specs.Bytes.{be16}
+use Rattle.format.specs.Sheet.{framed, goodText, goodHeader, goodFront, frontHeader, behindFront}
 use Rattle.format.proofs.SheetLaws.{text-good}
 use Rattle.sheet.specs.Seen.{Headed, HeaderTold, Fronted, FrontTold}
 use Rattle.sheet.specs.declared.Front.{Front}
@@ -42,7 +41,8 @@ module _ (n : ℕ) (t : List ℕ) where
         unfolding goodHeader
         header-time h = simp (k, le-leb _ _ x, le-leb _ _ w, a, h)
 
-        pub header-whole : n ≤ length t → goodText 64 (take (n - (4 + be16 (drop 2 t))) (drop (4 + be16 (drop 2 t)) t)) ≡ true → Headed n t (getD t 1 0) (be16 (drop 2 t)) (n - (4 + be16 (drop 2 t)))
+        pub header-whole : n ≤ length t → goodText 64 (take (n - (4 + be16 (drop 2 t))) (drop (4 + be16 (drop 2 t)) t)) ≡ true
+            → Headed n t (getD t 1 0) (be16 (drop 2 t)) (n - (4 + be16 (drop 2 t)))
         unfolding goodHeader
         header-whole hn b =
             let m = be16 (drop 2 t) in

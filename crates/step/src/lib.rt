@@ -11,16 +11,32 @@ ghost use Rattle.format.specs.Label.{labelLimit};
 ghost use Rattle.format.specs.Reading.{next};
 ghost use Rattle.step.specs.Standing.{lesser, sliceLimit, Fresh, EndStepped, behindItem, roomFor, Peeks, Recorded, Within, After, Opens, Steps};
 ghost use Rattle.step.specs.Going.{Goes};
+ghost use Rattle.step.specs.Shortly.{Shortly};
+ghost use Rattle.laying.specs.Quickly.{Quickly};
+ghost use Rattle.format.specs.Items.{itemOf};
+ghost use Rattle.format.specs.Outline.{dropLeaves};
 ghost use Rattle.step.specs.declared.Phase.the-variants.{Going};
 use decode::Item;
 use format::Fields;
 use format::Kept;
 use format::LABEL_LIMIT;
 use format::Opened;
+use format::Position;
 use format::Setting;
 use format::Stepped;
 use header::Head;
 use item::Step;
+use item::leg_at;
+use item::section_at;
+use item::station_at;
+use laying::Joint;
+use laying::Quick;
+use laying::lay_leg;
+use laying::lay_section;
+use laying::lay_station;
+use short::Short;
+use short::short_item;
+use short::sides;
 
 // Whether a reader goes on; or is at the end, or at a refusal, for good.
 pub enum Phase {
@@ -322,6 +338,82 @@ fn full(bytes: &[u8; LABEL_LIMIT]) -> usize
 {
     let whole = &bytes[..];
     whole.len()
+}
+
+// The item at the front of s, in the state of a setting and a label, where it is one of
+// the commonest: its record, where it makes one, is laid over the front of `out`.
+fn lay_short(
+    version: u8,
+    s: &[u8],
+    bytes: &mut [u8; LABEL_LIMIT],
+    len: usize,
+    setting: Setting,
+    out: &mut [u8],
+) -> Quick
+    requires { ⌜ (len ≤ labelLimit) × (length (now bytes) ≡ labelLimit) ⌝ }
+    ensures { λ r. ⌜ Quickly r (next version (now (s .entry)) (stateOf setting (take len (now (bytes .entry))))) (dropLeaves (take len (now (bytes .entry))) (itemOf version (now (s .entry)))) setting (now (bytes .entry)) (now (bytes .exit)) (now (out .entry)) (now (out .exit)) 0 ⌝ }
+{
+    let position = setting.position;
+    let it = short_item(version, s, len);
+    match it {
+        Short::Other => Quick::Other,
+        Short::Line { keep, add, flags } => match position {
+            Position::Unset => Quick::Other,
+            Position::Stands { point } => {
+                let leg = leg_at(s, add, flags, setting, point);
+                let to = leg.to;
+                lay_leg(s, bytes, Joint { keep, add }, leg, out, 0);
+                Quick::Leg {
+                    size: 14 + add,
+                    len: keep + add,
+                    to,
+                    kept: keep,
+                }
+            }
+        },
+        Short::Place { keep, add, flags } => {
+            let station = station_at(s, add, flags);
+            lay_station(s, bytes, Joint { keep, add }, station, out, 0);
+            let m = keep + add;
+            Quick::Made {
+                size: 14 + add,
+                len: m,
+                bytes: 16 + m,
+                kept: keep,
+            }
+        }
+        Short::Section { keep, add, code } => {
+            let section = section_at(s, add, code, setting);
+            lay_section(s, bytes, Joint { keep, add }, section, out, 0);
+            let m = keep + add;
+            Quick::Made {
+                size: 2 + add + sides(code),
+                len: m,
+                bytes: 25 + m,
+                kept: keep,
+            }
+        }
+        Short::Trim { len: m } => Quick::Trim { len: m },
+    }
+}
+
+// One step over one of the commonest items, where there is room for every record: what it
+// comes to, and how far the stand moves. For any other item, and where the reader is halted,
+// nothing is touched.
+pub fn short_at(file: &[u8], stand: Stand, bytes: &mut [u8; LABEL_LIMIT], out: &mut [u8]) -> Quick
+    ensures { λ r. ⌜ Shortly r stand (now (bytes .entry)) (now (file .entry)) (now (out .entry)) (now (bytes .exit)) (now (out .exit)) ⌝ }
+{
+    let phase = stand.phase;
+    let Phase::Going = phase else {
+        return Quick::Other;
+    };
+    if out.len() < RECORD_LIMIT {
+        return Quick::Other;
+    }
+    full(bytes);
+    let at = lesser(stand.place, file.len());
+    let old = lesser(stand.len, LABEL_LIMIT);
+    lay_short(stand.version, &file[at..], bytes, old, stand.setting, out)
 }
 
 // One step: exactly one item, or the end or the refusal again. 11 leaves the stand as it

@@ -5,12 +5,13 @@ use format::FILE_LIMIT;
 use format::Fields;
 use format::Position;
 use format::Setting;
+use format::Verdict;
 ghost use mathlib.Core.Path.{_≡_};
 ghost use mathlib.Core.List.{[]};
 ghost use Prim.Native.Nat.{_+_, _≤_};
 ghost use lib.ListN.{length};
 ghost use Rattle.format.specs.Fields.{recordOf, stateOf};
-ghost use Rattle.format.specs.Refusals.{orElse, refusalAt};
+ghost use Rattle.format.specs.Refusals.{orElse};
 ghost use Rattle.format.specs.WellFormed.{WellFormed};
 ghost use Rattle.format.specs.Header.{fileLimit};
 ghost use Rattle.format.specs.Bytes.{pick};
@@ -18,29 +19,31 @@ ghost use Rattle.format.specs.Codes.{codesLimit, unsayable, settingAfter, closi
 ghost use Rattle.format.specs.Writing.{v8};
 ghost use Rattle.format.specs.declared.Verdict.the-variants.{Good, Refusal};
 ghost use Rattle.format.specs.Answers.{answerOf};
-ghost use Rattle.tally.specs.Tallies.{bounded, firstAt, settled, Fits, Adds, Finished};
+ghost use Rattle.tally.specs.Tallies.{bounded, settled, Fits, Adds, Finished};
 ghost use Rattle.format.specs.Label.{labelLimit};
 
 // The bytes so far, until they are over what refusal 16 allows; the records so far; and
-// the first record that cannot be written, as its number and one, or 0.
+// the refusal of the first record that cannot be written.
 pub struct Tally {
     pub bytes: usize,
     pub records: usize,
-    pub fault: usize,
+    pub fault: Verdict,
 }
 
 // The first fault so far, when the record with this number has one or not.
-pub fn first_at(fault: usize, bad: bool, number: usize) -> usize
-    requires { ⌜ number ≤ 18446744073709551614 ⌝ }
-    ensures { λ r. ⌜ r ≡ firstAt fault bad number ⌝ }
+pub fn first_at(fault: Verdict, bad: bool, refusal: u8, number: usize) -> Verdict
+    ensures { λ r. ⌜ r ≡ orElse fault (pick bad (Refusal refusal number) Good) ⌝ }
 {
-    if fault != 0 {
+    let Verdict::Good = fault else {
         return fault;
-    }
+    };
     if bad {
-        return number + 1;
+        return Verdict::Refusal {
+            number: refusal,
+            place: number,
+        };
     }
-    0
+    Verdict::Good
 }
 
 // Whether a record has style 5 after another style.
@@ -75,11 +78,10 @@ fn unsaid(old: u8, fields: Fields) -> bool
 }
 
 // `old` is the style before the record with this number.
-pub fn first_fault(fault: usize, old: u8, fields: Fields, number: usize) -> usize
-    requires { ⌜ number ≤ 18446744073709551614 ⌝ }
-    ensures { λ r. ⌜ refusalAt 13 r ≡ orElse (refusalAt 13 fault) (pick (unsayable old (recordOf fields [])) (Refusal 13 number) Good) ⌝ }
+pub fn first_fault(fault: Verdict, old: u8, fields: Fields, number: usize) -> Verdict
+    ensures { λ r. ⌜ r ≡ orElse fault (pick (unsayable old (recordOf fields [])) (Refusal 13 number) Good) ⌝ }
 {
-    first_at(fault, unsaid(old, fields), number)
+    first_at(fault, unsaid(old, fields), 13, number)
 }
 
 // The sum, until it is over what refusal 16 allows: then it stays.
@@ -95,7 +97,7 @@ pub fn more(total: usize, n: usize) -> usize
 
 // The index, or the length where it is past it.
 pub fn within(index: usize, len: usize) -> usize
-    ensures { λ r. ⌜ (r ≤ len) × (index ≤ len → r ≡ index) ⌝ }
+    ensures { λ r. ⌜ (r ≤ len) × (index ≤ len → r ≡ index) × (len ≤ index → r ≡ len) ⌝ }
 {
     if len < index {
         return len;
@@ -118,23 +120,20 @@ pub fn put_next(
 {
     let start = within(tally.bytes, out.len());
     let n = codes::put_record(&mut out[start..], setting, last, name, fields);
+    let fault = tally.fault;
     Tally {
         bytes: more(tally.bytes, n),
         records: tally.records + 1,
-        fault: first_fault(tally.fault, setting.style, fields, tally.records),
+        fault: first_fault(fault, setting.style, fields, tally.records),
     }
 }
 
-// The answer at the end of so many bytes and records, for room enough: `refusal` where
-// there is a fault.
-pub fn settle(bytes: usize, records: usize, fault: usize, refusal: u8, version: u8) -> Answer
-    ensures { λ r. ⌜ answerOf r ≡ settled refusal version fault bytes records ⌝ }
+// The answer at the end of so many bytes and records, for room enough.
+pub fn settle(bytes: usize, records: usize, fault: Verdict, version: u8) -> Answer
+    ensures { λ r. ⌜ answerOf r ≡ settled version fault bytes records ⌝ }
 {
-    if fault != 0 {
-        return Answer::Refused {
-            number: refusal,
-            place: fault - 1,
-        };
+    if let Verdict::Refusal { number, place } = fault {
+        return Answer::Refused { number, place };
     }
     if FILE_LIMIT < bytes {
         return Answer::Refused {
@@ -151,13 +150,13 @@ pub fn settle(bytes: usize, records: usize, fault: usize, refusal: u8, version: 
 
 // The end of a file: the closing codes, written where they fit into out behind the
 // bytes so far, and the answer, for room enough.
-pub fn finish(out: &mut [u8], style: u8, total: usize, number: usize, fault: usize) -> Answer
+pub fn finish(out: &mut [u8], style: u8, total: usize, number: usize, fault: Verdict) -> Answer
     requires { ⌜ total ≤ fileLimit + codesLimit ⌝ }
     ensures { λ r. ⌜ Finished v8 (now (out .entry)) (now (out .exit)) (closing style) (record { bytes = total; records = number; fault = fault }) r ⌝ }
 {
     let start = within(total, out.len());
     let n = ends::put_closing(&mut out[start..], style);
-    settle(total + n, number, fault, 13, 8)
+    settle(total + n, number, fault, 8)
 }
 
 // ---- what a record leaves

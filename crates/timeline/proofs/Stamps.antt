@@ -6,7 +6,8 @@ use native.Mathlib.Omega.{arith}
 use lib.ListN.{length, take, drop, length-drop}
 use lib.Seq.{length-take-le}
 use Rattle.format.specs.Header.{Opening, opened}
-use Rattle.format.specs.Times.{secondsOf, stampFrom, stampOpened, stampOf, Comparison, first, second, equal, firstRefused, secondRefused, judged, compareOf, partOf, handed, laterPart}
+use Rattle.format.specs.Times.{secondsOf, stampFrom, stampOpened, stampOf, Comparison, first, second, equal, firstRefused, secondRefused, judged}
+use Rattle.format.specs.Times.{compareOf, partOf, handed, laterPart}
 use Rattle.format.specs.declared.Handed.{Handed}
 use Rattle.header.specs.declared.Head.{Head}
 use Rattle.header.specs.Head.{Room, HeadIs, saying}

@@ -3,14 +3,15 @@
 use mathlib.Core.Path.{_≡_, refl, sym, ap, ap₂, _∙_}
 use mathlib.Core.List.{List, [], _∷_, _++_, append-assoc, append-nil}
 use mathlib.Core.Bool.{Bool, true, false}
-use Prim.Native.Nat.{ℕ, suc, _+_, _-_, _*_, _≤_, _<_, min}
+use Prim.Native.Nat.{ℕ, suc, _+_, _-_, _≤_, _<_, min}
 use native.Mathlib.Nat.{le-of-lt, add-zero, zero-add, add-assoc}
 use native.Mathlib.Numerals.{add-one}
 use native.Mathlib.Omega.{arith}
 use borrow.Rule.Slice.PartAt.{part-to-end}
 use borrow.Author.Tests.{eq-eqb, ne-eqb, lt-ltb, le-ltb}
 use lib.ListN.{length, take, drop, getD, set, length-append, length-take, length-drop, take-append-drop}
-use lib.Seq.{drop-drop, drop-append-le, drop-append-add, take-take, take-add, take-append-le, take-length, take-at, drop-at, drop-length, drop-cons, take-suc, append-snoc, set-at, length-take-le}
+use lib.Seq.{drop-drop, drop-append-le, drop-append-add, take-take, take-add, take-append-le, take-length, take-at, drop-at, drop-length, drop-cons}
+use lib.Seq.{take-suc, append-snoc, set-at, length-take-le}
 use Rattle.format.specs.Bytes.{pick, over, same}
 use Rattle.format.proofs.Basics.{pick-case, same-true}
 use Rattle.format.proofs.WritingLaws.{common-take}
@@ -78,7 +79,8 @@ pub laid-within : (d s : List ℕ) (k b : ℕ) → k + length s ≤ b → b ≤ 
 unfolding laid
 laid-within d s k b h j =
     let n = length-take-le b d j in
-    let e : drop (k + length s) d ≡ drop (k + length s) (take b d) ++ drop b d = ap (drop (k + length s)) (sym (take-append-drop b d)) ∙ drop-append-le (k + length s) (take b d) (drop b d) (omega arith) in
+    let e : drop (k + length s) d ≡ drop (k + length s) (take b d) ++ drop b d = ap (drop (k + length s)) (sym (take-append-drop b d))
+    ∙ drop-append-le (k + length s) (take b d) (drop b d) (omega arith) in
     simp append-assoc (rw (take-take k b d (omega arith), e))
 
 pub over-within : (d s : List ℕ) (b : ℕ) → length s ≤ b → b ≤ length d → over s (take b d) ++ drop b d ≡ over s d
@@ -94,7 +96,8 @@ laid-next d s t k h =
 
 -- ---- parts that overlap: bytes of s from k on, laid over a front of s that reaches to w
 
-pub lap : (s d : List ℕ) (w k m : ℕ) → k ≤ w → w ≤ k + m → k + m ≤ length s → k + m ≤ length d → laid (over (take w s) d) k (take m (drop k s)) ≡ over (take (k + m) s) d
+pub lap : (s d : List ℕ) (w k m : ℕ) → k ≤ w → w ≤ k + m → k + m ≤ length s → k + m ≤ length d
+    → laid (over (take w s) d) k (take m (drop k s)) ≡ over (take (k + m) s) d
 unfolding laid over
 lap s d w k m h1 h2 h3 h4 =
     let W = take w s in
@@ -124,6 +127,13 @@ pub laps-all : (s d Y Z : List ℕ) (w k m : ℕ) → Y ≡ over (take w s) d �
     → k ≤ w → w ≤ length s → k + m ≡ length s → length s ≤ length d → take k Y ++ (Z ++ drop (length Y - k) (drop k Y)) ≡ over s d
 laps-all s d Y Z w k m eY eZ h1 h2 e h4 =
     laps s d Y Z w k m (length s) eY eZ h1 h2 e (omega arith) h4 ∙ rw take-length
+
+-- m bytes at the start and m at the end, of at most twice as many
+pub laps-ends : (s d Y Z : List ℕ) (m : ℕ) → Y ≡ over (take m s) d
+    → Z ≡ over (take m (take (length s - (length s - m)) (drop (length s - m) s))) (take (length Y - (length s - m)) (drop (length s - m) Y))
+    → m ≤ length s → length s ≤ m + m → length s ≤ length d → take (length s - m) Y ++ (Z ++ drop (length Y - (length s - m)) (drop (length s - m) Y)) ≡ over
+    s d
+laps-ends s d Y Z m eY eZ h1 h2 h3 = laps-all s d Y Z m (length s - m) m eY eZ (omega arith) h1 (omega arith) h3
 
 -- one store after another copies a list of as many bytes
 pub stored-0 : (s d : List ℕ) → length s ≡ 0 → length s ≤ length d → d ≡ over s d
@@ -179,7 +189,8 @@ same-false s t h = go (same s t) refl
     go false e = refl
 
 -- past a byte that both have
-pub same-past : (s t : List ℕ) (i : ℕ) → i < length s → i < length t → getD s i 0 ≡ getD t i 0 → same (drop i s) (drop i t) ≡ same (drop (i + 1) s) (drop (i + 1) t)
+pub same-past : (s t : List ℕ) (i : ℕ) → i < length s → i < length t → getD s i 0 ≡ getD t i 0
+    → same (drop i s) (drop i t) ≡ same (drop (i + 1) s) (drop (i + 1) t)
 unfolding same pick
 same-past s t i hs ht e = rw (add-one i, drop-cons s i 0, drop-cons t i 0, eq-eqb _ _ e)
 
@@ -188,7 +199,8 @@ same-other s t i h = same-false s t (λ e. h (ap (λ (l : List ℕ). getD l i 0)
 
 -- ---- `common`
 
-pub common-past : (s t : List ℕ) (i : ℕ) → i < length s → i < length t → getD s i 0 ≡ getD t i 0 → common (drop i s) (drop i t) ≡ 1 + common (drop (i + 1) s) (drop (i + 1) t)
+pub common-past : (s t : List ℕ) (i : ℕ) → i < length s → i < length t → getD s i 0 ≡ getD t i 0
+    → common (drop i s) (drop i t) ≡ 1 + common (drop (i + 1) s) (drop (i + 1) t)
 unfolding common pick
 common-past s t i hs ht e = rw (add-one i, drop-cons s i 0, drop-cons t i 0, eq-eqb _ _ e) (omega arith)
 

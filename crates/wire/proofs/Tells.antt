@@ -1,7 +1,7 @@
 -- How many bytes two numbers of eight bytes have in common, the lowest first, by the trailing zeros of where they differ: a bit that differs
 -- ends them, and every bit before it adds at most one. So an eighth of them counts bytes that are the same. Assumes nothing.
-use Prim.Native.Nat.{ℕ, zero, suc, _+_, _*_, _/_, _%_, _≤_, _<_}
-use mathlib.Core.Path.{_≡_, refl, sym, ap, _∙_}
+use Prim.Native.Nat.{ℕ, zero, suc, _+_, _/_, _%_, _≤_, _<_}
+use mathlib.Core.Path.{_≡_, refl, _∙_}
 use mathlib.Core.List.{List, [], _∷_}
 use native.Mathlib.Omega.{arith}
 use lib.Bits.{bitXor, differ, xor-step}
@@ -143,4 +143,5 @@ eight-tell a b =
     (byte 24 (a / 4294967296) (b / 4294967296) (a / 1099511627776) (b / 1099511627776) (rest-5 a) (rest-5 b) (omega arith) (omega arith)
     (byte 16 (a / 1099511627776) (b / 1099511627776) (a / 281474976710656) (b / 281474976710656) (rest-6 a) (rest-6 b) (omega arith) (omega arith)
     (byte 8 (a / 281474976710656) (b / 281474976710656) (a / 72057594037927936) (b / 72057594037927936) (rest-7 a) (rest-7 b) (omega arith) (omega arith)
-    (byte 0 (a / 72057594037927936) (b / 72057594037927936) (a / 72057594037927936 / 256) (b / 72057594037927936 / 256) [] [] refl refl (none (a / 72057594037927936 / 256) (b / 72057594037927936 / 256)))))))))
+    (byte 0 (a / 72057594037927936) (b / 72057594037927936) (a / 72057594037927936 / 256) (b / 72057594037927936 / 256) [] [] refl refl
+    (none (a / 72057594037927936 / 256) (b / 72057594037927936 / 256)))))))))

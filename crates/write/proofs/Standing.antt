@@ -9,6 +9,7 @@ use lib.ListN.{length, take, drop}
 use Rattle.format.specs.State.{State, start, Record}
 use Rattle.format.specs.Sheet.{recordsFrom, recordsOf}
 use Rattle.format.specs.Refusals.{Result, stop, also, refused}
+use Rattle.format.specs.declared.Verdict.{Verdict}
 use Rattle.format.specs.declared.Verdict.the-variants.{Good, Refusal}
 use Rattle.format.specs.Writing.{Writer, headedBy}
 use Rattle.format.specs.Header.{fileLimit}
@@ -37,11 +38,11 @@ headed-records false k x = refl
 
 -- ---- where in the sheet the loop stands
 
--- the loop counts by three numbers: a struct that goes in and out of a call for each record costs time
-abbrev pub counted : ℕ → ℕ → ℕ → Tally
+-- the loop counts by loose values: a struct that goes in and out of a call for each record costs time
+abbrev pub counted : ℕ → ℕ → Verdict → Tally
 counted total number fault = record { bytes = total; records = number; fault = fault }
 
-pub record Standing (w : Writer) (barred : Bool) (version : ℕ) (sheet : List ℕ) (begin head : ℕ) (d₀ d : List ℕ) (at total number fault : ℕ)
+pub record Standing (w : Writer) (barred : Bool) (version : ℕ) (sheet : List ℕ) (begin head : ℕ) (d₀ d : List ℕ) (at total number : ℕ) (fault : Verdict)
     (st : State) : Type 0 where
   pub place : ℕ
   pub inside : at ≤ length sheet
@@ -52,7 +53,7 @@ pub record Standing (w : Writer) (barred : Bool) (version : ℕ) (sheet : List �
       (headedBy barred (w .number) (recordsFrom version place (drop at sheet) number))
 
 pub standing-none : (w : Writer) (barred : Bool) (version : ℕ) (sheet : List ℕ) (begin head : ℕ) (d : List ℕ) → begin ≤ length sheet → head ≤ 8192
-    → Standing w barred version sheet begin head d d begin head 0 0 start
+    → Standing w barred version sheet begin head d d begin head 0 Good start
 unfolding recordsOf
 standing-none w barred version sheet begin head d hb hh =
     record {
@@ -64,7 +65,7 @@ standing-none w barred version sheet begin head d hb hh =
       left = left-none w (headedBy barred (w .number) (recordsOf version (drop begin sheet))) head d (omega arith);
     }
 
-module _ (w : Writer) (barred : Bool) (version : ℕ) (sheet : List ℕ) (begin head : ℕ) (d₀ d : List ℕ) (at total number fault : ℕ) (st : State)
+module _ (w : Writer) (barred : Bool) (version : ℕ) (sheet : List ℕ) (begin head : ℕ) (d₀ d : List ℕ) (at total number : ℕ) (fault : Verdict) (st : State)
     (S : Standing w barred version sheet begin head d₀ d at total number fault st) where
   abbrev x₀ : Result
   x₀ = headedBy barred (w .number) (recordsOf version (drop begin sheet))
@@ -85,7 +86,7 @@ module _ (w : Writer) (barred : Bool) (version : ℕ) (sheet : List ℕ) (begin 
         left-flawed w x₀ head d₀ d t st number (rw e at (S .left))
 
     -- one is, and its codes are added
-    module _ (n : ℕ) (f : Fields) (k : ℕ) (T : EntryTold (Whole n f k) version (take (length sheet - at) (drop at sheet))) (d′ : List ℕ) (size fault′ : ℕ)
+    module _ (n : ℕ) (f : Fields) (k : ℕ) (T : EntryTold (Whole n f k) version (take (length sheet - at) (drop at sheet))) (d′ : List ℕ) (size : ℕ) (fault′ : Verdict)
         (A : Adds w st (recordOf f (part sheet (at + k) (at + n))) d d′ t (counted (bounded total size) (number + 1) fault′)) where
       abbrev r : Record
       r = recordOf f (part sheet (at + k) (at + n))

@@ -5,15 +5,15 @@ use mathlib.Core.Bool.{false}
 use mathlib.Core.List.{List, [], _∷_, _++_}
 use native.Mathlib.Omega.{arith}
 use lib.ListN.{length, take, drop, length-append, length-take, length-drop}
-use Rattle.format.specs.State.{State, startSetting, start, Record}
+use Rattle.format.specs.State.{State, startSetting, Record}
 use Rattle.format.specs.Sheet.{recordsFrom, recordsOf}
-use Rattle.format.specs.Refusals.{orElse, refusalAt, Result, stop, refused}
+use Rattle.format.specs.Refusals.{orElse, Result, stop, refused}
 use Rattle.format.specs.declared.Verdict.the-variants.{Good, Refusal}
 use Rattle.format.specs.Codes.{codesLimit, codes, after, settingAfter, unsayable}
 use Rattle.format.specs.Writing.{v8}
 use Rattle.format.specs.Header.{fileLimit}
 use Rattle.format.specs.Bytes.{pick, over}
-use Rattle.format.specs.Fields.{recordOf, stateOf}
+use Rattle.format.specs.Fields.{recordOf}
 use Rattle.format.specs.declared.Position.{Position}
 use Rattle.format.specs.declared.Setting.{Setting}
 use Rattle.format.specs.declared.Fields.{Fields}
@@ -40,21 +40,22 @@ use Rattle.write.proofs.Standing.{counted, Standing, standing-end, stan
 
 -- ---- where in the sheet the loop stands
 
-pub record Going (version : ℕ) (sheet : List ℕ) (begin head : ℕ) (d₀ d : List ℕ) (at total number fault : ℕ) (hand : Hand) (position : Position) : Type 0 where
+pub record Going (version : ℕ) (sheet : List ℕ) (begin head : ℕ) (d₀ d : List ℕ) (at total number : ℕ) (fault : Verdict) (hand : Hand) (position : Position) : Type 0 where
   pub place : ℕ
   pub inside : at ≤ length sheet
   pub few-records : number ≤ at
   pub few : total ≤ fileLimit + codesLimit
   pub kept : length d ≡ length d₀
   pub named : Named sheet hand
-  pub left : Left v8 (recordsOf version (drop begin sheet)) head d₀ d (counted total number fault) (stateIn sheet hand (settingIn hand position)) (recordsFrom version place (drop at sheet) number)
+  pub left : Left v8 (recordsOf version (drop begin sheet)) head d₀ d (counted total number fault) (stateIn sheet hand (settingIn hand position))
+      (recordsFrom version place (drop at sheet) number)
 
 -- the label in the sheet is short enough to go on with
 pub named-short : (sheet : List ℕ) (hand : Hand) → Named sheet hand → length (part sheet (hand .from) (hand .to)) ≤ 4096
 named-short sheet hand n = simp (length-take, length-drop) (omega (arith, n .short))
 
 pub going-none : (version : ℕ) (sheet : List ℕ) (begin head : ℕ) (d : List ℕ) → begin ≤ length sheet → head ≤ 8192
-    → Going version sheet begin head d d begin head 0 0 (handOf startSetting 0 0) (startSetting .position)
+    → Going version sheet begin head d d begin head 0 Good (handOf startSetting 0 0) (startSetting .position)
 unfolding recordsOf
 going-none version sheet begin head d hb hh =
     record {
@@ -133,7 +134,8 @@ or-good : (v : Verdict) → v ≡ orElse v Good
 or-good Good = refl
 or-good (Refusal n p) = refl
 
-module _ (version : ℕ) (sheet : List ℕ) (begin head : ℕ) (d₀ d : List ℕ) (at total number fault : ℕ) (hand : Hand) (position : Position) (G : Going version sheet begin head d₀ d at total number fault hand position) where
+module _ (version : ℕ) (sheet : List ℕ) (begin head : ℕ) (d₀ d : List ℕ) (at total number : ℕ) (fault : Verdict) (hand : Hand) (position : Position)
+    (G : Going version sheet begin head d₀ d at total number fault hand position) where
   abbrev x₀ : Result
   x₀ = recordsOf version (drop begin sheet)
 
@@ -157,10 +159,10 @@ module _ (version : ℕ) (sheet : List ℕ) (begin head : ℕ) (d₀ d : List �
 
     -- the codes of the one that is are written into the part of d from `from` on
     module _ (n : ℕ) (f : Fields) (k : ℕ) (T : EntryTold (Whole n f k) version (take (length sheet - at) (drop at sheet))) (from : ℕ) (y : List ℕ)
-        (size fault′ : ℕ)
+        (size : ℕ) (fault′ : Verdict)
         (inside : from ≤ length d) (q : total ≤ length d → from ≡ total)
         (P : Puts (take (length d - from) (drop from d)) y (codes st (recordOf f (part sheet (at + k) (at + n)))) codesLimit size)
-        (e : refusalAt 13 fault′ ≡ orElse (refusalAt 13 fault) (pick (unsayable (hand .style) (recordOf f [])) (Refusal 13 number) Good)) where
+        (e : fault′ ≡ orElse fault (pick (unsayable (hand .style) (recordOf f [])) (Refusal 13 number) Good)) where
       abbrev d′ : List ℕ
       d′ = take from d ++ (y ++ drop (length d - from) (drop from d))
 
@@ -244,8 +246,8 @@ module _ (version : ℕ) (sheet : List ℕ) (begin head : ℕ) (d₀ d : List �
       abbrev t″ : Tally
       t″ = counted (bounded total bytes) (number + 1) fault
 
-      no-fault : refusalAt 13 fault ≡ orElse (refusalAt 13 fault) (pick (unsayable (hand .style) (recordOf f [])) (Refusal 13 number) Good)
-      no-fault = rw (pick-false (Refusal 13 number) Good (G′ .sayable [])) (or-good (refusalAt 13 fault))
+      no-fault : fault ≡ orElse fault (pick (unsayable (hand .style) (recordOf f [])) (Refusal 13 number) Good)
+      no-fault = rw (pick-false (Refusal 13 number) Good (G′ .sayable [])) (or-good fault)
 
       plain-adds : Adds v8 st r′ d d″ t t″
       plain-adds =
@@ -264,7 +266,8 @@ module _ (version : ℕ) (sheet : List ℕ) (begin head : ℕ) (d₀ d : List �
           (record { style = hand .style; date = hand .date; mark = hand .mark; from = at + labelAt form; to = at + size }) (positionAfter form s position)
       going-plain =
           let i = G′ .told .inside in
-          let S = standing-more v8 false version sheet begin head d₀ d at total number fault st standing h size f (labelAt form) (G′ .told) d″ bytes fault plain-adds in
+          let S = standing-more v8 false version sheet begin head d₀ d at total number fault st standing h size f (labelAt form) (G′ .told) d″ bytes fault
+          plain-adds in
           record {
             place = S .place;
             inside = S .inside;

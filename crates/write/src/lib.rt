@@ -130,7 +130,7 @@ fn put_records(
     let mut at = begin;
     let mut total = head;
     let mut number: usize = 0;
-    let mut fault: usize = 0;
+    let mut fault = format::Verdict::Good;
     let start = format::start_setting();
     let mut position = start.position;
     let mut hand = hand_of(start, 0, 0);

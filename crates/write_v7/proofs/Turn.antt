@@ -8,7 +8,8 @@ use lib.Dec.{ltb}
 use lib.ListN.{length, take, drop, length-take, length-drop}
 use Rattle.format.specs.State.{notSaid, State, startSetting, Record}
 use Rattle.format.specs.Sheet.{recordsOf}
-use Rattle.format.specs.Refusals.{orElse, refusalAt, Result, stop, refused}
+use Rattle.format.specs.Refusals.{orElse, Result, stop, refused}
+use Rattle.format.specs.declared.Verdict.{Verdict}
 use Rattle.format.specs.declared.Verdict.the-variants.{Good, Refusal}
 use Rattle.format.specs.V7Codes.{shortenCodes, v7Codes, v7After, v7CodesLimit, v7Unable}
 use Rattle.format.specs.WellFormed.{WellFormed}
@@ -28,9 +29,8 @@ use Rattle.plain.specs.Plainly.{labelAt, tailOf, v7Code, unsaid, Goes, Plainly}
 use Rattle.plain.specs.declared.Form.{Form}
 use Rattle.plain.proofs.Placing.{plain-v7-codes}
 use Rattle.plain.proofs.InSheet.{last-long, plain-sizes, name-is, added-is, added-long}
-use Rattle.tally.specs.Tallies.{bounded, firstAt, Adds, restOutcome}
+use Rattle.tally.specs.Tallies.{bounded, Adds, restOutcome}
 use Rattle.tally.proofs.Left.{Left, written, written-length, written-there, adds-one, left-stopped}
-use Rattle.tally.proofs.Faults.{first-refusal}
 use Rattle.write.proofs.Standing.{counted, Standing, standing-none, standing-end, standing-flawed, standing-more}
 use Rattle.write_v7.specs.Passing.{handOf, carriedStyle, handAfter, handFound, stateIn, Named, Turns}
 use Rattle.write_v7.specs.declared.Hand.{Hand}
@@ -182,12 +182,12 @@ lays-part d X y at from m n i q P =
 
 -- ---- where in the sheet the loop stands
 
-pub record Going (barred : Bool) (version : ℕ) (sheet : List ℕ) (begin head : ℕ) (d₀ d : List ℕ) (at total number fault : ℕ) (hand : Hand) : Type 0 where
+pub record Going (barred : Bool) (version : ℕ) (sheet : List ℕ) (begin head : ℕ) (d₀ d : List ℕ) (at total number : ℕ) (fault : Verdict) (hand : Hand) : Type 0 where
   pub stands : Standing v7 barred version sheet begin head d₀ d at total number fault (stateIn sheet hand)
   pub named : Named sheet hand
 
 pub going-none : (barred : Bool) (version : ℕ) (sheet : List ℕ) (begin head : ℕ) (d : List ℕ) → begin ≤ length sheet → head ≤ 8192
-    → Going barred version sheet begin head d d begin head 0 0 (handOf startSetting 0 0)
+    → Going barred version sheet begin head d d begin head 0 Good (handOf startSetting 0 0)
 going-none barred version sheet begin head d hb hh =
     record {
       stands = standing-none v7 barred version sheet begin head d hb hh;
@@ -203,7 +203,7 @@ going-none barred version sheet begin head d hb hh =
           };
     }
 
-module _ (barred : Bool) (version : ℕ) (sheet : List ℕ) (begin head : ℕ) (d₀ d : List ℕ) (at total number fault : ℕ) (hand : Hand)
+module _ (barred : Bool) (version : ℕ) (sheet : List ℕ) (begin head : ℕ) (d₀ d : List ℕ) (at total number : ℕ) (fault : Verdict) (hand : Hand)
     (G : Going barred version sheet begin head d₀ d at total number fault hand) where
   abbrev x₀ : Result
   x₀ = headedBy barred 23 (recordsOf version (drop begin sheet))
@@ -238,14 +238,13 @@ module _ (barred : Bool) (version : ℕ) (sheet : List ℕ) (begin head : ℕ) (
       abbrev r : Record
       r = recordOf (T .fields) (part sheet (at + T .from) (at + n))
 
-      abbrev fault′ : ℕ
-      fault′ = firstAt fault bad number
+      abbrev fault′ : Verdict
+      fault′ = orElse fault (pick bad (Refusal 23 number) Good)
 
       adds : Adds v7 st r d d′ (counted total number fault) (counted (bounded total bytes) (number + 1) fault′)
       adds =
           adds-one v7 d (counted total number fault) st r from y bytes (bounded total bytes) fault′ inside q (T .puts) refl
-          (first-refusal 23 fault bad number
-          ∙ ap (λ (b : Bool). orElse (refusalAt 23 fault) (pick b (Refusal 23 number) Good)) (T .bad-is ∙ unable-at (T .fields) (part sheet (at + T .from) (at + n))))
+          (ap (λ (b : Bool). orElse fault (pick b (Refusal 23 number) Good)) (T .bad-is ∙ unable-at (T .fields) (part sheet (at + T .from) (at + n))))
 
       pub going-more : Going barred version sheet begin head d₀ d′ (at + n) (bounded total bytes) (number + 1) fault′ next
       going-more =

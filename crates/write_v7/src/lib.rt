@@ -3,6 +3,7 @@
 use format::Answer;
 use format::Fields;
 use format::Setting;
+use format::Verdict;
 ghost use mathlib.Core.Path.{_≡_};
 ghost use mathlib.Core.List.{_∷_, _++_};
 ghost use Prim.Native.Nat.{_+_, _≤_, _<_};
@@ -221,7 +222,7 @@ fn finish(
     out: &mut [u8],
     total: usize,
     number: usize,
-    fault: usize,
+    fault: Verdict,
 ) -> Answer
     requires { ⌜ (total ≤ fileLimit + v7CodesLimit) × Named (now sheet) hand ⌝ }
     ensures { λ r. ⌜ Finished v7 (now (out .entry)) (now (out .exit)) (v7Closing (stateIn (now (sheet .entry)) hand .label)) (record { bytes = total; records = number; fault = fault }) r ⌝ }
@@ -230,7 +231,7 @@ fn finish(
     let last = hand.to;
     let start = tally::within(total, out.len());
     let n = v7::put_closing(&mut out[start..], &sheet[first..last]);
-    tally::settle(total + n, number, fault, 23, 7)
+    tally::settle(total + n, number, fault, 7)
 }
 
 fn refused(number: u8, place: usize) -> Answer
@@ -255,7 +256,7 @@ fn put_records(
     let mut at = begin;
     let mut total = head;
     let mut number: usize = 0;
-    let mut fault: usize = 0;
+    let mut fault = Verdict::Good;
     let mut hand = hand_of(format::start_setting(), 0, 0);
     while at < sheet.len() {
         let room = tally::within(total, out.len());
@@ -270,7 +271,7 @@ fn put_records(
             return refused(12, number);
         };
         total = tally::more(total, bytes);
-        fault = tally::first_at(fault, bad, number);
+        fault = tally::first_at(fault, bad, 23, number);
         hand = next;
         number += 1;
         at += size;

@@ -83,6 +83,7 @@ impl fmt::Display for Refusal {
 impl Error for Refusal {}
 
 /// A number of the interface that is a byte.
+#[inline]
 pub(crate) fn byte(number: u64) -> u8 {
     u8::try_from(number).expect("the library tells no number over 255")
 }

@@ -103,6 +103,7 @@ pub type Stand = [u64; STAND_NUMBERS];
 pub type Label = [u8; LABEL_LIMIT];
 
 /// A lent buffer's two arguments.
+#[inline]
 fn lend(buffer: &mut [u8]) -> (*mut u8, usize) {
     (buffer.as_mut_ptr(), buffer.len())
 }
@@ -149,12 +150,14 @@ pub fn open(file: &[u8], stand: &mut Stand) -> OpenNumbers {
     unsafe { cockledrift_open(file.as_ptr(), file.len(), stand) }
 }
 
+#[inline]
 pub fn step(file: &[u8], stand: &mut Stand, label: &mut Label, out: &mut [u8]) -> StepNumbers {
     let (out, room) = lend(out);
     // SAFETY: each slice's pointer goes with its length; all that is lent outlives the call.
     unsafe { cockledrift_step(file.as_ptr(), file.len(), stand, label, out, room) }
 }
 
+#[inline]
 pub fn next(file: &[u8], stand: &mut Stand, label: &mut Label, out: &mut [u8]) -> StepNumbers {
     let (out, room) = lend(out);
     // SAFETY: each slice's pointer goes with its length; all that is lent outlives the call.

@@ -85,11 +85,13 @@ impl<'f> Reader<'f> {
     /// the front of `out`. With too little room for it the refusal is 11 and
     /// the reader stays where it was. After the end or another refusal every
     /// step says so again.
+    #[inline]
     pub fn step(&mut self, out: &mut [u8]) -> Result<Step, Refusal> {
         stepped(library::step(self.file, &mut self.stand, &mut self.label, out))
     }
 
     /// Steps on to the next record, or to the end, where there is none.
+    #[inline]
     pub fn next(&mut self, out: &mut [u8]) -> Result<Option<Record>, Refusal> {
         match stepped(library::next(self.file, &mut self.stand, &mut self.label, out))? {
             Step::Record(record) => Ok(Some(record)),
@@ -107,6 +109,7 @@ fn opened(numbers: OpenNumbers) -> Result<Opened, Refusal> {
     }
 }
 
+#[inline]
 fn stepped(numbers: StepNumbers) -> Result<Step, Refusal> {
     let StepNumbers { what, bytes, kept, number } = numbers;
     match what {

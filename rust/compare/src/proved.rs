@@ -72,6 +72,7 @@ impl<'f> Reader<'f> {
         *self.0.stand().0
     }
 
+    #[inline]
     pub fn step(&mut self, out: &mut [u8]) -> Step {
         match self.0.step(out) {
             Ok(cockledrift::Step::Record(cockledrift::Record { bytes, kept })) => {
@@ -83,6 +84,7 @@ impl<'f> Reader<'f> {
         }
     }
 
+    #[inline]
     pub fn next(&mut self, out: &mut [u8]) -> Step {
         match self.0.next(out) {
             Ok(Some(cockledrift::Record { bytes, kept })) => Step::Record { bytes, kept },

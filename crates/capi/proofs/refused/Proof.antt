@@ -3,11 +3,9 @@ use borrow.Author.Needs.{needs}
 use Rattle.capi.proofs.refused.Statement.{statement}
 use Rattle.capi.proofs.refused.Tie as tie
 
-long-requires : tie.Need-long-requires
-long-requires c κs = search needs
-
 returns : tie.Need-returns
 returns c = rw (c .long .ensures)
 
+-- the search closes the other needs
 pub refused-spec : {M : Type 1} → statement M
-refused-spec = tie.close (tie.spec long-requires returns)
+refused-spec = tie.close (tie.spec (λ c κs. search needs) returns)

@@ -37,4 +37,5 @@ returns-4 c =
 
 -- the search closes the other needs
 pub all-short-spec : {M : Type 1} → statement M
-all-short-spec = tie.close (tie.spec (λ c κs. search needs) returns (λ c κs. search needs) returns-2 (λ c κs. search needs) returns-3 (λ c κs. search needs) returns-4)
+all-short-spec = tie.close (tie.spec (λ c κs. search needs) returns (λ c κs. search needs) returns-2 (λ c κs. search needs) returns-3 (λ c κs. search needs)
+    returns-4)

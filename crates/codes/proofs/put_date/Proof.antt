@@ -20,7 +20,8 @@ returns-2 : tie.Need-returns-2
 unfolding toLe16
 returns-2 c =
     let e = c .before .before .before .before .before .le16-bytes .ensures ∙ ap toLe16 (c .before .before .before .before .before .before .wide-day .ensures) in
-    rw (c .before .before .before .before .before .before .before .before .date .given .1) (lays-within (simp e at (c .before .before .put2 .ensures)) 5 (omega arith))
+    rw (c .before .before .before .before .before .before .before .before .date .given .1)
+    (lays-within (simp e at (c .before .before .put2 .ensures)) 5 (omega arith))
 
 returns-3 : tie.Need-returns-3
 returns-3 c =
@@ -28,4 +29,6 @@ returns-3 c =
 
 -- the search closes the other needs
 pub put-date-spec : {M : Type 1} → statement M
-put-date-spec = tie.close (tie.spec (λ c. search needs) (λ c. search needs) (λ c κs. search needs) (λ c. search needs) (λ c κs. search needs) (λ c κs. search needs) (λ c. search needs) (λ c. search needs) (λ c. search needs) (λ c κs. search needs) (λ c. search needs) put-range-requires (λ c. search needs) returns (λ c. search needs) returns-2 (λ c. search needs) returns-3)
+put-date-spec = tie.close (tie.spec (λ c. search needs) (λ c. search needs) (λ c κs. search needs) (λ c. search needs) (λ c κs. search needs)
+    (λ c κs. search needs) (λ c. search needs) (λ c. search needs) (λ c. search needs) (λ c κs. search needs) (λ c. search needs) put-range-requires
+    (λ c. search needs) returns (λ c. search needs) returns-2 (λ c. search needs) returns-3)

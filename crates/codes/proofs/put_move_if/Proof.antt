@@ -16,9 +16,12 @@ returns c =
 returns-2 : tie.Need-returns-2
 unfolding moveIf toLe32
 returns-2 c =
-    lays-as (lays-then (c .before .before .before .before .before .before .before .before .put .ensures) (rw (c .before .before .before .before .before .point-bytes .ensures) at (c .before .before .put2 .ensures)))
-    (sym (pick-false _ _ (sym (c .before .before .before .before .before .before .before .before .before .before .before .before .stands-at .ensures) ∙ c .before .before .before .before .before .before .before .before .before .before .before .if1 .left)))
+    lays-as (lays-then (c .before .before .before .before .before .before .before .before .put .ensures)
+    (rw (c .before .before .before .before .before .point-bytes .ensures) at (c .before .before .put2 .ensures)))
+    (sym (pick-false _ _ (sym (c .before .before .before .before .before .before .before .before .before .before .before .before .stands-at .ensures)
+    ∙ c .before .before .before .before .before .before .before .before .before .before .before .if1 .left)))
 
 -- the search closes the other needs
 pub put-move-if-spec : {M : Type 1} → statement M
-put-move-if-spec = tie.close (tie.spec (λ c κs. search needs) returns (λ c. search needs) (λ c κs. search needs) (λ c κs. search needs) (λ c. search needs) (λ c κs. search needs) (λ c. search needs) returns-2)
+put-move-if-spec = tie.close (tie.spec (λ c κs. search needs) returns (λ c. search needs) (λ c κs. search needs) (λ c κs. search needs) (λ c. search needs)
+    (λ c κs. search needs) (λ c. search needs) returns-2)

@@ -6,34 +6,20 @@ use borrow.Author.Needs.{needs}
 use Rattle.codes.proofs.put_record.Statement.{statement}
 use Rattle.codes.proofs.put_record.Tie as tie
 
-put-leg-requires : tie.Need-put-leg-requires
-put-leg-requires c κs =
-    rw (c .before .before .fields .given .1) at (c .before .before .before .before .before .before .before .pre)
-
-put-station-requires : tie.Need-put-station-requires
-put-station-requires c κs =
-    rw (c .before .before .fields2 .given .1) at (c .before .before .before .before .before .before .before .pre)
-
-put-section-requires : tie.Need-put-section-requires
-put-section-requires c κs =
-    rw (c .before .before .fields3 .given .1) at (c .before .before .before .before .before .before .before .pre)
-
-returns : tie.Need-returns
-returns c =
-    rw (c .before .before .before .before .before .fields .given .1) (puts-front (c .before .before .put-leg .ensures))
-
-returns-2 : tie.Need-returns-2
-returns-2 c =
-    rw (c .before .before .before .before .before .fields2 .given .1) (puts-front (lays-within (c .before .before .put-station .ensures) codesLimit (omega arith)))
-
-returns-3 : tie.Need-returns-3
-returns-3 c =
-    rw (c .before .before .before .before .before .fields3 .given .1) (puts-front (lays-within (c .before .before .put-section .ensures) codesLimit (omega arith)))
-
-returns-4 : tie.Need-returns-4
-returns-4 c =
-    rw (c .before .before .before .before .before .fields4 .given .1) (puts-front (lays-within (c .before .before .put-error .ensures) codesLimit (omega arith)))
-
--- the search closes the other needs
 pub put-record-spec : {M : Type 1} → statement M
-put-record-spec = tie.close (tie.spec (λ c. search needs) put-leg-requires (λ c. search needs) put-station-requires (λ c. search needs) put-section-requires (λ c. search needs) (λ c κs. search needs) (λ c. search needs) returns (λ c. search needs) returns-2 (λ c. search needs) returns-3 (λ c. search needs) returns-4)
+put-record-spec =
+    tie.close
+    (tie.spec (λ c. search needs)
+    (λ c κs. rw (c .before .before .fields .given .1) at (c .before .before .before .before .before .before .before .pre)) (λ c. search needs)
+    (λ c κs. rw (c .before .before .fields2 .given .1) at (c .before .before .before .before .before .before .before .pre)) (λ c. search needs)
+    (λ c κs. rw (c .before .before .fields3 .given .1) at (c .before .before .before .before .before .before .before .pre)) (λ c. search needs)
+    (λ c κs. search needs) (λ c. search needs)
+    (λ c. rw (c .before .before .before .before .before .fields .given .1) (puts-front (c .before .before .put-leg .ensures))) (λ c. search needs)
+    (λ c. rw (c .before .before .before .before .before .fields2 .given .1)
+    (puts-front (lays-within (c .before .before .put-station .ensures) codesLimit (omega arith))))
+    (λ c. search needs)
+    (λ c. rw (c .before .before .before .before .before .fields3 .given .1)
+    (puts-front (lays-within (c .before .before .put-section .ensures) codesLimit (omega arith))))
+    (λ c. search needs)
+    (λ c. rw (c .before .before .before .before .before .fields4 .given .1)
+    (puts-front (lays-within (c .before .before .put-error .ensures) codesLimit (omega arith)))))

@@ -5,15 +5,6 @@ use borrow.Author.Needs.{needs}
 use Rattle.edit.proofs.edit.Statement.{statement}
 use Rattle.edit.proofs.edit.Tie as tie
 
-opening-requires : tie.Need-opening-requires
-opening-requires c κs = search needs
-
-enum-known-head : tie.Need-enum-known-head
-enum-known-head c = search needs
-
-enum-known-head-2 : tie.Need-enum-known-head-2
-enum-known-head-2 c = search needs
-
 edit-opened-requires : tie.Need-edit-opened-requires
 edit-opened-requires c κs =
     let T = rw (c .before .before .head2 .given .1) at (c .before .before .before .before .opening .ensures) in
@@ -23,22 +14,14 @@ returns : tie.Need-returns
 returns c =
     edits-shut _ _ _ _ _ _ _ (rw (c .before .head .given .1) at (c .before .before .before .opening .ensures) .same)
 
-same-length : tie.Need-same-length
-same-length c = search needs
-
 returns-2 : tie.Need-returns-2
 returns-2 c =
     let E = c .before .before .edit-opened .ensures in
     (E .answer, E .buffer)
 
+-- the search closes the other needs
 pub edit-spec : {M : Type 1} → statement M
 edit-spec =
     tie.close
     (tie.spec
-    opening-requires
-    enum-known-head
-    enum-known-head-2
-    edit-opened-requires
-    returns
-    same-length
-    returns-2)
+    (λ c κs. search needs) (λ c. search needs) (λ c. search needs) edit-opened-requires returns (λ c. search needs) returns-2)

@@ -18,32 +18,16 @@ abbrev μ-loop : tie.MeasureT-loop
 sizes : (y : tie.After-entry Inv-loop μ-loop) → (3 ≤ y .entry .given .0 .0) × (y .before .before .before .before .before .loop .at + y .entry .given .0 .0 ≤ length (y .before .before .before .before .before .before .before .args .new .now))
 sizes y =
     let T = rw (y .entry .given .1) at (y .before .before .read-entry .ensures) in
-    found-size _ (y .before .before .before .before .before .before .before .args .new .now) (y .before .before .before .before .before .loop .at) (y .before .before .before .before .loop-test .taken) _ _ _ T
+    found-size _ (y .before .before .before .before .before .before .before .args .new .now) (y .before .before .before .before .before .loop .at)
+    (y .before .before .before .before .loop-test .taken) _ _ _ T
 
 loop-holds : tie.Need-loop-holds Inv-loop μ-loop
 loop-holds c = judging-first _
 
-sub-read-entry : tie.Need-sub-read-entry Inv-loop μ-loop
-sub-read-entry c = search needs
-
-part-read-entry-start : tie.Need-part-read-entry-start Inv-loop μ-loop
-part-read-entry-start c = search needs
-
-part-read-entry-end : tie.Need-part-read-entry-end Inv-loop μ-loop
-part-read-entry-end c = search needs
-
-read-entry-requires : tie.Need-read-entry-requires Inv-loop μ-loop
-read-entry-requires c κs = search needs
-
-enum-known-entry : tie.Need-enum-known-entry Inv-loop μ-loop
-enum-known-entry c = search needs
-
-enum-told : tie.Need-enum-told Inv-loop μ-loop
-enum-told c = search needs
-
 returns : tie.Need-returns Inv-loop μ-loop
 returns c =
-    flaw-here _ _ _ (c .before .before .before .before .before .loop .inv) (c .before .before .before .before .loop-test .taken) (rw (c .enum-told .given .1) at (c .before .before .read-entry .ensures))
+    flaw-here _ _ _ (c .before .before .before .before .before .loop .inv) (c .before .before .before .before .loop-test .taken)
+    (rw (c .enum-told .given .1) at (c .before .before .read-entry .ensures))
 
 add-number : tie.Need-add-number Inv-loop μ-loop
 add-number c =
@@ -65,22 +49,10 @@ returns-2 : tie.Need-returns-2 Inv-loop μ-loop
 returns-2 c =
     flaw-none _ _ _ (c .before .loop .inv) (c .loop-test .left)
 
+-- the search closes the other needs
 pub first-flaw-spec : {M : Type 1} → statement M
 first-flaw-spec =
     tie.close
     (tie.spec
-    Inv-loop
-    μ-loop
-    loop-holds
-    sub-read-entry
-    part-read-entry-start
-    part-read-entry-end
-    read-entry-requires
-    enum-known-entry
-    enum-told
-    returns
-    add-number
-    add-at
-    loop-less
-    loop-again
-    returns-2)
+    Inv-loop μ-loop loop-holds (λ c. search needs) (λ c. search needs) (λ c. search needs) (λ c κs. search needs) (λ c. search needs)
+    (λ c. search needs) returns add-number add-at loop-less loop-again returns-2)

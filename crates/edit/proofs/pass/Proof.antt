@@ -13,30 +13,28 @@ slice-aggregate-lay c =
 
 lay-requires : tie.Need-lay-requires
 lay-requires c κs =
+    let p = c .before .before .before .before .before .before .pre in
     let a = c .before .before .before .before .before .before .args in
-    let i = c .before .before .before .before .before .before .pre .at .cuts .before .inside .place-inside in
+    let i = p .at .cuts .before .inside .place-inside in
     let l = length-take-le (a .cut .front .at) (a .file .now) i in
-    (omega arith, omega (arith, l, i, c .before .before .before .before .before .before .pre .at .opens .room .file-fits))
+    (omega arith, omega (arith, l, i, p .at .opens .room .file-fits))
 
 put-edited-requires : tie.Need-put-edited-requires
 put-edited-requires c κs =
-    let a = c .before .before .before .before .before .before .before .before .before .before .args in
-    (c .before .before .before .before .before .before .before .before .before .before .pre, rw (c .before .before .before .lay .ensures) (front-laid (c .before .before .before .before .before .before .before .before .before .before .pre .at) (λ i. c .before .before .before .before .before .before .before .before .before .shared-slice-known .given i .fits) (a .new .now) (a .out .now)))
-
-same-length : tie.Need-same-length
-same-length c = search needs
+    let p = c .before .before .before .before .before .before .before .before .before .before .pre in
+    let a = c .before .before .before .before .before .before .before .before .before .before .args in (
+      p,
+      rw (c .before .before .before .lay .ensures) (front-laid (p .at)
+          (λ i. c .before .before .before .before .before .before .before .before .before .shared-slice-known .given i .fits) (a .new .now) (a .out .now)),
+    )
 
 returns : tie.Need-returns
 returns c =
     let a = c .before .before .before .before .before .before .before .before .before .before .before .before .before .args in
-    pass-spliced (c .before .before .before .before .before .before .before .before .before .before .before .before .before .pre .at) (λ i. c .before .before .before .before .before .before .before .before .before .before .before .before .shared-slice-known .given i .fits) (a .new .now) (a .out .now) _ _ (rw (c .before .before .before .before .before .before .lay .ensures) at (c .before .before .put-edited .ensures))
+    pass-spliced (c .before .before .before .before .before .before .before .before .before .before .before .before .before .pre .at)
+    (λ i. c .before .before .before .before .before .before .before .before .before .before .before .before .shared-slice-known .given i .fits) (a .new .now)
+    (a .out .now) _ _ (rw (c .before .before .before .before .before .before .lay .ensures) at (c .before .before .put-edited .ensures))
 
+-- the search closes the other needs
 pub pass-spec : {M : Type 1} → statement M
-pass-spec =
-    tie.close
-    (tie.spec
-    slice-aggregate-lay
-    lay-requires
-    put-edited-requires
-    same-length
-    returns)
+pass-spec = tie.close (tie.spec slice-aggregate-lay lay-requires put-edited-requires (λ c. search needs) returns)

@@ -8,23 +8,16 @@ use Rattle.edit.proofs.put_after.Tie as tie
 
 slice-aggregate-put-next : tie.Need-slice-aggregate-put-next
 slice-aggregate-put-next c =
-    let a = c .before .before .before .before .before .args in
-    let p = c .before .before .before .before .before .pre in
-    sym (length-take-le (a .len) (a .last .now) (omega (arith, p .1, p .2)))
+    let F = c .before .before .before .before .before .before .before .pre .0 in
+    sym (length-take-le _ _ (omega (arith, F .label-short, F .label-whole)))
 
 put-next-requires : tie.Need-put-next-requires
 put-next-requires c κs =
-    let a = c .before .before .before .before .before .args in
-    let p = c .before .before .before .before .before .pre in
-    let l = length-take-le (a .len) (a .last .now) (omega (arith, p .1, p .2)) in
-    (p .0, omega (arith, l, p .1), p .3)
+    let a = c .before .before .before .before .before .before .before .args in
+    let p = c .before .before .before .before .before .before .before .pre in
+    let l = length-take-le (a .pen .len) (a .last .now) (omega (arith, p .0 .label-short, p .0 .label-whole)) in
+    (p .1, omega (arith, l, p .0 .label-short), p .2)
 
-same-length : tie.Need-same-length
-same-length c = search needs
-
-returns : tie.Need-returns
-returns c = search needs
-
+-- the search closes the other needs
 pub put-after-spec : {M : Type 1} → statement M
-put-after-spec =
-    tie.close (tie.spec slice-aggregate-put-next put-next-requires same-length returns)
+put-after-spec = tie.close (tie.spec slice-aggregate-put-next put-next-requires (λ c. search needs) (λ c. search needs))

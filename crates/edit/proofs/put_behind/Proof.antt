@@ -1,9 +1,10 @@
 -- `edit::put_behind` meets its contract. Assumes nothing.
+use native.Mathlib.Omega.{arith}
 use mathlib.Core.Path.{_≡_, sym, _∙_}
-use lib.ListN.{length}
+use lib.ListN.{length, length-take}
+use lib.Seq.{length-take-le}
 use Rattle.edit.proofs.Behind.{Putting, putting-first, always-more, putting-fits, went-level, went-all, found-formed, putting-more}
 use borrow.Author.Needs.{needs}
-use native.Mathlib.Omega.{arith}
 use Rattle.edit.proofs.put_behind.Statement.{statement}
 use Rattle.edit.proofs.put_behind.Tie as tie
 
@@ -13,12 +14,6 @@ Inv-loop file name₀ out₀ last₀ room₀ spare₀ place₀ pen₀ left₀ na
 
 abbrev μ-loop : tie.MeasureT-loop
 μ-loop file name₀ out₀ last₀ room₀ spare₀ place₀ pen₀ left₀ name out last room spare place pen left = left
-
-room-requires : tie.Need-room-requires Inv-loop μ-loop
-room-requires c κs = search needs
-
-blank-requires : tie.Need-blank-requires Inv-loop μ-loop
-blank-requires c κs = search needs
 
 loop-holds : tie.Need-loop-holds Inv-loop μ-loop
 loop-holds c =
@@ -30,9 +25,6 @@ level-requires c κs =
     let B = c .before .before .before .loop .inv .behind in
     let i = B .standing .ready .inside in
     (i .label-short, i .label-whole, B .fits)
-
-same-length : tie.Need-same-length Inv-loop μ-loop
-same-length c = search needs
 
 returns : tie.Need-returns Inv-loop μ-loop
 returns c =
@@ -47,61 +39,52 @@ take-record-requires c κs =
     let G = c .before .before .before .before .before .before .before .before .loop .inv in
     (G .behind .standing .ready, G .spare-whole, G .room-whole)
 
-enum-known-taken : tie.Need-enum-known-taken Inv-loop μ-loop
-enum-known-taken c = search needs
-
-same-length-2 : tie.Need-same-length-2 Inv-loop μ-loop
-same-length-2 c = search needs
-
 returns-2 : tie.Need-returns-2 Inv-loop μ-loop
 returns-2 c =
-    absurd (always-more (c .before .before .before .before .before .before .before .before .before .before .before .loop .inv) (c .before .before .take-record .result) _ (c .before .before .before .before .before .before .before .before .before .before .loop-test .taken) (c .match .keys2) (c .before .before .take-record .ensures .0))
+    absurd (always-more (c .before .before .before .before .before .before .before .before .before .before .before .loop .inv)
+    (c .before .before .take-record .result) _ (c .before .before .before .before .before .before .before .before .before .before .loop-test .taken)
+    (c .match .keys2) (c .before .before .take-record .ensures .0))
 
-put-named-requires : tie.Need-put-named-requires Inv-loop μ-loop
-put-named-requires c κs =
-    let G = c .before .before .before .before .before .before .before .before .before .before .before .before .before .before .before .before .loop .inv in
-    let T = rw (c .before .before .before .before .taken .given .1) at (c .before .before .before .before .before .before .before .take-record .ensures) in
-    (G .behind .fits, putting-fits G (c .before .before .before .before .before .before .before .before .before .before .before .before .before .before .before .loop-test .taken), T .0 .inside .label-short, T .0 .inside .label-whole, found-formed G (c .before .before .before .before .taken .given .0 .0) (c .before .before .before .before .taken .given .0 .1 .0) _ (T .0))
+slice-aggregate-put-one : tie.Need-slice-aggregate-put-one Inv-loop μ-loop
+slice-aggregate-put-one c =
+    let T = rw (c .before .before .before .before .before .before .taken .given .1) at
+    (c .before .before .before .before .before .before .before .before .before .take-record .ensures) in
+    sym (length-take-le _ _ (omega (arith, T .0 .inside .label-short, T .0 .inside .label-whole)))
+
+put-one-requires : tie.Need-put-one-requires Inv-loop μ-loop
+put-one-requires c κs =
+    let G = c .before .before .before .before .before .before .before .before .before .before .before .before .before .before .before .before .before .before .loop .inv in
+    let t = c .before .before .before .before .before .before .taken .given in
+    let T = rw (t .1) at (c .before .before .before .before .before .before .before .before .before .take-record .ensures) in (
+      G .behind .fits,
+      putting-fits G
+          (c .before .before .before .before .before .before .before .before .before .before .before .before .before .before .before .before .before .loop-test .taken),
+      found-formed G (t .0 .0) (t .0 .1 .0) _ (T .0),
+      simp length-take (omega (arith, T .0 .inside .label-short)),
+    )
 
 sub-left : tie.Need-sub-left Inv-loop μ-loop
 sub-left c =
-    omega (arith, c .before .before .before .before .before .before .before .before .before .before .before .before .before .before .before .before .before .before .loop-test .taken)
+    omega (arith, c .before .before .before .before .before .before .before .before .before .before .before .before .before .before .before .before .before .before .before .before .loop-test .taken)
 
 loop-less : tie.Need-loop-less Inv-loop μ-loop
 loop-less c =
-    omega (arith, c .before .before .before .before .before .before .before .before .before .before .before .before .before .before .before .before .before .before .loop-test .taken)
+    omega (arith, c .before .before .before .before .before .before .before .before .before .before .before .before .before .before .before .before .before .before .before .before .loop-test .taken)
 
 loop-again : tie.Need-loop-again Inv-loop μ-loop
 loop-again c =
-    let T = rw (c .before .before .before .before .before .before .before .taken .given .1) at (c .before .before .before .before .before .before .before .before .before .before .take-record .ensures) in
-    putting-more (c .before .before .before .before .before .before .before .before .before .before .before .before .before .before .before .before .before .before .before .loop .inv) (c .before .before .before .before .before .before .before .taken .given .0 .0) (c .before .before .before .before .before .before .before .taken .given .0 .1 .0) _ (T .0) (c .before .before .before .before .before .before .before .before .before .before .before .before .before .before .before .before .before .before .loop-test .taken) _ _ _ _ _ (c .before .before .put-named .ensures) (T .1) (T .2)
-
-same-length-3 : tie.Need-same-length-3 Inv-loop μ-loop
-same-length-3 c = search needs
+    let t = c .before .before .before .before .before .before .before .before .before .taken .given in
+    let T = rw (t .1) at (c .before .before .before .before .before .before .before .before .before .before .before .before .take-record .ensures) in
+    putting-more (c .before .before .before .before .before .before .before .before .before .before .before .before .before .before .before .before .before .before .before .before .before .loop .inv) (t .0 .0) (t .0 .1 .0) _ (T .0) (c .before .before .before .before .before .before .before .before .before .before .before .before .before .before .before .before .before .before .before .before .loop-test .taken) _ _ _ _ _ (c .before .before .put-one .ensures) (T .1) (T .2)
 
 returns-3 : tie.Need-returns-3 Inv-loop μ-loop
 returns-3 c = went-all (c .before .loop .inv) (c .loop-test .left)
 
+-- the search closes the other needs
 pub put-behind-spec : {M : Type 1} → statement M
 put-behind-spec =
     tie.close
     (tie.spec
-    Inv-loop
-    μ-loop
-    room-requires
-    blank-requires
-    loop-holds
-    level-requires
-    same-length
-    returns
-    slice-aggregate-take-record
-    take-record-requires
-    enum-known-taken
-    same-length-2
-    returns-2
-    put-named-requires
-    sub-left
-    loop-less
-    loop-again
-    same-length-3
-    returns-3)
+    Inv-loop μ-loop (λ c κs. search needs) (λ c κs. search needs) loop-holds level-requires (λ c. search needs) returns slice-aggregate-take-record
+    take-record-requires (λ c. search needs) (λ c. search needs) returns-2 slice-aggregate-put-one put-one-requires sub-left loop-less loop-again
+    (λ c. search needs) returns-3)

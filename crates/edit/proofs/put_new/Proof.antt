@@ -18,37 +18,20 @@ abbrev μ-loop : tie.MeasureT-loop
 sizes : (y : tie.After-entry Inv-loop μ-loop) → (3 ≤ y .entry .given .0 .0) × (y .before .before .before .before .before .loop .at + y .entry .given .0 .0 ≤ length (y .before .before .before .before .before .before .before .before .args .new .now)) × (y .entry .given .0 .1 .1 .0 ≤ y .entry .given .0 .0)
 sizes y =
     let T = rw (y .entry .given .1) at (y .before .before .read-entry .ensures) in
-    let w = found-size _ (y .before .before .before .before .before .before .before .before .args .new .now) (y .before .before .before .before .before .loop .at) (y .before .before .before .before .loop-test .taken) _ _ _ T in
+    let w = found-size _ (y .before .before .before .before .before .before .before .before .args .new .now)
+    (y .before .before .before .before .before .loop .at) (y .before .before .before .before .loop-test .taken) _ _ _ T in
     (w .0, w .1, T .inside .from-within)
 
 loop-holds : tie.Need-loop-holds Inv-loop μ-loop
 loop-holds c =
-    putting-first _ _ _ _ (c .before .before .pre .0) (c .before .before .pre .1)
-
-sub-read-entry : tie.Need-sub-read-entry Inv-loop μ-loop
-sub-read-entry c = search needs
-
-part-read-entry-start : tie.Need-part-read-entry-start Inv-loop μ-loop
-part-read-entry-start c = search needs
-
-part-read-entry-end : tie.Need-part-read-entry-end Inv-loop μ-loop
-part-read-entry-end c = search needs
-
-read-entry-requires : tie.Need-read-entry-requires Inv-loop μ-loop
-read-entry-requires c κs = search needs
-
-enum-known-entry : tie.Need-enum-known-entry Inv-loop μ-loop
-enum-known-entry c = search needs
-
-enum-told : tie.Need-enum-told Inv-loop μ-loop
-enum-told c = search needs
-
-same-length : tie.Need-same-length Inv-loop μ-loop
-same-length c = search needs
+    let p = c .before .before .pre in
+    putting-first _ _ _ _ (p .0) (p .1)
 
 returns : tie.Need-returns Inv-loop μ-loop
 returns c =
-    absurd (never-flawed _ _ _ _ _ _ _ _ (c .before .before .before .before .before .loop .inv) (c .before .before .before .before .before .before .before .before .pre .3) (c .before .before .before .before .loop-test .taken) (rw (c .enum-told .given .1) at (c .before .before .read-entry .ensures)))
+    absurd (never-flawed _ _ _ _ _ _ _ _ (c .before .before .before .before .before .loop .inv)
+    (c .before .before .before .before .before .before .before .before .pre .3) (c .before .before .before .before .loop-test .taken)
+    (rw (c .enum-told .given .1) at (c .before .before .read-entry .ensures)))
 
 add-name : tie.Need-add-name Inv-loop μ-loop
 add-name c = omega (arith, sizes (c .before))
@@ -69,8 +52,14 @@ put-one-requires : tie.Need-put-one-requires Inv-loop μ-loop
 put-one-requires c κs =
     let G = c .before .before .before .before .before .before .before .before .before .loop .inv in
     let h = c .before .before .before .before .before .before .before .before .loop-test .taken in
-    let T = rw (c .before .before .before .before .entry .given .1) at (c .before .before .before .before .before .before .read-entry .ensures) in
-    (G .fits, putting-fits _ _ _ _ _ _ _ _ G (omega (arith, c .before .before .before .before .before .before .before .before .before .before .before .before .good)) (c .before .before .before .before .before .before .before .before .before .before .before .before .pre .2), found-formed _ _ _ h _ _ _ T, found-short _ _ _ h _ _ _ T)
+    let T = rw (c .before .before .before .before .entry .given .1) at (c .before .before .before .before .before .before .read-entry .ensures) in (
+      G .fits,
+      putting-fits _ _ _ _ _ _ _ _ G
+          (omega (arith, c .before .before .before .before .before .before .before .before .before .before .before .before .good))
+          (c .before .before .before .before .before .before .before .before .before .before .before .before .pre .2),
+      found-formed _ _ _ h _ _ _ T,
+      found-short _ _ _ h _ _ _ T,
+    )
 
 loop-less : tie.Need-loop-less Inv-loop μ-loop
 loop-less c =
@@ -78,38 +67,21 @@ loop-less c =
 
 loop-again : tie.Need-loop-again Inv-loop μ-loop
 loop-again c =
-    let T = rw (c .before .before .before .before .before .before .before .entry .given .1) at (c .before .before .before .before .before .before .before .before .before .read-entry .ensures) in
-    putting-more _ _ _ _ _ _ _ _ (c .before .before .before .before .before .before .before .before .before .before .before .before .loop .inv) (c .before .before .before .before .before .before .before .before .before .before .before .loop-test .taken) _ _ _ T _ _ _ (c .before .before .put-one .ensures)
-
-same-length-2 : tie.Need-same-length-2 Inv-loop μ-loop
-same-length-2 c = search needs
+    let T = rw (c .before .before .before .before .before .before .before .entry .given .1) at
+    (c .before .before .before .before .before .before .before .before .before .read-entry .ensures) in
+    putting-more _ _ _ _ _ _ _ _ (c .before .before .before .before .before .before .before .before .before .before .before .before .loop .inv)
+    (c .before .before .before .before .before .before .before .before .before .before .before .loop-test .taken) _ _ _ T _ _ _
+    (c .before .before .put-one .ensures)
 
 returns-2 : tie.Need-returns-2 Inv-loop μ-loop
 returns-2 c =
     puts-new _ _ _ _ _ _ _ _ (c .before .loop .inv) (c .loop-test .left)
 
+-- the search closes the other needs
 pub put-new-spec : {M : Type 1} → statement M
 put-new-spec =
     tie.close
     (tie.spec
-    Inv-loop
-    μ-loop
-    loop-holds
-    sub-read-entry
-    part-read-entry-start
-    part-read-entry-end
-    read-entry-requires
-    enum-known-entry
-    enum-told
-    same-length
-    returns
-    add-name
-    add-end
-    sub-put-one
-    part-put-one-start
-    part-put-one-end
-    put-one-requires
-    loop-less
-    loop-again
-    same-length-2
-    returns-2)
+    Inv-loop μ-loop loop-holds (λ c. search needs) (λ c. search needs) (λ c. search needs) (λ c κs. search needs) (λ c. search needs)
+    (λ c. search needs) (λ c. search needs) returns add-name add-end sub-put-one part-put-one-start part-put-one-end put-one-requires loop-less
+    loop-again (λ c. search needs) returns-2)

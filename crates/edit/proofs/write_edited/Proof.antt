@@ -10,78 +10,51 @@ use native.Mathlib.Omega.{arith}
 use Rattle.edit.proofs.write_edited.Statement.{statement}
 use Rattle.edit.proofs.write_edited.Tie as tie
 
-slice-relend-prefix-pass : tie.Need-slice-relend-prefix-pass
-slice-relend-prefix-pass c = search needs
-
-slice-aggregate-pass : tie.Need-slice-aggregate-pass
-slice-aggregate-pass c = search needs
-
 pass-requires : tie.Need-pass-requires
 pass-requires c κs = c .before .before .before .before .pre
-
-enum-known-answer : tie.Need-enum-known-answer
-enum-known-answer c = search needs
-
-enum-known-answer-2 : tie.Need-enum-known-answer-2
-enum-known-answer-2 c = search needs
-
-same-length : tie.Need-same-length
-same-length c = search needs
 
 returns : tie.Need-returns
 returns c =
     let a = c .before .before .before .before .before .before .before .before .before .before .before .args in
     let p = c .before .before .before .before .before .before .pass .ensures in
-    let x = passes-small v8 (oldHeader (a .file .now) (a .cut .old)) (editedAt (a .file .now) (a .cut) (a .new .now)) (a .out .now) (c .before .before .before .before .before .before .pass .last .1 .1 .1 .0) (c .before .before .before .before .before .before .pass .result) (p .kept) (p .answer) (c .before .before .answer2 .given .1) (c .if1 .taken) in
+    let x = passes-small v8 (oldHeader (a .file .now) (a .cut .old)) (editedAt (a .file .now) (a .cut) (a .new .now)) (a .out .now)
+    (c .before .before .before .before .before .before .pass .last .1 .1 .1 .0) (c .before .before .before .before .before .before .pass .result) (p .kept)
+    (p .answer) (c .before .before .answer2 .given .1) (c .if1 .taken) in
     record { answer = x .0; buffer = x .1 }
-
-slice-relend-prefix-pass-2 : tie.Need-slice-relend-prefix-pass-2
-slice-relend-prefix-pass-2 c = search needs
 
 slice-aggregate-pass-2 : tie.Need-slice-aggregate-pass-2
 slice-aggregate-pass-2 c =
-    let e = length-take-le (c .before .before .before .answer2 .given .0 .0) (c .before .before .before .before .before .before .before .pass .last .1 .1 .1 .0 ++ c .before .before .before .before .before .before .before .before .before .before .before .before .args .out .now) (omega (arith, c .before .if1 .left)) in
+    let e = length-take-le (c .before .before .before .answer2 .given .0 .0)
+    (c .before .before .before .before .before .before .before .pass .last .1 .1 .1 .0 ++ c .before .before .before .before .before .before .before .before .before .before .before .before .args .out .now) (omega (arith, c .before .if1 .left)) in
     omega (arith, e)
 
 pass-requires-2 : tie.Need-pass-requires-2
 pass-requires-2 c κs =
     c .before .before .before .before .before .before .before .before .before .before .before .before .pre
 
-same-length-2 : tie.Need-same-length-2
-same-length-2 c = search needs
-
 returns-2 : tie.Need-returns-2
 returns-2 c =
     let a = c .before .before .before .before .before .before .before .before .before .before .args in
     let p = c .before .before .before .before .before .pass .ensures in
-    let x = passes-refused v8 (oldHeader (a .file .now) (a .cut .old)) (editedAt (a .file .now) (a .cut) (a .new .now)) (a .out .now) (c .before .before .before .before .before .pass .last .1 .1 .1 .0) (c .before .before .before .before .before .pass .result) (p .kept) (p .answer) (c .before .answer .given .1) in
+    let x = passes-refused v8 (oldHeader (a .file .now) (a .cut .old)) (editedAt (a .file .now) (a .cut) (a .new .now)) (a .out .now)
+    (c .before .before .before .before .before .pass .last .1 .1 .1 .0) (c .before .before .before .before .before .pass .result) (p .kept) (p .answer)
+    (c .before .answer .given .1) in
     record { answer = x .0; buffer = x .1 }
-
-same-length-3 : tie.Need-same-length-3
-same-length-3 c = search needs
 
 returns-3 : tie.Need-returns-3
 returns-3 c =
     let a = c .before .before .before .before .before .before .before .before .before .before .before .before .before .before .before .args in
     let p = c .before .before .before .before .before .before .before .before .before .before .pass .ensures in
-    let x = passes-done v8 (oldHeader (a .file .now) (a .cut .old)) (editedAt (a .file .now) (a .cut) (a .new .now)) (a .out .now) (c .before .before .before .before .before .before .before .before .before .before .pass .last .1 .1 .1 .0) (c .before .before .before .before .before .before .before .before .before .before .pass .result) (p .kept) (p .answer) (c .before .before .before .before .before .before .answer2 .given .1) (c .before .before .before .before .if1 .left) (c .before .before .pass2 .ensures) in
+    let x = passes-done v8 (oldHeader (a .file .now) (a .cut .old)) (editedAt (a .file .now) (a .cut) (a .new .now)) (a .out .now)
+    (c .before .before .before .before .before .before .before .before .before .before .pass .last .1 .1 .1 .0)
+    (c .before .before .before .before .before .before .before .before .before .before .pass .result) (p .kept) (p .answer)
+    (c .before .before .before .before .before .before .answer2 .given .1) (c .before .before .before .before .if1 .left) (c .before .before .pass2 .ensures) in
     record { answer = x .0; buffer = x .1 }
 
+-- the search closes the other needs
 pub write-edited-spec : {M : Type 1} → statement M
 write-edited-spec =
     tie.close
     (tie.spec
-    slice-relend-prefix-pass
-    slice-aggregate-pass
-    pass-requires
-    enum-known-answer
-    enum-known-answer-2
-    same-length
-    returns
-    slice-relend-prefix-pass-2
-    slice-aggregate-pass-2
-    pass-requires-2
-    same-length-2
-    returns-2
-    same-length-3
-    returns-3)
+    (λ c. search needs) (λ c. search needs) pass-requires (λ c. search needs) (λ c. search needs) (λ c. search needs) returns (λ c. search needs)
+    slice-aggregate-pass-2 pass-requires-2 (λ c. search needs) returns-2 (λ c. search needs) returns-3)

@@ -1,4 +1,4 @@
--- `ends::put_header` meets its contract. Assumes nothing.
+-- `ends::put_header` meets its contract: each line is laid behind the one before it. Assumes nothing.
 use native.Mathlib.Omega.{arith}
 use Rattle.format.specs.Header.{magic}
 use Rattle.format.specs.Codes.{headerCodes}
@@ -7,59 +7,71 @@ use borrow.Author.Needs.{needs}
 use Rattle.ends.proofs.put_header.Statement.{statement}
 use Rattle.ends.proofs.put_header.Tie as tie
 
-slice-aggregate-put : tie.Need-slice-aggregate-put
-slice-aggregate-put c = search needs
-
-put-requires : tie.Need-put-requires
-put-requires c κs = search needs
-
 put-requires-2 : tie.Need-put-requires-2
 put-requires-2 c κs =
     (omega (arith, c .before .before .before .put .ensures .most), c .before .before .before .before .before .before .before .before .before .pre .1)
 
-slice-aggregate-put-2 : tie.Need-slice-aggregate-put-2
-slice-aggregate-put-2 c = search needs
-
 put-requires-3 : tie.Need-put-requires-3
-put-requires-3 c κs =
-    (omega (arith, c .before .before .before .before .before .before .before .before .put .ensures .most, c .before .before .before .before .put2 .ensures .most, c .before .before .before .before .before .before .before .before .before .before .before .before .before .before .pre), omega arith)
+put-requires-3 c κs = (
+  omega (
+    arith,
+    c .before .before .before .before .before .before .before .before .put .ensures .most,
+    c .before .before .before .before .put2 .ensures .most,
+    c .before .before .before .before .before .before .before .before .before .before .before .before .before .before .pre,
+  ),
+  omega arith,
+)
 
 put-requires-4 : tie.Need-put-requires-4
-put-requires-4 c κs =
-    (omega (arith, c .before .before .before .before .before .before .before .before .before .before .before .before .put .ensures .most, c .before .before .before .before .before .before .before .before .put2 .ensures .most, c .before .before .before .put3 .ensures .most, c .before .before .before .before .before .before .before .before .before .before .before .before .before .before .before .before .before .before .pre), omega (arith, c .before .before .before .before .before .before .before .before .before .before .before .before .before .before .before .before .before .before .pre))
-
-mul-t24 : tie.Need-mul-t24
-mul-t24 c = search needs
-
-slice-aggregate-put-3 : tie.Need-slice-aggregate-put-3
-slice-aggregate-put-3 c = search needs
+put-requires-4 c κs = (
+  omega (
+    arith,
+    c .before .before .before .before .before .before .before .before .before .before .before .before .put .ensures .most,
+    c .before .before .before .before .before .before .before .before .put2 .ensures .most,
+    c .before .before .before .put3 .ensures .most,
+    c .before .before .before .before .before .before .before .before .before .before .before .before .before .before .before .before .before .before
+        .pre,
+  ),
+  omega (
+    arith,
+    c .before .before .before .before .before .before .before .before .before .before .before .before .before .before .before .before
+        .before .before .pre,
+  ),
+)
 
 put-requires-5 : tie.Need-put-requires-5
-put-requires-5 c κs =
-    (omega (arith, c .before .before .before .before .before .before .before .before .before .before .before .before .before .before .before .before .before .put .ensures .most, c .before .before .before .before .before .before .before .before .before .before .before .before .before .put2 .ensures .most, c .before .before .before .before .before .before .before .before .put3 .ensures .most, c .before .before .before .before .put4 .ensures .most, c .before .before .before .before .before .before .before .before .before .before .before .before .before .before .before .before .before .before .before .before .before .before .before .pre), omega arith)
-
-same-length : tie.Need-same-length
-same-length c = search needs
+put-requires-5 c κs = (
+  omega (
+    arith,
+    c .before .before .before .before .before .before .before .before .before .before .before .before .before .before .before .before .before
+        .put .ensures .most,
+    c .before .before .before .before .before .before .before .before .before .before .before .before .before .put2 .ensures .most,
+    c .before .before .before .before .before .before .before .before .put3 .ensures .most,
+    c .before .before .before .before .put4 .ensures .most,
+    c .before .before .before .before .before .before .before .before .before .before .before .before .before .before .before .before .before .before
+        .before .before .before .before .before .pre,
+  ),
+  omega arith,
+)
 
 returns : tie.Need-returns
 unfolding headerCodes magic
 returns c =
     puts-front
-    (lays-within (lays-then (c .before .before .before .before .before .before .before .before .before .before .before .before .before .before .before .before .before .before .before .before .put .ensures) (lays-then (c .before .before .before .before .before .before .before .before .before .before .before .before .before .before .before .before .put2 .ensures) (lays-then (c .before .before .before .before .before .before .before .before .before .before .before .put3 .ensures) (lays-then (c .before .before .before .before .before .before .before .put4 .ensures) (c .before .before .put5 .ensures)))))
-    4187 (omega (arith, c .before .before .before .before .before .before .before .before .before .before .before .before .before .before .before .before .before .before .before .before .before .before .before .before .before .before .pre)))
+    (lays-within (lays-then (c .before .before .before .before .before .before .before .before .before .before .before .before .before .before .before .before
+    .before .before .before .before .put .ensures)
+    (lays-then (c .before .before .before .before .before .before .before .before .before .before .before .before .before .before .before .before .put2
+    .ensures) (lays-then (c .before .before .before .before .before .before .before .before .before .before .before .put3 .ensures)
+    (lays-then (c .before .before .before .before .before .before .before .put4 .ensures) (c .before .before .put5 .ensures)))))
+    4187 (omega (
+      arith,
+      c .before .before .before .before .before .before .before .before .before .before .before .before .before .before .before .before
+          .before .before .before .before .before .before .before .before .before .before .pre,
+    )))
 
+-- the search closes the other needs
 pub put-header-spec : {M : Type 1} → statement M
 put-header-spec =
     tie.close
-    (tie.spec
-    slice-aggregate-put
-    put-requires
-    put-requires-2
-    slice-aggregate-put-2
-    put-requires-3
-    put-requires-4
-    mul-t24
-    slice-aggregate-put-3
-    put-requires-5
-    same-length
-    returns)
+    (tie.spec (λ c. search needs) (λ c κs. search needs) put-requires-2 (λ c. search needs) put-requires-3 put-requires-4
+    (λ c. search needs) (λ c. search needs) put-requires-5 (λ c. search needs) returns)

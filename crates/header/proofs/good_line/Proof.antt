@@ -7,9 +7,6 @@ use borrow.Author.Needs.{needs}
 use Rattle.header.proofs.good_line.Statement.{statement}
 use Rattle.header.proofs.good_line.Tie as tie
 
-line-end-requires : tie.Need-line-end-requires
-line-end-requires c κs = search needs
-
 returns : tie.Need-returns
 returns c =
     let x = c .before .before .before .args in
@@ -25,31 +22,21 @@ returns-3 c =
     let x = c .before .before .before .before .before .args in
     line-empty (x .limit) (x .s .now) (omega arith) (omega arith) (omega arith)
 
-sub-if4 : tie.Need-sub-if4
-sub-if4 c = search needs
-
-shared-slice-read-if4 : tie.Need-shared-slice-read-if4
-shared-slice-read-if4 c = search needs
-
 returns-4 : tie.Need-returns-4
 returns-4 c =
     let x = c .before .before .before .before .before .before .before .args in
-    line-returned (x .limit) (x .s .now) (omega arith) (omega arith) (omega arith) (rw (c .before .before .before .before .before .line-end .ensures) at (c .if4 .taken))
+    line-returned (x .limit) (x .s .now) (omega arith) (omega arith) (omega arith)
+    (rw (c .before .before .before .before .before .line-end .ensures) at (c .if4 .taken))
 
 returns-5 : tie.Need-returns-5
 returns-5 c =
     let x = c .before .before .before .before .before .before .before .args in
-    ap Ends (c .before .before .before .before .before .line-end .ensures) ∙ line-ends (x .limit) (x .s .now) (omega arith) (omega arith) (omega arith) (rw (c .before .before .before .before .before .line-end .ensures) at (c .if4 .left))
+    ap Ends (c .before .before .before .before .before .line-end .ensures)
+    ∙ line-ends (x .limit) (x .s .now) (omega arith) (omega arith) (omega arith)
+    (rw (c .before .before .before .before .before .line-end .ensures) at (c .if4 .left))
 
+-- the search closes the other needs
 pub good-line-spec : {M : Type 1} → statement M
 good-line-spec =
     tie.close
-    (tie.spec
-    line-end-requires
-    returns
-    returns-2
-    returns-3
-    sub-if4
-    shared-slice-read-if4
-    returns-4
-    returns-5)
+    (tie.spec (λ c κs. search needs) returns returns-2 returns-3 (λ c. search needs) (λ c. search needs) returns-4 returns-5)

@@ -23,23 +23,20 @@ unfolding openingOf pick
 returns c =
     record { same = simp (lt-ltb _ _ (c .if1 .taken)); room = tt }
 
-magic-ok-requires : tie.Need-magic-ok-requires
-magic-ok-requires c κs = search needs
-
 returns-2 : tie.Need-returns-2
 unfolding openingOf headerOf pick
 returns-2 c =
     let wrong = not-true (c .before .magic-ok .result) (c .if2 .taken) in
     record { same = simp (le-ltb _ _ (c .before .before .if1 .left), ← c .before .magic-ok .ensures, wrong); room = tt }
 
-version-ok-requires : tie.Need-version-ok-requires
-version-ok-requires c κs = search needs
-
 returns-3 : tie.Need-returns-3
 unfolding openingOf headerOf pick
 returns-3 c =
     let wrong = not-true (c .before .version-ok .result) (c .if3 .taken) in
-    record { same = simp (le-ltb _ _ (c .before .before .before .before .if1 .left), right (c .before .before), ← c .before .version-ok .ensures, wrong); room = tt }
+    record {
+      same = simp (le-ltb _ _ (c .before .before .before .before .if1 .left), right (c .before .before), ← c .before .version-ok .ensures, wrong);
+      room = tt;
+    }
 
 shared-slice-read-title-line : tie.Need-shared-slice-read-title-line
 shared-slice-read-title-line c =
@@ -60,18 +57,18 @@ returns-4 : tie.Need-returns-4
 unfolding openingOf headerOf pick
 returns-4 c =
     let t = c .title-line .ensures in
-    record { same = simp (le-ltb _ _ (c .before .before .before .before .before .before .if1 .left), right (c .before .before .before .before), Good (c .before .before)) (t .same); room = t .room }
+    record {
+      same = simp (
+        le-ltb _ _ (c .before .before .before .before .before .before .if1 .left),
+        right (c .before .before .before .before),
+        Good (c .before .before),
+      ) (t .same);
+      room = t .room;
+    }
 
+-- the search closes the other needs
 pub opening-spec : {M : Type 1} → statement M
 opening-spec =
     tie.close
-    (tie.spec
-    returns
-    magic-ok-requires
-    returns-2
-    version-ok-requires
-    returns-3
-    shared-slice-read-title-line
-    sub-title-line
-    title-line-requires
-    returns-4)
+    (tie.spec returns (λ c κs. search needs) returns-2 (λ c κs. search needs) returns-3 shared-slice-read-title-line sub-title-line
+    title-line-requires returns-4)

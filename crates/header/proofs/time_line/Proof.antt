@@ -10,7 +10,8 @@ use Rattle.header.proofs.time_line.Statement.{statement}
 use Rattle.header.proofs.time_line.Tie as tie
 
 -- the line that `good_line` found
-found : (c : tie.After-line) → Line 64 (drop (25 + c .before .before .before .before .before .args .title) (c .before .before .before .before .before .args .file .now)) (c .line .given .0 .0)
+found : (c : tie.After-line) → Line 64 (drop (25 + c .before .before .before .before .before .args .title)
+    (c .before .before .before .before .before .args .file .now)) (c .line .given .0 .0)
 found c = line-found 64 _ _ (simp part-to-end at (sym (c .line .given .1) ∙ c .before .before .good-line .ensures))
 
 closed-header-requires : tie.Need-closed-header-requires
@@ -23,7 +24,11 @@ closed-header-requires c κs =
 returns : tie.Need-returns
 returns c =
     let x = c .before .before .before .before .before .args in
-    record { same = time-broken (x .version) (x .file .now) (x .title) (simp part-to-end at (sym (c .enum-told .given .1) ∙ c .before .before .good-line .ensures)); room = tt }
+    record {
+      same = time-broken (x .version) (x .file .now) (x .title)
+          (simp part-to-end at (sym (c .enum-told .given .1) ∙ c .before .before .good-line .ensures));
+      room = tt;
+    }
 
 returns-2 : tie.Need-returns-2
 returns-2 c =
@@ -33,4 +38,5 @@ returns-2 c =
 
 -- the search closes the other needs
 pub time-line-spec : {M : Type 1} → statement M
-time-line-spec = tie.close (tie.spec (λ c. search needs) (λ c. search needs) (λ c. search needs) (λ c. search needs) (λ c κs. search needs) (λ c. search needs) (λ c. search needs) closed-header-requires returns returns-2)
+time-line-spec = tie.close (tie.spec (λ c. search needs) (λ c. search needs) (λ c. search needs) (λ c. search needs) (λ c κs. search needs)
+    (λ c. search needs) (λ c. search needs) closed-header-requires returns returns-2)

@@ -23,7 +23,10 @@ time-line-requires c κs =
 returns : tie.Need-returns
 returns c =
     let x = c .before .before .before .before .before .args in
-    record { same = title-broken (x .version) (x .file .now) (simp part-to-end at (sym (c .enum-told .given .1) ∙ c .before .before .good-line .ensures)); room = tt }
+    record {
+      same = title-broken (x .version) (x .file .now) (simp part-to-end at (sym (c .enum-told .given .1) ∙ c .before .before .good-line .ensures));
+      room = tt;
+    }
 
 returns-2 : tie.Need-returns-2
 returns-2 c =
@@ -33,4 +36,5 @@ returns-2 c =
 
 -- the search closes the other needs
 pub title-line-spec : {M : Type 1} → statement M
-title-line-spec = tie.close (tie.spec (λ c. search needs) (λ c. search needs) (λ c. search needs) (λ c κs. search needs) (λ c. search needs) (λ c. search needs) time-line-requires returns returns-2)
+title-line-spec = tie.close (tie.spec (λ c. search needs) (λ c. search needs) (λ c. search needs) (λ c κs. search needs) (λ c. search needs)
+    (λ c. search needs) time-line-requires returns returns-2)

@@ -4,7 +4,6 @@ use mathlib.Core.Path.{sym}
 use lib.Seq.{length-take-le}
 use Rattle.house.proofs.copy_label.Statement.{statement}
 use Rattle.house.proofs.copy_label.Tie as tie
-use Rattle.house.proofs.copy_label.Reads as reads
 
 slice-aggregate-swap-label : tie.Need-slice-aggregate-swap-label
 slice-aggregate-swap-label c =

@@ -7,7 +7,6 @@ use lib.ListN.{length}
 use Rattle.house.proofs.Whole.{Reading, reading-first, reading-refused, reading-end, reading-more}
 use Rattle.house.proofs.foreign.Statement.{statement}
 use Rattle.house.proofs.foreign.Tie as tie
-use Rattle.house.proofs.foreign.Reads as reads
 
 abbrev Inv-loop : tie.InvT-loop
 Inv-loop file old name₀ place₀ name place =
@@ -15,12 +14,6 @@ Inv-loop file old name₀ place₀ name place =
 
 abbrev μ-loop : tie.MeasureT-loop
 μ-loop file old name₀ place₀ name place = length file - place .at
-
-blank-requires : tie.Need-blank-requires Inv-loop μ-loop
-blank-requires c κs = search needs
-
-first-place-requires : tie.Need-first-place-requires Inv-loop μ-loop
-first-place-requires c κs = search needs
 
 loop-holds : tie.Need-loop-holds Inv-loop μ-loop
 loop-holds c =
@@ -32,22 +25,14 @@ next-record-requires c κs =
     let i = c .before .loop .inv .inside in
     (i .place-inside, i .label-short, i .label-whole)
 
-enum-known-found : tie.Need-enum-known-found Inv-loop μ-loop
-enum-known-found c = search needs
-
 returns : tie.Need-returns Inv-loop μ-loop
 returns c =
-    reading-refused (c .before .before .before .before .before .loop .inv) _ _ (rw (c .before .found .given .1) at (c .before .before .before .next-record .ensures))
-
-enum-told : tie.Need-enum-told Inv-loop μ-loop
-enum-told c = search needs
+    reading-refused (c .before .before .before .before .before .loop .inv) _ _
+    (rw (c .before .found .given .1) at (c .before .before .before .next-record .ensures))
 
 returns-2 : tie.Need-returns-2 Inv-loop μ-loop
 returns-2 c =
     reading-end (c .before .before .before .before .loop .inv) (rw (c .enum-told .given .1) at (c .before .before .next-record .ensures))
-
-enum-known-found-2 : tie.Need-enum-known-found-2 Inv-loop μ-loop
-enum-known-found-2 c = search needs
 
 loop-less : tie.Need-loop-less Inv-loop μ-loop
 loop-less c =
@@ -56,22 +41,13 @@ loop-less c =
 
 loop-again : tie.Need-loop-again Inv-loop μ-loop
 loop-again c =
-    reading-more (c .before .before .before .before .before .loop .inv) _ _ (rw (c .before .found2 .given .1) at (c .before .before .before .next-record .ensures))
+    reading-more (c .before .before .before .before .before .loop .inv) _ _
+    (rw (c .before .found2 .given .1) at (c .before .before .before .next-record .ensures))
 
+-- the search closes the other needs
 pub foreign-spec : {M : Type 1} → statement M
 foreign-spec =
     tie.close
     (tie.spec
-    Inv-loop
-    μ-loop
-    blank-requires
-    first-place-requires
-    loop-holds
-    next-record-requires
-    enum-known-found
-    returns
-    enum-told
-    returns-2
-    enum-known-found-2
-    loop-less
-    loop-again)
+    Inv-loop μ-loop (λ c κs. search needs) (λ c κs. search needs) loop-holds next-record-requires (λ c. search needs) returns (λ c. search needs)
+    returns-2 (λ c. search needs) loop-less loop-again)

@@ -7,12 +7,12 @@ use Rattle.house.proofs.Whole.{header-ours, header-foreign, fails-judge
 use borrow.Author.Needs.{needs}
 use Rattle.house.proofs.judge.Statement.{statement}
 use Rattle.house.proofs.judge.Tie as tie
-use Rattle.house.proofs.judge.Reads as reads
 
 begun : (y : tie.After-first-place) → Begins (y .before .before .before .before .args .file .now) (y .before .before .before .before .args .old) 0 (y .first-place .result) (y .before .before .before .before .args .before .now)
 begun y =
     let p = y .before .before .before .before .pre in
-    begins-first _ _ (p .0) (header-ours _ _ (p .0) (sym (y .before .before .our-header .ensures) ∙ not-false _ (y .before .if1 .left))) _ _ (y .first-place .ensures) (p .1)
+    begins-first _ _ (p .0) (header-ours _ _ (p .0) (sym (y .before .before .our-header .ensures) ∙ not-false _ (y .before .if1 .left))) _ _
+    (y .first-place .ensures) (p .1)
 
 our-header-requires : tie.Need-our-header-requires
 our-header-requires c κs = c .before .pre .0
@@ -22,30 +22,18 @@ foreign-requires c κs = c .before .before .before .pre .0 .room .inside
 
 returns : tie.Need-returns
 returns c =
-    fails-judges (c .before .before .before .before .args .file .now) (c .before .before .before .before .args .old) (c .before .before .before .before .pre .0) (c .before .before .before .before .args .run) (c .foreign .result) _ _ (c .foreign .ensures) (header-foreign _ _ (c .before .before .before .before .pre .0) (sym (c .before .before .our-header .ensures) ∙ not-true _ (c .before .if1 .taken)))
-
-first-place-requires : tie.Need-first-place-requires
-first-place-requires c κs = search needs
+    let a = c .before .before .before .before .args in
+    let p = c .before .before .before .before .pre in
+    fails-judges (a .file .now) (a .old) (p .0) (a .run) (c .foreign .result) _ _ (c .foreign .ensures)
+    (header-foreign _ _ (p .0) (sym (c .before .before .our-header .ensures) ∙ not-true _ (c .before .if1 .taken)))
 
 judge-records-requires : tie.Need-judge-records-requires
 judge-records-requires c κs =
     begins-ready (begun (c .before)) (λ i. c .before .before .before .before .shared-slice-known .given i .fits)
 
-enum-known-one : tie.Need-enum-known-one
-enum-known-one c = search needs
-
-enum-told : tie.Need-enum-told
-enum-told c = search needs
-
 foreign-requires-2 : tie.Need-foreign-requires-2
 foreign-requires-2 c κs =
     c .before .before .before .before .before .before .before .before .pre .0 .room .inside
-
-enum-known-one-2 : tie.Need-enum-known-one-2
-enum-known-one-2 c = search needs
-
-enum-known-one-3 : tie.Need-enum-known-one-3
-enum-known-one-3 c = search needs
 
 judge-run-requires : tie.Need-judge-run-requires
 judge-run-requires c κs =
@@ -59,33 +47,24 @@ returns-2 c =
 
 returns-3 : tie.Need-returns-3
 returns-3 c =
+    let a = c .before .before .before .before .before .before .before .before .before .args in
     let T = rw (c .before .enum-told .given .1) at (c .before .before .before .judge-records .ensures) in
-    fails-judges (c .before .before .before .before .before .before .before .before .before .args .file .now) (c .before .before .before .before .before .before .before .before .before .args .old) (c .before .before .before .before .before .before .before .before .before .pre .0) (c .before .before .before .before .before .before .before .before .before .args .run) (c .foreign2 .result) _ _ (c .foreign2 .ensures) (begins-foreign (begun (c .before .before .before .before .before)) T)
+    fails-judges (a .file .now) (a .old) (c .before .before .before .before .before .before .before .before .before .pre .0) (a .run) (c .foreign2 .result) _ _
+    (c .foreign2 .ensures) (begins-foreign (begun (c .before .before .before .before .before)) T)
 
 returns-4 : tie.Need-returns-4
 returns-4 c =
     let T = rw (c .before .one2 .given .1) at (c .before .before .before .judge-records .ensures) in
-    first-short (begun (c .before .before .before .before .before)) (c .before .before .before .before .before .before .before .before .before .args .run) (T .0) (omega (arith, T .1))
+    first-short (begun (c .before .before .before .before .before)) (c .before .before .before .before .before .before .before .before .before .args .run)
+    (T .0) (omega (arith, T .1))
 
 returns-5 : tie.Need-returns-5
 returns-5 c = c .judge-run .ensures
 
+-- the search closes the other needs
 pub judge-spec : {M : Type 1} → statement M
 judge-spec =
     tie.close
     (tie.spec
-    our-header-requires
-    foreign-requires
-    returns
-    first-place-requires
-    judge-records-requires
-    enum-known-one
-    enum-told
-    foreign-requires-2
-    enum-known-one-2
-    enum-known-one-3
-    judge-run-requires
-    returns-2
-    returns-3
-    returns-4
-    returns-5)
+    our-header-requires foreign-requires returns (λ c κs. search needs) judge-records-requires (λ c. search needs) (λ c. search needs)
+    foreign-requires-2 (λ c. search needs) (λ c. search needs) judge-run-requires returns-2 returns-3 returns-4 returns-5)

@@ -1,9 +1,9 @@
+-- `house::judge_records` meets its contract. Assumes nothing.
 use native.Mathlib.Omega.{arith}
 use Prim.Native.Nat.{_-_}
 use mathlib.Core.Path.{_≡_, sym}
 use lib.ListN.{length}
 use Rattle.house.proofs.Walk.{Judging, judging-first, judging-ready, judging-same, judging-brief, judging-refused, judging-foreign, judging-end, judging-more, judging-passed}
--- `house::judge_records` meets its contract. Assumes nothing.
 use borrow.Author.Needs.{needs}
 use Rattle.house.proofs.judge_records.Statement.{statement}
 use Rattle.house.proofs.judge_records.Tie as tie
@@ -19,12 +19,6 @@ abbrev μ-loop : tie.MeasureT-loop
 on : (y : tie.After-enum-told Inv-loop μ-loop) → Judging (y .before .before .before .before .before .before .before .before .before .args .file .now) (y .before .before .before .before .before .before .before .before .before .args .from) (y .before .before .before .before .before .before .before .before .before .args .label .now) (y .before .before .before .before .before .before .before .before .before .args .limit) (y .before .before .before .before .before .loop .place) (y .before .before .take-brief .last .1 .1 .0) (y .before .before .before .before .before .loop .passed) (y .before .before .before .before .before .loop .spare .bytes) (y .before .before .before .before .before .loop .room)
 on y = judging-same (y .before .before .before .before .before .loop .inv) _ (rw (y .enum-told .given .1) at (y .before .before .take-brief .ensures))
 
-room-requires : tie.Need-room-requires Inv-loop μ-loop
-room-requires c κs = search needs
-
-blank-requires : tie.Need-blank-requires Inv-loop μ-loop
-blank-requires c κs = search needs
-
 loop-holds : tie.Need-loop-holds Inv-loop μ-loop
 loop-holds c =
     let w : length (c .blank .result .bytes) ≡ 4096 = search needs in
@@ -32,9 +26,6 @@ loop-holds c =
 
 take-brief-requires : tie.Need-take-brief-requires Inv-loop μ-loop
 take-brief-requires c κs = judging-ready (c .before .before .loop .inv)
-
-enum-known-brief : tie.Need-enum-known-brief Inv-loop μ-loop
-enum-known-brief c = search needs
 
 add-passed : tie.Need-add-passed Inv-loop μ-loop
 add-passed c =
@@ -46,10 +37,8 @@ loop-less c =
 
 loop-again : tie.Need-loop-again Inv-loop μ-loop
 loop-again c =
-    judging-brief (c .before .before .before .before .before .before .loop .inv) _ _ (c .before .before .before .before .before .loop-test .taken) (rw (c .before .brief .given .1) at (c .before .before .before .take-brief .ensures))
-
-enum-told : tie.Need-enum-told Inv-loop μ-loop
-enum-told c = search needs
+    judging-brief (c .before .before .before .before .before .before .loop .inv) _ _ (c .before .before .before .before .before .loop-test .taken)
+    (rw (c .before .brief .given .1) at (c .before .before .before .take-brief .ensures))
 
 slice-aggregate-take-record : tie.Need-slice-aggregate-take-record Inv-loop μ-loop
 slice-aggregate-take-record c =
@@ -60,32 +49,23 @@ take-record-requires c κs =
     let G = on (c .before .before .before) in
     (judging-ready G, G .spare-whole, G .room-whole)
 
-enum-known-taken : tie.Need-enum-known-taken Inv-loop μ-loop
-enum-known-taken c = search needs
-
 returns : tie.Need-returns Inv-loop μ-loop
 returns c =
     let T = rw (c .before .taken .given .1) at (c .before .before .before .before .take-record .ensures) in
     judging-refused (on (c .before .before .before .before .before .before .before .before)) _ _ (T .0)
-
-enum-told-2 : tie.Need-enum-told-2 Inv-loop μ-loop
-enum-told-2 c = search needs
 
 returns-2 : tie.Need-returns-2 Inv-loop μ-loop
 returns-2 c =
     let T = rw (c .enum-told2 .given .1) at (c .before .before .before .take-record .ensures) in
     judging-foreign (on (c .before .before .before .before .before .before .before)) (T .0)
 
-enum-told-3 : tie.Need-enum-told-3 Inv-loop μ-loop
-enum-told-3 c = search needs
-
 returns-3 : tie.Need-returns-3 Inv-loop μ-loop
 returns-3 c =
-    let T = rw (c .enum-told3 .given .1) at (c .before .before .before .take-record .ensures) in
-    (judging-end (on (c .before .before .before .before .before .before .before)) (T .0), c .before .before .before .before .before .before .before .before .before .before .before .loop-test .taken)
-
-enum-known-taken-2 : tie.Need-enum-known-taken-2 Inv-loop μ-loop
-enum-known-taken-2 c = search needs
+    let T = rw (c .enum-told3 .given .1) at (c .before .before .before .take-record .ensures) in (
+      judging-end (on (c .before .before .before .before .before .before .before))
+          (T .0),
+      c .before .before .before .before .before .before .before .before .before .before .before .loop-test .taken,
+    )
 
 add-passed-2 : tie.Need-add-passed-2 Inv-loop μ-loop
 add-passed-2 c =
@@ -98,37 +78,18 @@ loop-less-2 c =
 loop-again-2 : tie.Need-loop-again-2 Inv-loop μ-loop
 loop-again-2 c =
     let T = rw (c .before .taken2 .given .1) at (c .before .before .before .before .take-record .ensures) in
-    judging-more (on (c .before .before .before .before .before .before .before .before)) _ _ _ (c .before .before .before .before .before .before .before .before .before .before .before .before .loop-test .taken) (T .0) _ _ (T .1) (T .2)
+    judging-more (on (c .before .before .before .before .before .before .before .before)) _ _ _
+    (c .before .before .before .before .before .before .before .before .before .before .before .before .loop-test .taken) (T .0) _ _ (T .1) (T .2)
 
 returns-4 : tie.Need-returns-4 Inv-loop μ-loop
 returns-4 c =
     judging-passed (c .before .loop .inv) (c .loop-test .left)
 
+-- the search closes the other needs
 pub judge-records-spec : {M : Type 1} → statement M
 judge-records-spec =
     tie.close
     (tie.spec
-    Inv-loop
-    μ-loop
-    room-requires
-    blank-requires
-    loop-holds
-    take-brief-requires
-    enum-known-brief
-    add-passed
-    loop-less
-    loop-again
-    enum-told
-    slice-aggregate-take-record
-    take-record-requires
-    enum-known-taken
-    returns
-    enum-told-2
-    returns-2
-    enum-told-3
-    returns-3
-    enum-known-taken-2
-    add-passed-2
-    loop-less-2
-    loop-again-2
-    returns-4)
+    Inv-loop μ-loop (λ c κs. search needs) (λ c κs. search needs) loop-holds take-brief-requires (λ c. search needs) add-passed loop-less loop-again
+    (λ c. search needs) slice-aggregate-take-record take-record-requires (λ c. search needs) returns (λ c. search needs) returns-2
+    (λ c. search needs) returns-3 (λ c. search needs) add-passed-2 loop-less-2 loop-again-2 returns-4)

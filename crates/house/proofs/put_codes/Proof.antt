@@ -5,39 +5,22 @@ use lib.Seq.{length-take-le}
 use borrow.Author.Needs.{needs}
 use Rattle.house.proofs.put_codes.Statement.{statement}
 use Rattle.house.proofs.put_codes.Tie as tie
-use Rattle.house.proofs.put_codes.Reads as reads
 
 slice-aggregate-put-record : tie.Need-slice-aggregate-put-record
 slice-aggregate-put-record c =
-    let a = c .before .before .before .before .before .args in
     let p = c .before .before .before .before .before .pre in
-    sym (length-take-le (a .from .len) (a .last .now) (omega (arith, p .0, p .1)))
-
-slice-aggregate-put-record-2 : tie.Need-slice-aggregate-put-record-2
-slice-aggregate-put-record-2 c =
-    let a = c .before .before .before .before .before .before .args in
-    let p = c .before .before .before .before .before .before .pre in
-    sym (length-take-le (a .n) (a .name .now) (omega (arith, p .2, p .3)))
+    sym (length-take-le _ _ (omega (arith, p .0, p .1)))
 
 put-record-requires : tie.Need-put-record-requires
 put-record-requires c κs =
-    let a = c .before .before .before .before .before .before .args in
-    let p = c .before .before .before .before .before .before .pre in
+    let a = c .before .before .before .before .before .args in
+    let p = c .before .before .before .before .before .pre in
     let l = length-take-le (a .from .len) (a .last .now) (omega (arith, p .0, p .1)) in
-    (omega (arith, l, p .0), p .4)
-
-same-length : tie.Need-same-length
-same-length c = search needs
+    (omega (arith, l, p .0), p .2)
 
 returns : tie.Need-returns
 returns c = c .before .before .put-record .ensures
 
+-- the search closes the other needs
 pub put-codes-spec : {M : Type 1} → statement M
-put-codes-spec =
-    tie.close
-    (tie.spec
-    slice-aggregate-put-record
-    slice-aggregate-put-record-2
-    put-record-requires
-    same-length
-    returns)
+put-codes-spec = tie.close (tie.spec slice-aggregate-put-record put-record-requires (λ c. search needs) returns)

@@ -8,9 +8,6 @@ use borrow.Author.Needs.{needs}
 use Rattle.kind.proofs.new_high.Statement.{statement}
 use Rattle.kind.proofs.new_high.Tie as tie
 
-section-requires : tie.Need-section-requires
-section-requires c κs = search needs
-
 returns : tie.Need-returns
 unfolding newHighItem stationItem lineItem labelledBy pick
 returns c = (λ s. c .section .ensures .0 newPart s ∙ simp (lt-ltb _ _ (c .before .if1 .taken)), c .section .ensures .1)
@@ -39,7 +36,6 @@ returns-7 : tie.Need-returns-7
 unfolding newHighItem stationItem lineItem labelledBy pick
 returns-7 c = (λ s. simp (le-ltb _ _ (c .before .before .before .before .before .if1 .left), le-ltb _ _ (c .before .before .before .before .if2 .left), le-ltb _ _ (c .before .before .before .if3 .left), le-ltb _ _ (c .before .before .if4 .left), le-ltb _ _ (c .before .if5 .left), le-ltb _ _ (c .if6 .left)), tt)
 
+-- the search closes the other needs
 pub new-high-spec : {M : Type 1} → statement M
-new-high-spec =
-    tie.close
-    (tie.spec section-requires returns returns-2 returns-3 returns-4 returns-5 returns-6 returns-7)
+new-high-spec = tie.close (tie.spec (λ c κs. search needs) returns returns-2 returns-3 returns-4 returns-5 returns-6 returns-7)

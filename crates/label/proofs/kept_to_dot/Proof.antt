@@ -11,24 +11,13 @@ returns c =
     let a = c .before in
     (dot-short (a .args .bytes .now) (a .args .len) (a .args .n) (omega (arith, a .pre)) (c .if1 .taken), tt)
 
-nth-dot-requires : tie.Need-nth-dot-requires
-nth-dot-requires c κs = search needs
-
-enum-known-found : tie.Need-enum-known-found
-enum-known-found c = search needs
-
-add-t9 : tie.Need-add-t9
-add-t9 c =
-    omega (arith, rw (c .before .found .given .1) at (c .before .before .before .nth-dot .ensures .1))
-
-enum-told : tie.Need-enum-told
-enum-told c = search needs
-
 returns-2 : tie.Need-returns-2
 returns-2 c =
     let a = c .before .before .before .before .before in
-    let e = rw (c .before .found .given .1) at (c .before .before .before .nth-dot .ensures) in
-    (e .0 ∙ dot-from (a .args .bytes .now) (a .args .len) (a .args .n) (omega (arith, a .pre)) (c .before .before .before .before .if1 .left), omega (arith, e .1))
+    let e = rw (c .before .found .given .1) at (c .before .before .before .nth-dot .ensures) in (
+      e .0 ∙ dot-from (a .args .bytes .now) (a .args .len) (a .args .n) (omega (arith, a .pre)) (c .before .before .before .before .if1 .left),
+      omega (arith, e .1),
+    )
 
 returns-3 : tie.Need-returns-3
 returns-3 c =
@@ -36,7 +25,10 @@ returns-3 c =
     let e = rw (c .enum-told .given .1) at (c .before .before .nth-dot .ensures) in
     (e .0 ∙ dot-from (a .args .bytes .now) (a .args .len) (a .args .n) (omega (arith, a .pre)) (c .before .before .before .if1 .left), tt)
 
+-- the search closes the other needs
 pub kept-to-dot-spec : {M : Type 1} → statement M
 kept-to-dot-spec =
     tie.close
-    (tie.spec returns nth-dot-requires enum-known-found add-t9 enum-told returns-2 returns-3)
+    (tie.spec returns (λ c κs. search needs) (λ c. search needs)
+    (λ c. omega (arith, rw (c .before .found .given .1) at (c .before .before .before .nth-dot .ensures .1))) (λ c. search needs) returns-2
+    returns-3)

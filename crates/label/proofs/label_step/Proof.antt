@@ -45,4 +45,5 @@ returns-3 c =
 
 -- the search closes the other needs
 pub label-step-spec : {M : Type 1} → statement M
-label-step-spec = tie.close (tie.spec (λ c κs. search needs) (λ c. search needs) (λ c. search needs) sub-if1 returns append-requires (λ c. search needs) returns-2 returns-3)
+label-step-spec = tie.close (tie.spec (λ c κs. search needs) (λ c. search needs) (λ c. search needs) sub-if1 returns append-requires (λ c. search needs)
+    returns-2 returns-3)

@@ -16,26 +16,12 @@ loop-holds : tie.Need-loop-holds Inv-loop μ-loop
 loop-holds c =
     passed-start (c .args .bytes .now) (c .args .len) (c .args .n) (omega arith)
 
-sub-i : tie.Need-sub-i Inv-loop μ-loop
-sub-i c = search needs
-
-element-copy-out-if2 : tie.Need-element-copy-out-if2 Inv-loop μ-loop
-element-copy-out-if2 c = search needs
-
-add-dots : tie.Need-add-dots Inv-loop μ-loop
-add-dots c = search needs
-
-loop-less : tie.Need-loop-less Inv-loop μ-loop
-loop-less c = search needs
-
 loop-again : tie.Need-loop-again Inv-loop μ-loop
 loop-again c =
     let l = c .before .before .before .before in
     let x = l .before .args in
-    passed-dot (x .bytes .now) (x .len) (x .n) (omega (arith, l .before .pre)) (l .loop .i) (l .loop .dots) (omega arith) (l .loop .inv) (c .before .if2 .taken) (c .if3 .left)
-
-loop-less-2 : tie.Need-loop-less-2 Inv-loop μ-loop
-loop-less-2 c = search needs
+    passed-dot (x .bytes .now) (x .len) (x .n) (omega (arith, l .before .pre)) (l .loop .i) (l .loop .dots) (omega arith) (l .loop .inv)
+    (c .before .if2 .taken) (c .if3 .left)
 
 loop-again-2 : tie.Need-loop-again-2 Inv-loop μ-loop
 loop-again-2 c =
@@ -53,22 +39,15 @@ returns c =
 returns-2 : tie.Need-returns-2 Inv-loop μ-loop
 returns-2 c =
     let l = c .before .before .before .before in
-    let x = l .before .args in
-    (passed-found (x .bytes .now) (x .len) (x .n) (omega (arith, l .before .pre)) (l .loop .i) (l .loop .dots) (omega arith) (l .loop .inv) (c .before .if2 .taken) (c .if3 .taken), omega arith)
+    let x = l .before .args in (
+      passed-found (x .bytes .now) (x .len) (x .n) (omega (arith, l .before .pre)) (l .loop .i) (l .loop .dots) (omega arith) (l .loop .inv)
+          (c .before .if2 .taken) (c .if3 .taken),
+      omega arith,
+    )
 
+-- the search closes the other needs
 pub nth-dot-spec : {M : Type 1} → statement M
 nth-dot-spec =
     tie.close
-    (tie.spec
-    Inv-loop
-    μ-loop
-    loop-holds
-    sub-i
-    element-copy-out-if2
-    add-dots
-    loop-less
-    loop-again
-    loop-less-2
-    loop-again-2
-    returns
-    returns-2)
+    (tie.spec Inv-loop μ-loop loop-holds (λ c. search needs) (λ c. search needs) (λ c. search needs) (λ c. search needs) loop-again
+    (λ c. search needs) loop-again-2 returns returns-2)

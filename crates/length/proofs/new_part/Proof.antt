@@ -14,15 +14,6 @@ returns : tie.Need-returns
 unfolding newPart pick
 returns c = (search cases, tt)
 
-shared-slice-read-index : tie.Need-shared-slice-read-index
-shared-slice-read-index c = search needs
-
-index-requires : tie.Need-index-requires
-index-requires c κs = search needs
-
-long-part-requires : tie.Need-long-part-requires
-long-part-requires c κs = search needs
-
 returns-2 : tie.Need-returns-2
 unfolding newPart pick
 returns-2 c =
@@ -36,13 +27,6 @@ returns-3 c =
     let e = c .before .index .ensures .0 in
     (search (cases, ← e), (omega arith, omega arith))
 
+-- the search closes the other needs
 pub new-part-spec : {M : Type 1} → statement M
-new-part-spec =
-    tie.close
-    (tie.spec
-    returns
-    shared-slice-read-index
-    index-requires
-    long-part-requires
-    returns-2
-    returns-3)
+new-part-spec = tie.close (tie.spec returns (λ c. search needs) (λ c κs. search needs) (λ c κs. search needs) returns-2 returns-3)

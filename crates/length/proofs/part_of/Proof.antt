@@ -15,17 +15,11 @@ unfolding partAt pick
 returns c =
     (search (cases, c .if1 .taken), (omega arith, omega arith))
 
-old-part-requires : tie.Need-old-part-requires
-old-part-requires c κs = search needs
-
 returns-2 : tie.Need-returns-2
 unfolding partAt pick
 returns-2 c =
     let q = c .old-part .ensures in
     (q .0 ∙ search (cases, c .before .before .if1 .left), q .1)
-
-new-part-requires : tie.Need-new-part-requires
-new-part-requires c κs = search needs
 
 returns-3 : tie.Need-returns-3
 unfolding partAt pick
@@ -33,5 +27,6 @@ returns-3 c =
     let q = c .new-part .ensures in
     (q .0 ∙ search (cases, c .before .before .if1 .left), q .1)
 
+-- the search closes the other needs
 pub part-of-spec : {M : Type 1} → statement M
-part-of-spec = tie.close (tie.spec returns old-part-requires returns-2 new-part-requires returns-3)
+part-of-spec = tie.close (tie.spec returns (λ c κs. search needs) returns-2 (λ c κs. search needs) returns-3)

@@ -37,7 +37,8 @@ decimal-same-length t c = put-length (c .before .before .put .ensures)
 decimal-returns : (t : ℕ) → decimal-lts.Need-returns (put-reads.Asked, put-reads.Learnt, decimal-below t, decimal.Post) (decimal-at t) decimal.Post
 decimal-returns t c = put-as (c .before .before .put .ensures) (omega arith) (sym (decimal-low _ (c .before .before .before .before .if1 .taken)))
 
-decimal-decimal-requires : (t : ℕ) → decimal-lts.Need-decimal-requires (put-reads.Asked, put-reads.Learnt, decimal-below t, decimal.Post) (decimal-at t) decimal.Post
+decimal-decimal-requires : (t : ℕ) → decimal-lts.Need-decimal-requires (put-reads.Asked, put-reads.Learnt, decimal-below t, decimal.Post) (decimal-at t)
+    decimal.Post
 decimal-decimal-requires t c κs = (omega (arith, c .before .before .before .pre .0), c .before .before .before .pre .1)
 
 decimal-add-put-2 : (t : ℕ) → decimal-lts.Need-add-put-2 (put-reads.Asked, put-reads.Learnt, decimal-below t, decimal.Post) (decimal-at t) decimal.Post
@@ -46,8 +47,13 @@ decimal-add-put-2 t c = omega arith
 decimal-cast-put-2 : (t : ℕ) → decimal-lts.Need-cast-put-2 (put-reads.Asked, put-reads.Learnt, decimal-below t, decimal.Post) (decimal-at t) decimal.Post
 decimal-cast-put-2 t c = omega arith
 
-decimal-put-requires-2 : (t : ℕ) → decimal-lts.Need-put-requires-2 (put-reads.Asked, put-reads.Learnt, decimal-below t, decimal.Post) (decimal-at t) decimal.Post
-decimal-put-requires-2 t c κs = omega (arith, c .before .before .before .decimal .ensures .few, c .before .before .before .before .before .before .before .pre .1)
+decimal-put-requires-2 : (t : ℕ) → decimal-lts.Need-put-requires-2 (put-reads.Asked, put-reads.Learnt, decimal-below t, decimal.Post) (decimal-at t)
+    decimal.Post
+decimal-put-requires-2 t c κs = omega (
+  arith,
+  c .before .before .before .decimal .ensures .few,
+  c .before .before .before .before .before .before .before .pre .1,
+)
 
 decimal-same-length-2 : (t : ℕ) → decimal-lts.Need-same-length-2 (put-reads.Asked, put-reads.Learnt, decimal-below t, decimal.Post) (decimal-at t) decimal.Post
 decimal-same-length-2 t c = put-length (put-then (c .before .before .before .before .before .before .decimal .ensures) (c .before .before .put2 .ensures))
@@ -55,7 +61,8 @@ decimal-same-length-2 t c = put-length (put-then (c .before .before .before .bef
 decimal-returns-2 : (t : ℕ) → decimal-lts.Need-returns-2 (put-reads.Asked, put-reads.Learnt, decimal-below t, decimal.Post) (decimal-at t) decimal.Post
 decimal-returns-2 t c =
     let s = c .before .before .before .before .before .before .before .before .before .before in
-    put-within {m = 21} (put-as (put-then (c .before .before .before .before .before .before .decimal .ensures) (c .before .before .put2 .ensures)) (omega arith) (sym (decimal-high _ (c .before .before .before .before .before .before .before .before .if1 .left))))
+    put-within {m = 21} (put-as (put-then (c .before .before .before .before .before .before .decimal .ensures) (c .before .before .put2 .ensures))
+    (omega arith) (sym (decimal-high _ (c .before .before .before .before .before .before .before .before .if1 .left))))
     (decimal-few (s .args .n) (omega arith))
 
 pub +decimal-spec : {M : Type 1} → statement M

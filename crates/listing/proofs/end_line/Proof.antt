@@ -7,24 +7,11 @@ use borrow.Author.Needs.{needs}
 use Rattle.listing.proofs.end_line.Statement.{statement}
 use Rattle.listing.proofs.end_line.Tie as tie
 
-slice-aggregate-word : tie.Need-slice-aggregate-word
-slice-aggregate-word c = search needs
-
-word-requires : tie.Need-word-requires
-word-requires c κs = search needs
-
-last-number-requires : tie.Need-last-number-requires
-last-number-requires c κs = search needs
-
-same-length : tie.Need-same-length
-same-length c = search needs
-
 returns : tie.Need-returns
 unfolding endWord
 returns c =
     put-as (put-then (c .before .before .before .before .before .before .word .ensures) (c .before .before .last-number .ensures)) (omega arith) (end-parts _)
 
+-- the search closes the other needs
 pub end-line-spec : {M : Type 1} → statement M
-end-line-spec =
-    tie.close
-    (tie.spec slice-aggregate-word word-requires last-number-requires same-length returns)
+end-line-spec = tie.close (tie.spec (λ c. search needs) (λ c κs. search needs) (λ c κs. search needs) (λ c. search needs) returns)

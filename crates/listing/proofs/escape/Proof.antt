@@ -22,23 +22,13 @@ loop-holds : tie.Need-loop-holds Inv-loop μ-loop
 unfolding escaped
 loop-holds c = (omega arith, put-none _ _)
 
-shared-slice-read-text-byte : tie.Need-shared-slice-read-text-byte Inv-loop μ-loop
-shared-slice-read-text-byte c = search needs
-
-text-byte-requires : tie.Need-text-byte-requires Inv-loop μ-loop
-text-byte-requires c κs =
-    omega (arith, c .before .before .before .loop .inv .1 .few, c .before .before .before .before .before .before .pre)
-
-add-i : tie.Need-add-i Inv-loop μ-loop
-add-i c = omega arith
-
-loop-less : tie.Need-loop-less Inv-loop μ-loop
-loop-less c = omega arith
-
 loop-again : tie.Need-loop-again Inv-loop μ-loop
 loop-again c =
-    let l = c .before .before .before .before .before .before .loop in
-    (omega arith, escape-next (c .before .before .before .before .before .before .before .before .before .args .s .now) (omega arith) (l .inv .1) (c .before .before .text-byte .ensures))
+    let l = c .before .before .before .before .before .before .loop in (
+      omega arith,
+      escape-next (c .before .before .before .before .before .before .before .before .before .args .s .now) (omega arith) (l .inv .1)
+          (c .before .before .text-byte .ensures),
+    )
 
 same-length : tie.Need-same-length Inv-loop μ-loop
 same-length c = put-length (c .before .loop .inv .1)
@@ -48,17 +38,10 @@ returns c =
     let e : c .before .loop .i ≡ length (c .before .before .before .before .args .s .now) = omega arith in
     put-as (c .before .loop .inv .1) (omega arith) (rw (e, take-length))
 
+-- the search closes the other needs
 pub escape-spec : {M : Type 1} → statement M
 escape-spec =
     tie.close
-    (tie.spec
-    Inv-loop
-    μ-loop
-    loop-holds
-    shared-slice-read-text-byte
-    text-byte-requires
-    add-i
-    loop-less
-    loop-again
-    same-length
-    returns)
+    (tie.spec Inv-loop μ-loop loop-holds (λ c. search needs)
+    (λ c κs. omega (arith, c .before .before .before .loop .inv .1 .few, c .before .before .before .before .before .before .pre))
+    (λ c. omega arith) (λ c. omega arith) loop-again same-length returns)

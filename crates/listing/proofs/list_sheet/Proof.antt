@@ -6,64 +6,42 @@ use borrow.Author.Needs.{needs}
 use Rattle.listing.proofs.list_sheet.Statement.{statement}
 use Rattle.listing.proofs.list_sheet.Tie as tie
 
-list-too-long-requires : tie.Need-list-too-long-requires
-list-too-long-requires c κs = search needs
-
-same-length : tie.Need-same-length
-same-length c = search needs
-
 returns : tie.Need-returns
 returns c =
-    let W = c .before .before .list-too-long .ensures in
-    (rw (← listing-too-long (c .before .before .before .before .before .before .before .args .version) (c .before .before .before .before .before .before .before .args .sheet .now) (c .before .before .before .before .if1 .taken)) (W .0), omega (arith, W .1))
-
-sheet-verdict-requires : tie.Need-sheet-verdict-requires
-sheet-verdict-requires c κs = search needs
-
-enum-told : tie.Need-enum-told
-enum-told c = search needs
+    let W = c .before .before .list-too-long .ensures in (
+      rw (← listing-too-long (c .before .before .before .before .before .before .before .args .version)
+          (c .before .before .before .before .before .before .before .args .sheet .now) (c .before .before .before .before .if1 .taken)) (W .0),
+      omega (arith, W .1),
+    )
 
 list-lines-requires : tie.Need-list-lines-requires
 list-lines-requires c κs =
     (c .before .before .before .before .if1 .left, sym (c .before .before .before .sheet-verdict .ensures) ∙ c .before .enum-told .given .1)
 
-enum-known-verdict : tie.Need-enum-known-verdict
-enum-known-verdict c = search needs
-
-list-refusal-requires : tie.Need-list-refusal-requires
-list-refusal-requires c κs = search needs
-
-same-length-2 : tie.Need-same-length-2
-same-length-2 c = search needs
-
 returns-2 : tie.Need-returns-2
 returns-2 c =
     let W = c .before .before .list-lines .ensures in
-    let e = sym (c .before .before .before .before .before .before .sheet-verdict .ensures) ∙ c .before .before .before .before .enum-told .given .1 in
-    (rw (← listing-good (c .before .before .before .before .before .before .before .before .before .before .args .version) (c .before .before .before .before .before .before .before .before .before .before .args .sheet .now) (c .before .before .before .before .before .before .before .if1 .left) e) (W .0), W .1)
-
-same-length-3 : tie.Need-same-length-3
-same-length-3 c = search needs
+    let e = sym (c .before .before .before .before .before .before .sheet-verdict .ensures) ∙ c .before .before .before .before .enum-told .given .1 in (
+      rw (← listing-good (c .before .before .before .before .before .before .before .before .before .before .args .version)
+          (c .before .before .before .before .before .before .before .before .before .before .args .sheet .now)
+          (c .before .before .before .before .before .before .before .if1 .left) e) (W .0),
+      W .1,
+    )
 
 returns-3 : tie.Need-returns-3
 returns-3 c =
     let W = c .before .before .list-refusal .ensures in
-    let e = sym (c .before .before .before .before .before .before .before .sheet-verdict .ensures) ∙ c .before .before .before .before .before .verdict .given .1 in
-    (rw (← listing-refused (c .before .before .before .before .before .before .before .before .before .before .before .args .version) (c .before .before .before .before .before .before .before .before .before .before .before .args .sheet .now) (c .before .before .before .before .before .before .before .before .if1 .left) e) (W .0), omega (arith, W .1))
+    let e = sym (c .before .before .before .before .before .before .before .sheet-verdict .ensures)
+    ∙ c .before .before .before .before .before .verdict .given .1 in (
+      rw (← listing-refused (c .before .before .before .before .before .before .before .before .before .before .before .args .version)
+          (c .before .before .before .before .before .before .before .before .before .before .before .args .sheet .now)
+          (c .before .before .before .before .before .before .before .before .if1 .left) e) (W .0),
+      omega (arith, W .1),
+    )
 
+-- the search closes the other needs
 pub list-sheet-spec : {M : Type 1} → statement M
 list-sheet-spec =
     tie.close
-    (tie.spec
-    list-too-long-requires
-    same-length
-    returns
-    sheet-verdict-requires
-    enum-told
-    list-lines-requires
-    enum-known-verdict
-    list-refusal-requires
-    same-length-2
-    returns-2
-    same-length-3
-    returns-3)
+    (tie.spec (λ c κs. search needs) (λ c. search needs) returns (λ c κs. search needs) (λ c. search needs) list-lines-requires
+    (λ c. search needs) (λ c κs. search needs) (λ c. search needs) returns-2 (λ c. search needs) returns-3)

@@ -7,24 +7,13 @@ use borrow.Author.Needs.{needs}
 use Rattle.listing.proofs.point.Statement.{statement}
 use Rattle.listing.proofs.point.Tie as tie
 
-signed-number-requires : tie.Need-signed-number-requires
-signed-number-requires c κs = search needs
-
-signed-number-requires-2 : tie.Need-signed-number-requires-2
-signed-number-requires-2 c κs = search needs
-
-signed-number-requires-3 : tie.Need-signed-number-requires-3
-signed-number-requires-3 c κs = search needs
-
-same-length : tie.Need-same-length
-same-length c = search needs
-
 returns : tie.Need-returns
 unfolding spaced
 returns c =
-    put-as (put-then (put-then (c .before .before .before .before .before .before .before .before .before .before .signed-number .ensures) (c .before .before .before .before .before .before .signed-number2 .ensures)) (c .before .before .signed-number3 .ensures)) (omega arith)
+    put-as (put-then (put-then (c .before .before .before .before .before .before .before .before .before .before .signed-number .ensures)
+    (c .before .before .before .before .before .before .signed-number2 .ensures)) (c .before .before .signed-number3 .ensures)) (omega arith)
     (simp (append-assoc, append-nil))
 
+-- the search closes the other needs
 pub point-spec : {M : Type 1} → statement M
-point-spec =
-    tie.close (tie.spec signed-number-requires signed-number-requires-2 signed-number-requires-3 same-length returns)
+point-spec = tie.close (tie.spec (λ c κs. search needs) (λ c κs. search needs) (λ c κs. search needs) (λ c. search needs) returns)

@@ -4,24 +4,8 @@ use borrow.Author.Needs.{needs}
 use Rattle.listing.proofs.put.Statement.{statement}
 use Rattle.listing.proofs.put.Tie as tie
 
-add-result : tie.Need-add-result
-add-result c = search needs
-
-returns : tie.Need-returns
-returns c = put-past _ _ _ (c .if1 .taken)
-
-slice-write-out : tie.Need-slice-write-out
-slice-write-out c = search needs
-
-add-result-2 : tie.Need-add-result-2
-add-result-2 c = search needs
-
-same-length : tie.Need-same-length
-same-length c = search needs
-
-returns-2 : tie.Need-returns-2
-returns-2 c = put-here _ _ _
-
 pub put-spec : {M : Type 1} → statement M
 put-spec =
-    tie.close (tie.spec add-result returns slice-write-out add-result-2 same-length returns-2)
+    tie.close
+    (tie.spec (λ c. search needs) (λ c. put-past _ _ _ (c .if1 .taken)) (λ c. search needs) (λ c. search needs) (λ c. search needs)
+    (λ c. put-here _ _ _))

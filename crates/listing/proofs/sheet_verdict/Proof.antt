@@ -6,18 +6,6 @@ use borrow.Author.Needs.{needs}
 use Rattle.listing.proofs.sheet_verdict.Statement.{statement}
 use Rattle.listing.proofs.sheet_verdict.Tie as tie
 
-version-of-requires : tie.Need-version-of-requires
-version-of-requires c κs = search needs
-
-read-front-requires : tie.Need-read-front-requires
-read-front-requires c κs = search needs
-
-enum-told : tie.Need-enum-told
-enum-told c = search needs
-
-enum-known-front : tie.Need-enum-known-front
-enum-known-front c = search needs
-
 add-records-verdict : tie.Need-add-records-verdict
 add-records-verdict c =
     let F = rw (c .before .front .given .1) at (c .before .before .before .read-front .ensures) in
@@ -41,18 +29,12 @@ returns c =
 returns-2 : tie.Need-returns-2
 returns-2 c =
     let F = rw (c .before .before .front .given .1) at (c .before .before .before .before .read-front .ensures) in
-    c .records-verdict .ensures ∙ verdict-some _ (c .before .before .before .before .before .before .before .args .sheet .now) (c .before .before .before .before .before .version-of .ensures) F
+    c .records-verdict .ensures ∙ verdict-some _ (c .before .before .before .before .before .before .before .args .sheet .now)
+    (c .before .before .before .before .before .version-of .ensures) F
 
+-- the search closes the other needs
 pub sheet-verdict-spec : {M : Type 1} → statement M
 sheet-verdict-spec =
     tie.close
-    (tie.spec
-    version-of-requires
-    read-front-requires
-    enum-told
-    enum-known-front
-    add-records-verdict
-    add-records-verdict-2
-    records-verdict-requires
-    returns
-    returns-2)
+    (tie.spec (λ c κs. search needs) (λ c κs. search needs) (λ c. search needs) (λ c. search needs) add-records-verdict
+    add-records-verdict-2 records-verdict-requires returns returns-2)

@@ -19,23 +19,13 @@ abbrev μ-loop : tie.MeasureT-loop
 loop-holds : tie.Need-loop-holds Inv-loop μ-loop
 loop-holds c = (omega arith, put-none _ _)
 
-shared-slice-read-put : tie.Need-shared-slice-read-put Inv-loop μ-loop
-shared-slice-read-put c = search needs
-
-put-requires : tie.Need-put-requires Inv-loop μ-loop
-put-requires c κs =
-    omega (arith, c .before .before .before .loop .inv .1 .few)
-
-add-i : tie.Need-add-i Inv-loop μ-loop
-add-i c = omega arith
-
-loop-less : tie.Need-loop-less Inv-loop μ-loop
-loop-less c = omega arith
-
 loop-again : tie.Need-loop-again Inv-loop μ-loop
 loop-again c =
-    let l = c .before .before .before .before .before .before .loop in
-    (omega arith, put-next (c .before .before .before .before .before .before .before .before .before .args .s .now) (omega arith) (l .inv .1) (c .before .before .put .ensures))
+    let l = c .before .before .before .before .before .before .loop in (
+      omega arith,
+      put-next (c .before .before .before .before .before .before .before .before .before .args .s .now) (omega arith) (l .inv .1)
+          (c .before .before .put .ensures),
+    )
 
 same-length : tie.Need-same-length Inv-loop μ-loop
 same-length c = put-length (c .before .loop .inv .1)
@@ -45,17 +35,9 @@ returns c =
     let e : c .before .loop .i ≡ length (c .before .before .before .before .args .s .now) = omega arith in
     put-as (c .before .loop .inv .1) (omega (arith, c .before .before .before .before .pre .1)) (rw (e, take-length))
 
+-- the search closes the other needs
 pub word-spec : {M : Type 1} → statement M
 word-spec =
     tie.close
-    (tie.spec
-    Inv-loop
-    μ-loop
-    loop-holds
-    shared-slice-read-put
-    put-requires
-    add-i
-    loop-less
-    loop-again
-    same-length
-    returns)
+    (tie.spec Inv-loop μ-loop loop-holds (λ c. search needs) (λ c κs. omega (arith, c .before .before .before .loop .inv .1 .few))
+    (λ c. omega arith) (λ c. omega arith) loop-again same-length returns)

@@ -2,7 +2,7 @@
 use native.Mathlib.Omega.{arith}
 use mathlib.Core.Path.{refl}
 use Rattle.item.proofs.Commonest.{trim-told}
-use Rattle.read.proofs.Quickly.{leg-laid-as, station-laid-as, section-laid-as}
+use Rattle.laying.proofs.Quickly.{leg-laid-as, station-laid-as, section-laid-as}
 use borrow.Author.Needs.{needs}
 use Rattle.read.proofs.lay_short.Statement.{statement}
 use Rattle.read.proofs.lay_short.Tie as tie

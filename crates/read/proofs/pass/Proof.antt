@@ -83,7 +83,7 @@ loop-again : tie.Need-loop-again Inv-loop μ-loop
 loop-again c =
     let G = c .before .before .before .before .before .before .before .before .before .before .loop .inv in
     let F = rw (c .before .before .quick .given .1) at (c .before .before .before .before .before .before .lay-short .ensures) in
-    rw (c .with-position .ensures) (going-laid _ _ _ _ _ _ _ _ _ _ _ G _ _ _ _ _ _ F)
+    rw (c .with-position .ensures) (going-laid _ _ _ _ _ _ _ _ _ _ _ G _ _ _ _ _ _ _ _ F)
 
 enum-known-quick-2 : tie.Need-enum-known-quick-2 Inv-loop μ-loop
 enum-known-quick-2 c = search needs
@@ -117,7 +117,7 @@ loop-again-2 : tie.Need-loop-again-2 Inv-loop μ-loop
 loop-again-2 c =
     let G = c .before .before .before .before .before .before .before .before .before .loop .inv in
     let F = rw (c .before .quick2 .given .1) at (c .before .before .before .before .before .lay-short .ensures) in
-    going-laid _ _ _ _ _ _ _ _ _ _ _ G _ _ _ _ _ _ F
+    going-laid _ _ _ _ _ _ _ _ _ _ _ G _ _ _ _ _ _ _ _ F
 
 enum-known-quick-3 : tie.Need-enum-known-quick-3 Inv-loop μ-loop
 enum-known-quick-3 c = search needs

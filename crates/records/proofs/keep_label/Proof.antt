@@ -4,27 +4,6 @@ use mathlib.Core.Path.{refl}
 use Rattle.records.proofs.keep_label.Statement.{statement}
 use Rattle.records.proofs.keep_label.Tie as tie
 
-enum-told : tie.Need-enum-told
-enum-told c = search needs
-
-swap-label-requires : tie.Need-swap-label-requires
-swap-label-requires c κs = search needs
-
-enum-told-2 : tie.Need-enum-told-2
-enum-told-2 c = search needs
-
-swap-label-requires-2 : tie.Need-swap-label-requires-2
-swap-label-requires-2 c κs = search needs
-
-enum-told-3 : tie.Need-enum-told-3
-enum-told-3 c = search needs
-
-swap-label-requires-3 : tie.Need-swap-label-requires-3
-swap-label-requires-3 c κs = search needs
-
-enum-told-4 : tie.Need-enum-told-4
-enum-told-4 c = search needs
-
 returns : tie.Need-returns
 returns c =
     rw (c .before .before .enum-told .given .1) (c .swap-label .ensures)
@@ -39,20 +18,13 @@ returns-3 c =
 
 returns-4 : tie.Need-returns-4
 returns-4 c =
-    rw (c .enum-told4 .given .1) (record { label-is = refl; label-short = c .before .before .before .pre .0; label-whole = c .before .before .before .pre .1 })
+    let p = c .before .before .before .pre in
+    rw (c .enum-told4 .given .1) (record { label-is = refl; label-short = p .0; label-whole = p .1 })
 
+-- the search closes the other needs
 pub keep-label-spec : {M : Type 1} → statement M
 keep-label-spec =
     tie.close
     (tie.spec
-    enum-told
-    swap-label-requires
-    enum-told-2
-    swap-label-requires-2
-    enum-told-3
-    swap-label-requires-3
-    enum-told-4
-    returns
-    returns-2
-    returns-3
-    returns-4)
+    (λ c. search needs) (λ c κs. search needs) (λ c. search needs) (λ c κs. search needs) (λ c. search needs) (λ c κs. search needs)
+    (λ c. search needs) returns returns-2 returns-3 returns-4)

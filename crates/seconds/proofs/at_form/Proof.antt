@@ -24,8 +24,13 @@ returns-3 c = simp (ne-eqb _ _ (c .if3 .taken))
 returns-4 : tie.Need-returns-4
 unfolding atForm numberFrom decimal
 returns-4 c =
-    simp (eq-eqb _ _ (c .before .before .if3 .left), le-leb _ _ (c .before .before .before .before .before .if1 .left), le-leb _ _ (c .before .before .before .before .if2 .left)) (simp part-to-end at (c .number .ensures))
+    simp (
+      eq-eqb _ _ (c .before .before .if3 .left),
+      le-leb _ _ (c .before .before .before .before .before .if1 .left),
+      le-leb _ _ (c .before .before .before .before .if2 .left),
+    ) (simp part-to-end at (c .number .ensures))
 
 -- the search closes the other needs
 pub at-form-spec : {M : Type 1} → statement M
-at-form-spec = tie.close (tie.spec returns returns-2 (λ c. search needs) returns-3 (λ c. search needs) (λ c. search needs) (λ c. search needs) (λ c κs. search needs) returns-4)
+at-form-spec = tie.close (tie.spec returns returns-2 (λ c. search needs) returns-3 (λ c. search needs) (λ c. search needs) (λ c. search needs)
+    (λ c κs. search needs) returns-4)

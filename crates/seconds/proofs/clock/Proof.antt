@@ -60,18 +60,6 @@ returns-6 c =
     let s = second (c .before .before .before .before) in
     simp (h .digits, m .digits, s .digits, le-leb _ 23 (rw (h .is) at (c .before .before .if1 .left)), le-leb _ 59 (rw (m .is) at (c .before .if2 .left)), lt-leb _ 59 (rw (s .is) at (c .if3 .taken)))
 
-mul-t19 : tie.Need-mul-t19
-mul-t19 c = omega (arith, c .before .before .if1 .left, c .before .if2 .left, c .if3 .left)
-
-mul-t20 : tie.Need-mul-t20
-mul-t20 c = omega (arith, c .before .before .if1 .left, c .before .if2 .left, c .if3 .left)
-
-add-t21 : tie.Need-add-t21
-add-t21 c = omega (arith, c .before .before .if1 .left, c .before .if2 .left, c .if3 .left)
-
-add-t22 : tie.Need-add-t22
-add-t22 c = omega (arith, c .before .before .if1 .left, c .before .if2 .left, c .if3 .left)
-
 returns-7 : tie.Need-returns-7
 unfolding clockOf textClock pick
 returns-7 c =
@@ -82,4 +70,12 @@ returns-7 c =
 
 -- the search closes the other needs
 pub clock-spec : {M : Type 1} → statement M
-clock-spec = tie.close (tie.spec (λ c. search needs) (λ c. search needs) (λ c. search needs) (λ c κs. search needs) (λ c. search needs) (λ c. search needs) returns (λ c. search needs) (λ c. search needs) (λ c. search needs) (λ c κs. search needs) (λ c. search needs) (λ c. search needs) returns-2 (λ c. search needs) (λ c. search needs) (λ c. search needs) (λ c κs. search needs) (λ c. search needs) (λ c. search needs) returns-3 returns-4 returns-5 returns-6 mul-t19 mul-t20 add-t21 add-t22 returns-7)
+clock-spec =
+    tie.close
+    (tie.spec (λ c. search needs) (λ c. search needs) (λ c. search needs) (λ c κs. search needs) (λ c. search needs) (λ c. search needs)
+    returns (λ c. search needs) (λ c. search needs) (λ c. search needs) (λ c κs. search needs) (λ c. search needs) (λ c. search needs)
+    returns-2 (λ c. search needs) (λ c. search needs) (λ c. search needs) (λ c κs. search needs) (λ c. search needs) (λ c. search needs)
+    returns-3 returns-4 returns-5 returns-6 (λ c. omega (arith, c .before .before .if1 .left, c .before .if2 .left, c .if3 .left))
+    (λ c. omega (arith, c .before .before .if1 .left, c .before .if2 .left, c .if3 .left))
+    (λ c. omega (arith, c .before .before .if1 .left, c .before .if2 .left, c .if3 .left))
+    (λ c. omega (arith, c .before .before .if1 .left, c .before .if2 .left, c .if3 .left)) returns-7)

@@ -16,26 +16,8 @@ months-at c =
     let x = c .before .before .before in
     omega (arith, months-short _ (x .args .month) (c .before .before .leap-day .ensures .1) (x .pre .2) (x .pre .3), c .days-before .ensures)
 
-leap-day-requires : tie.Need-leap-day-requires
-leap-day-requires c κs = search needs
-
-sub-days-of-years : tie.Need-sub-days-of-years
-sub-days-of-years c = search needs
-
-days-of-years-requires : tie.Need-days-of-years-requires
-days-of-years-requires c κs = omega arith
-
 days-before-requires : tie.Need-days-before-requires
 days-before-requires c κs = (omega arith, omega arith, omega arith)
-
-sub-result : tie.Need-sub-result
-sub-result c = search needs
-
-add-result : tie.Need-add-result
-add-result c = omega (arith, years-at (c .before), months-at c)
-
-add-result-2 : tie.Need-add-result-2
-add-result-2 c = omega (arith, years-at (c .before), months-at c)
 
 returns : tie.Need-returns
 unfolding dayNumber
@@ -44,5 +26,9 @@ returns c =
     let m = months-at c in
     rw (c .before .days-of-years .ensures, c .days-before .ensures, c .before .before .leap-day .ensures .0)
 
+-- the search closes the other needs
 pub day-number-spec : {M : Type 1} → statement M
-day-number-spec = tie.close (tie.spec leap-day-requires sub-days-of-years days-of-years-requires days-before-requires sub-result add-result add-result-2 returns)
+day-number-spec =
+    tie.close
+    (tie.spec (λ c κs. search needs) (λ c. search needs) (λ c κs. omega arith) days-before-requires (λ c. search needs)
+    (λ c. omega (arith, years-at (c .before), months-at c)) (λ c. omega (arith, years-at (c .before), months-at c)) returns)

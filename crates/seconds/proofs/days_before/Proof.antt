@@ -16,4 +16,5 @@ returns-2 c =
 
 -- the search closes the other needs
 pub days-before-spec : {M : Type 1} → statement M
-days-before-spec = tie.close (tie.spec (λ c. search needs) (λ c. search needs) returns (λ c. search needs) (λ c. search needs) (λ c. search needs) (λ c. search needs) returns-2)
+days-before-spec = tie.close (tie.spec (λ c. search needs) (λ c. search needs) returns (λ c. search needs) (λ c. search needs) (λ c. search needs)
+    (λ c. search needs) returns-2)

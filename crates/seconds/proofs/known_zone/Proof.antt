@@ -6,17 +6,12 @@ use borrow.Author.Needs.{needs}
 use Rattle.seconds.proofs.known_zone.Statement.{statement}
 use Rattle.seconds.proofs.known_zone.Tie as tie
 
-returns : tie.Need-returns
-returns c = other-length _ (λ e. omega (arith, c .if1 .taken))
-
-returns-2 : tie.Need-returns-2
-returns-2 c =
-    sym (zone-is _ (omega (arith, c .before .before .before .before .before .if1 .left)) ∙ simp (← c .before .same-zone .ensures, c .if2 .taken))
-
-returns-3 : tie.Need-returns-3
-returns-3 c =
-    sym (zone-is _ (omega (arith, c .before .before .before .before .before .before .if1 .left)) ∙ simp (← c .before .before .same-zone .ensures, c .before .if2 .left, ← c .same-zone2 .ensures))
-
--- the search closes the other needs
 pub known-zone-spec : {M : Type 1} → statement M
-known-zone-spec = tie.close (tie.spec returns (λ c. search needs) (λ c. search needs) (λ c. search needs) (λ c κs. search needs) returns-2 (λ c κs. search needs) returns-3)
+known-zone-spec =
+    tie.close
+    (tie.spec (λ c. other-length _ (λ e. omega (arith, c .if1 .taken))) (λ c. search needs) (λ c. search needs) (λ c. search needs)
+    (λ c κs. search needs)
+    (λ c. sym (zone-is _ (omega (arith, c .before .before .before .before .before .if1 .left)) ∙ simp (← c .before .same-zone .ensures, c .if2 .taken)))
+    (λ c κs. search needs)
+    (λ c. sym (zone-is _ (omega (arith, c .before .before .before .before .before .before .if1 .left))
+    ∙ simp (← c .before .before .same-zone .ensures, c .before .if2 .left, ← c .same-zone2 .ensures))))

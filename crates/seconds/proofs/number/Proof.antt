@@ -23,9 +23,6 @@ abbrev μ-loop : tie.MeasureT-loop
 loop-holds : tie.Need-loop-holds Inv-loop μ-loop
 loop-holds c = (omega arith, (omega arith, refl))
 
-shared-slice-read-b : tie.Need-shared-slice-read-b Inv-loop μ-loop
-shared-slice-read-b c = omega arith
-
 returns : tie.Need-returns Inv-loop μ-loop
 returns c =
     let l = c .before .before in
@@ -44,15 +41,6 @@ returns-2 c =
     let inv = l .before .loop .inv in
     sym (inv .1 .1 ∙ above n s i (l .loop-test .taken) (c .if2 .taken))
 
-mul-m : tie.Need-mul-m Inv-loop μ-loop
-mul-m c = omega arith
-
-wide-requires : tie.Need-wide-requires Inv-loop μ-loop
-wide-requires c κs = search needs
-
-add-m : tie.Need-add-m Inv-loop μ-loop
-add-m c = omega arith
-
 returns-3 : tie.Need-returns-3 Inv-loop μ-loop
 returns-3 c =
     let l = c .before .before .before .before .before in
@@ -60,13 +48,8 @@ returns-3 c =
     let i = l .before .loop .i in
     let n = l .before .loop .n in
     let inv = l .before .loop .inv in
-    sym (inv .1 .1 ∙ large n s i (l .loop-test .taken) (c .before .before .before .if1 .left) (c .before .before .if2 .left) (omega (arith, c .if3 .taken, c .before .wide .ensures)))
-
-add-i : tie.Need-add-i Inv-loop μ-loop
-add-i c = omega arith
-
-loop-less : tie.Need-loop-less Inv-loop μ-loop
-loop-less c = omega arith
+    sym (inv .1 .1 ∙ large n s i (l .loop-test .taken) (c .before .before .before .if1 .left) (c .before .before .if2 .left)
+    (omega (arith, c .if3 .taken, c .before .wide .ensures)))
 
 loop-again : tie.Need-loop-again Inv-loop μ-loop
 loop-again c =
@@ -75,8 +58,13 @@ loop-again c =
     let i = l .before .loop .i in
     let n = l .before .loop .n in
     let inv = l .before .loop .inv in
-    let e : n * 10 + c .before .wide .result ≡ n * 10 + (getD s i 0 - 48) = ap (λ (x : ℕ). n * 10 + x) (c .before .wide .ensures .0) in
-    (omega arith, (omega (arith, c .if3 .left), rw (add-one, e) (inv .1 .1 ∙ on n s i (l .loop-test .taken) (c .before .before .before .if1 .left) (c .before .before .if2 .left))))
+    let e : n * 10 + c .before .wide .result ≡ n * 10 + (getD s i 0 - 48) = ap (λ (x : ℕ). n * 10 + x) (c .before .wide .ensures .0) in (
+      omega arith,
+      (
+        omega (arith, c .if3 .left),
+        rw (add-one, e) (inv .1 .1 ∙ on n s i (l .loop-test .taken) (c .before .before .before .if1 .left) (c .before .before .if2 .left)),
+      ),
+    )
 
 returns-4 : tie.Need-returns-4 Inv-loop μ-loop
 unfolding numberFrom allDigits decimalFrom pick
@@ -87,21 +75,9 @@ returns-4 c =
     let e : c .before .loop .i ≡ length s = omega arith in
     sym (inv .1 .1 ∙ rw (e, drop-length s) (simp (le-leb n 4294967295 (inv .1 .0))))
 
+-- the search closes the other needs
 pub number-spec : {M : Type 1} → statement M
 number-spec =
     tie.close
-    (tie.spec
-    Inv-loop
-    μ-loop
-    loop-holds
-    shared-slice-read-b
-    returns
-    returns-2
-    mul-m
-    wide-requires
-    add-m
-    returns-3
-    add-i
-    loop-less
-    loop-again
-    returns-4)
+    (tie.spec Inv-loop μ-loop loop-holds (λ c. omega arith) returns returns-2 (λ c. omega arith) (λ c κs. search needs) (λ c. omega arith)
+    returns-3 (λ c. omega arith) (λ c. omega arith) loop-again returns-4)

@@ -28,16 +28,13 @@ unfolding realDate
 returns-5 c =
     simp (le-leb _ _ (c .before .before .before .before .if1 .left), le-leb _ _ (c .before .before .before .if2 .left), le-leb _ _ (c .before .before .if3 .left), le-leb _ _ (c .before .if4 .left), lt-leb _ _ (c .if5 .taken))
 
-leap-day-requires : tie.Need-leap-day-requires
-leap-day-requires c κs = search needs
-
-month-length-requires : tie.Need-month-length-requires
-month-length-requires c κs = search needs
-
 returns-6 : tie.Need-returns-6
 unfolding realDate
 returns-6 c =
     simp (c .month-length .ensures, c .before .leap-day .ensures .0, le-leb _ _ (c .before .before .before .before .before .before .if1 .left), le-leb _ _ (c .before .before .before .before .before .if2 .left), le-leb _ _ (c .before .before .before .before .if3 .left), le-leb _ _ (c .before .before .before .if4 .left), le-leb _ _ (c .before .before .if5 .left))
 
+-- the search closes the other needs
 pub real-date-spec : {M : Type 1} → statement M
-real-date-spec = tie.close (tie.spec returns returns-2 returns-3 returns-4 returns-5 leap-day-requires month-length-requires returns-6)
+real-date-spec =
+    tie.close
+    (tie.spec returns returns-2 returns-3 returns-4 returns-5 (λ c κs. search needs) (λ c κs. search needs) returns-6)

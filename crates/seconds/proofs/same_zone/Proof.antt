@@ -28,4 +28,5 @@ returns-3 c = third-decides _ _ (first (c .before .before)) (second (c .before .
 
 -- the search closes the other needs
 pub same-zone-spec : {M : Type 1} → statement M
-same-zone-spec = tie.close (tie.spec (λ c. search needs) (λ c. search needs) returns (λ c. search needs) (λ c. search needs) returns-2 (λ c. search needs) (λ c. search needs) returns-3)
+same-zone-spec = tie.close (tie.spec (λ c. search needs) (λ c. search needs) returns (λ c. search needs) (λ c. search needs) returns-2 (λ c. search needs)
+    (λ c. search needs) returns-3)

@@ -17,32 +17,30 @@ zoned c = sym (c .before .known-zone .ensures) ∙ not-false (c .before .known-z
 marked : (c : tie.Else2) → textMarks (c .before .before .before .before .before .args .line .now) ≡ true
 marked c = sym (c .before .marks .ensures) ∙ not-false (c .before .marks .result) (c .if2 .left)
 
-put : (c : tie.After-known-told2) → Whole (c .before .before .before .before .before .before .before .before .before .before .before .before .before .args .line .now) (c .before .before .before .before .before .dated .given .0 .0) (c .before .timed .given .0 .0)
+put : (c : tie.After-known-told2) → Whole
+    (c .before .before .before .before .before .before .before .before .before .before .before .before .before .args .line .now)
+    (c .before .before .before .before .before .dated .given .0 .0) (c .before .timed .given .0 .0)
 put c =
-    whole _ (zoned (c .before .before .before .before .before .before .before .before .before .before)) (marked (c .before .before .before .before .before .before .before .before)) _ _ (sym (c .before .before .before .before .before .dated .given .1) ∙ c .before .before .before .before .before .before .before .date .ensures) (sym (c .before .timed .given .1) ∙ c .before .before .before .clock .ensures)
+    whole _ (zoned (c .before .before .before .before .before .before .before .before .before .before))
+    (marked (c .before .before .before .before .before .before .before .before)) _ _
+    (sym (c .before .before .before .before .before .dated .given .1) ∙ c .before .before .before .before .before .before .before .date .ensures)
+    (sym (c .before .timed .given .1) ∙ c .before .before .before .clock .ensures)
 
 returns : tie.Need-returns
 unfolding textForm pick
 returns c = simp (← c .before .known-zone .ensures, not-true (c .before .known-zone .result) (c .if1 .taken))
 
-marks-requires : tie.Need-marks-requires
-marks-requires c κs = omega (arith, zone-length _ (zoned c))
-
 returns-2 : tie.Need-returns-2
 unfolding textForm pick
 returns-2 c = simp (← c .before .marks .ensures, not-true (c .before .marks .result) (c .if2 .taken), and-no)
 
-date-requires : tie.Need-date-requires
-date-requires c κs = omega (arith, zone-length _ (zoned (c .before .before)))
-
 returns-3 : tie.Need-returns-3
-returns-3 c = no-date _ (zoned (c .before .before .before .before .before)) (marked (c .before .before .before)) (sym (c .enum-told .given .1) ∙ c .before .before .date .ensures)
-
-clock-requires : tie.Need-clock-requires
-clock-requires c κs = omega (arith, zone-length _ (zoned (c .before .before .before .before .before .before)))
+returns-3 c = no-date _ (zoned (c .before .before .before .before .before)) (marked (c .before .before .before))
+    (sym (c .enum-told .given .1) ∙ c .before .before .date .ensures)
 
 returns-4 : tie.Need-returns-4
-returns-4 c = no-clock _ (zoned (c .before .before .before .before .before .before .before .before .before)) (marked (c .before .before .before .before .before .before .before)) (sym (c .enum-told2 .given .1) ∙ c .before .before .clock .ensures)
+returns-4 c = no-clock _ (zoned (c .before .before .before .before .before .before .before .before .before))
+    (marked (c .before .before .before .before .before .before .before)) (sym (c .enum-told2 .given .1) ∙ c .before .before .clock .ensures)
 
 mul-t8 : tie.Need-mul-t8
 mul-t8 c =
@@ -59,4 +57,9 @@ returns-5 c = put c .is
 
 -- the search closes the other needs
 pub text-form-spec : {M : Type 1} → statement M
-text-form-spec = tie.close (tie.spec (λ c κs. search needs) returns marks-requires returns-2 date-requires (λ c. search needs) (λ c. search needs) returns-3 clock-requires (λ c. search needs) (λ c. search needs) returns-4 mul-t8 add-t9 returns-5)
+text-form-spec =
+    tie.close
+    (tie.spec (λ c κs. search needs) returns (λ c κs. omega (arith, zone-length _ (zoned c))) returns-2
+    (λ c κs. omega (arith, zone-length _ (zoned (c .before .before)))) (λ c. search needs) (λ c. search needs) returns-3
+    (λ c κs. omega (arith, zone-length _ (zoned (c .before .before .before .before .before .before)))) (λ c. search needs)
+    (λ c. search needs) returns-4 mul-t8 add-t9 returns-5)

@@ -20,4 +20,5 @@ returns-2 c =
 
 -- the search closes the other needs
 pub error-entry-spec : {M : Type 1} → statement M
-error-entry-spec = tie.close (tie.spec returns (λ c. search needs) (λ c. search needs) (λ c. search needs) (λ c κs. search needs) (λ c. search needs) (λ c. search needs) returns-2)
+error-entry-spec = tie.close (tie.spec returns (λ c. search needs) (λ c. search needs) (λ c. search needs) (λ c κs. search needs) (λ c. search needs)
+    (λ c. search needs) returns-2)

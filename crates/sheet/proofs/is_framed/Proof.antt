@@ -10,15 +10,6 @@ returns : tie.Need-returns
 unfolding framed
 returns c = simp (lt-leb _ _ (c .if1 .taken))
 
-get-be16-requires : tie.Need-get-be16-requires
-get-be16-requires c κs = search needs
-
-size-of-requires : tie.Need-size-of-requires
-size-of-requires c κs = search needs
-
-add-result : tie.Need-add-result
-add-result c = search needs
-
 returns-2 : tie.Need-returns-2
 unfolding framed
 returns-2 c =
@@ -31,6 +22,6 @@ returns-3 c =
     let e = c .before .size-of .ensures ∙ c .before .before .get-be16 .ensures .0 in
     simp (← e, le-leb _ _ (c .before .before .before .if1 .left), lt-leb _ _ (c .if2 .left))
 
+-- the search closes the other needs
 pub is-framed-spec : {M : Type 1} → statement M
-is-framed-spec =
-    tie.close (tie.spec returns get-be16-requires size-of-requires add-result returns-2 returns-3)
+is-framed-spec = tie.close (tie.spec returns (λ c κs. search needs) (λ c κs. search needs) (λ c. search needs) returns-2 returns-3)

@@ -4,14 +4,7 @@ use borrow.Author.Needs.{needs}
 use Rattle.sheet.proofs.label_fits.Statement.{statement}
 use Rattle.sheet.proofs.label_fits.Tie as tie
 
-add-result : tie.Need-add-result
-add-result c = search needs
-
-returns : tie.Need-returns
-returns c = simp (le-leb _ _ (c .if1 .taken))
-
-returns-2 : tie.Need-returns-2
-returns-2 c = simp (lt-leb _ _ (c .if1 .left))
-
 pub label-fits-spec : {M : Type 1} → statement M
-label-fits-spec = tie.close (tie.spec add-result returns returns-2)
+label-fits-spec =
+    tie.close
+    (tie.spec (λ c. search needs) (λ c. simp (le-leb _ _ (c .if1 .taken))) (λ c. simp (lt-leb _ _ (c .if1 .left))))

@@ -18,11 +18,15 @@ use Rattle.sheet.proofs.read_front.Tie as tie
 framed-at : (y : tie.Else3) → framed (drop 1 (y .before .before .before .before .before .before .before .args .sheet .now)) ≡ true
 framed-at y = simp part-to-end at (sym (y .before .is-framed .ensures) ∙ not-false _ (y .if3 .left))
 
-there-at : (y : tie.Else3) → (3 ≤ length (drop 1 (y .before .before .before .before .before .before .before .args .sheet .now))) × (3 + be16 (drop 1 (y .before .before .before .before .before .before .before .args .sheet .now)) ≤ length (y .before .before .before .before .before .before .before .args .sheet .now))
-there-at y = let f = frame _ (framed-at y) in let l = length-drop 1 (y .before .before .before .before .before .before .before .args .sheet .now) in (f .length-there, omega arith)
+there-at : (y : tie.Else3) → (3 ≤ length (drop 1 (y .before .before .before .before .before .before .before .args .sheet .now)))
+    × (3 + be16 (drop 1 (y .before .before .before .before .before .before .before .args .sheet .now)) ≤ length
+    (y .before .before .before .before .before .before .before .args .sheet .now))
+there-at y = let f = frame _ (framed-at y) in let l = length-drop 1 (y .before .before .before .before .before .before .before .args .sheet .now) in
+    (f .length-there, omega arith)
 
 -- the size of its body
-size-at : (y : tie.After-size-of) → y .size-of .result ≡ be16 (drop 1 (y .before .before .before .before .before .before .before .before .before .args .sheet .now))
+size-at : (y : tie.After-size-of) → y .size-of .result ≡ be16
+    (drop 1 (y .before .before .before .before .before .before .before .before .before .args .sheet .now))
 size-at y = y .size-of .ensures ∙ simp part-to-end at (y .before .get-be16 .ensures .0)
 
 returns : tie.Need-returns
@@ -35,20 +39,13 @@ returns-2 c =
 
 returns-3 : tie.Need-returns-3
 returns-3 c =
-    front-unframed _ (c .before .before .before .before .before .before .before .args .sheet .now) (c .before .before .before .if2 .left) (simp part-to-end at (sym (c .before .is-framed .ensures) ∙ not-true _ (c .if3 .taken)))
-
-get-be16-requires : tie.Need-get-be16-requires
-get-be16-requires c κs = simp part-to-end (omega (arith, there-at c))
+    front-unframed _ (c .before .before .before .before .before .before .before .args .sheet .now) (c .before .before .before .if2 .left)
+    (simp part-to-end at (sym (c .before .is-framed .ensures) ∙ not-true _ (c .if3 .taken)))
 
 returns-4 : tie.Need-returns-4
 returns-4 c =
-    front-short _ _ (c .before .before .before .before .before .before .if2 .left) (framed-at (c .before .before .before)) (rw (size-at (c .before)) at (c .if4 .taken))
-
-sub-header : tie.Need-sub-header
-sub-header c = omega (arith, there-at (c .before .before .before))
-
-part-header-start : tie.Need-part-header-start
-part-header-start c = omega (arith, there-at (c .before .before .before))
+    front-short _ _ (c .before .before .before .before .before .before .if2 .left) (framed-at (c .before .before .before))
+    (rw (size-at (c .before)) at (c .if4 .taken))
 
 header-requires : tie.Need-header-requires
 header-requires c κs =
@@ -57,9 +54,16 @@ header-requires c κs =
 returns-5 : tie.Need-returns-5
 returns-5 c =
     let e = size-at (c .before .before .before) in
-    front-told _ (c .before .before .before .before .before .before .before .before .before .before .before .before .args .sheet .now) (c .before .before .before .before .before .before .before .before .if2 .left) (framed-at (c .before .before .before .before .before)) (rw e at (c .before .before .if4 .left)) (there-at (c .before .before .before .before .before) .1) (c .header .result)
+    front-told _ (c .before .before .before .before .before .before .before .before .before .before .before .before .args .sheet .now)
+    (c .before .before .before .before .before .before .before .before .if2 .left) (framed-at (c .before .before .before .before .before))
+    (rw e at (c .before .before .if4 .left)) (there-at (c .before .before .before .before .before) .1) (c .header .result)
     (rw e at (simp part-to-end at (c .header .ensures)))
 
 -- the search closes the other needs
 pub read-front-spec : {M : Type 1} → statement M
-read-front-spec = tie.close (tie.spec returns (λ c. search needs) returns-2 (λ c. search needs) (λ c. search needs) (λ c. search needs) (λ c κs. search needs) returns-3 get-be16-requires (λ c κs. search needs) returns-4 sub-header part-header-start (λ c. search needs) header-requires returns-5)
+read-front-spec =
+    tie.close
+    (tie.spec returns (λ c. search needs) returns-2 (λ c. search needs) (λ c. search needs) (λ c. search needs) (λ c κs. search needs)
+    returns-3 (λ c κs. simp part-to-end (omega (arith, there-at c))) (λ c κs. search needs) returns-4
+    (λ c. omega (arith, there-at (c .before .before .before))) (λ c. omega (arith, there-at (c .before .before .before)))
+    (λ c. search needs) header-requires returns-5)

@@ -10,12 +10,10 @@ returns : tie.Need-returns
 unfolding bounded pick
 returns c = simp (lt-ltb _ _ (c .if1 .taken))
 
-add-result : tie.Need-add-result
-add-result c = search needs
-
 returns-2 : tie.Need-returns-2
 unfolding bounded pick
 returns-2 c = simp (le-ltb _ _ (c .if1 .left))
 
+-- the search closes the other needs
 pub more-spec : {M : Type 1} → statement M
-more-spec = tie.close (tie.spec returns add-result returns-2)
+more-spec = tie.close (tie.spec returns (λ c. search needs) returns-2)

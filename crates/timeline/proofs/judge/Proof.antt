@@ -5,18 +5,6 @@ use borrow.Author.Needs.{needs}
 use Rattle.timeline.proofs.judge.Statement.{statement}
 use Rattle.timeline.proofs.judge.Tie as tie
 
-enum-known-first : tie.Need-enum-known-first
-enum-known-first c = search needs
-
-enum-known-first-2 : tie.Need-enum-known-first-2
-enum-known-first-2 c = search needs
-
-enum-known-second : tie.Need-enum-known-second
-enum-known-second c = search needs
-
-enum-known-second-2 : tie.Need-enum-known-second-2
-enum-known-second-2 c = search needs
-
 returns : tie.Need-returns
 unfolding pick
 returns c =
@@ -25,7 +13,8 @@ returns c =
 returns-2 : tie.Need-returns-2
 unfolding pick
 returns-2 c =
-    rw (c .before .before .before .before .before .before .first2 .given .1, c .before .before .before .second2 .given .1) (simp (le-ltb _ _ (c .before .if1 .left), lt-ltb _ _ (c .if2 .taken)))
+    rw (c .before .before .before .before .before .before .first2 .given .1, c .before .before .before .second2 .given .1)
+    (simp (le-ltb _ _ (c .before .if1 .left), lt-ltb _ _ (c .if2 .taken)))
 
 returns-3 : tie.Need-returns-3
 returns-3 c = rw (c .before .first .given .1)
@@ -36,7 +25,12 @@ returns-4 c = rw (c .before .before .before .before .first2 .given .1, c .before
 returns-5 : tie.Need-returns-5
 unfolding pick
 returns-5 c =
-    rw (c .before .before .before .before .before .before .first2 .given .1, c .before .before .before .second2 .given .1) (simp (le-ltb _ _ (c .before .if1 .left), le-ltb _ _ (c .if2 .left)))
+    rw (c .before .before .before .before .before .before .first2 .given .1, c .before .before .before .second2 .given .1)
+    (simp (le-ltb _ _ (c .before .if1 .left), le-ltb _ _ (c .if2 .left)))
 
+-- the search closes the other needs
 pub judge-spec : {M : Type 1} → statement M
-judge-spec = tie.close (tie.spec enum-known-first enum-known-first-2 enum-known-second enum-known-second-2 returns returns-2 returns-3 returns-4 returns-5)
+judge-spec =
+    tie.close
+    (tie.spec (λ c. search needs) (λ c. search needs) (λ c. search needs) (λ c. search needs) returns returns-2 returns-3 returns-4
+    returns-5)

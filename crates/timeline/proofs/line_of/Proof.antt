@@ -9,31 +9,10 @@ use borrow.Author.Needs.{needs}
 use Rattle.timeline.proofs.line_of.Statement.{statement}
 use Rattle.timeline.proofs.line_of.Tie as tie
 
-enum-told : tie.Need-enum-told
-enum-told c = search needs
-
-sub-result : tie.Need-sub-result
-sub-result c = search needs
-
-part-result-start : tie.Need-part-result-start
-part-result-start c = search needs
-
-part-result-end : tie.Need-part-result-end
-part-result-end c = search needs
-
-enum-known-s : tie.Need-enum-known-s
-enum-known-s c = search needs
-
 add-end : tie.Need-add-end
 add-end c =
     let h = stands-at (c .before .before .before .args .file .now) (c .before .s .given .1) (c .before .before .before .pre) in
     omega arith
-
-sub-result-2 : tie.Need-sub-result-2
-sub-result-2 c = search needs
-
-part-result-start-2 : tie.Need-part-result-start-2
-part-result-start-2 c = search needs
 
 part-result-end-2 : tie.Need-part-result-end-2
 part-result-end-2 c =
@@ -54,5 +33,9 @@ returns-2 c =
     let z : s .0 .1 .0 + s .0 .1 .1 .0 - s .0 .1 .0 ≡ s .0 .1 .1 .0 = omega arith in
     (rw z (ap (λ (r : Stamp). lineIn r (x .now)) e), ap (λ (r : Stamp). placeIn r (x .ptr)) e)
 
+-- the search closes the other needs
 pub line-of-spec : {M : Type 1} → statement M
-line-of-spec = tie.close (tie.spec enum-told sub-result part-result-start part-result-end enum-known-s add-end sub-result-2 part-result-start-2 part-result-end-2 returns returns-2)
+line-of-spec =
+    tie.close
+    (tie.spec (λ c. search needs) (λ c. search needs) (λ c. search needs) (λ c. search needs) (λ c. search needs) add-end
+    (λ c. search needs) (λ c. search needs) part-result-end-2 returns returns-2)

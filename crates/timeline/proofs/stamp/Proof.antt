@@ -9,17 +9,9 @@ use Rattle.timeline.proofs.stamp.Statement.{statement}
 use Rattle.timeline.proofs.stamp.Tie as tie
 
 -- the lines of an opened file stand in it
-roomy : (c : tie.After-head2) → Room (c .head2 .given .0 .0) (c .head2 .given .0 .1 .0) (c .head2 .given .0 .1 .1 .0) (c .head2 .given .0 .1 .1 .1 .0) (c .head2 .given .0 .1 .1 .1 .1 .0) (c .before .before .before .before .args .file .now)
+roomy : (c : tie.After-head2) → Room (c .head2 .given .0 .0) (c .head2 .given .0 .1 .0) (c .head2 .given .0 .1 .1 .0) (c .head2 .given .0 .1 .1 .1 .0)
+    (c .head2 .given .0 .1 .1 .1 .1 .0) (c .before .before .before .before .args .file .now)
 roomy c = told-at (c .head2 .given .1) (c .before .before .opening .ensures) .room
-
-opening-requires : tie.Need-opening-requires
-opening-requires c κs = search needs
-
-enum-known-head : tie.Need-enum-known-head
-enum-known-head c = search needs
-
-enum-known-head-2 : tie.Need-enum-known-head-2
-enum-known-head-2 c = search needs
 
 add-line-stamp : tie.Need-add-line-stamp
 add-line-stamp c =
@@ -39,8 +31,14 @@ returns c =
 returns-2 : tie.Need-returns-2
 unfolding stampOf
 returns-2 c =
-    let l = c .line-stamp .ensures in
-    (l .same ∙ (stamp-whole _ _ _ _ _ _ (roomy (c .before .before)) ∙ ap stampOpened (told-at (c .before .before .head2 .given .1) (c .before .before .before .before .opening .ensures) .same)), l .room)
+    let l = c .line-stamp .ensures in (
+      l .same ∙ (stamp-whole _ _ _ _ _ _ (roomy (c .before .before))
+          ∙ ap stampOpened (told-at (c .before .before .head2 .given .1) (c .before .before .before .before .opening .ensures) .same)),
+      l .room,
+    )
 
+-- the search closes the other needs
 pub stamp-spec : {M : Type 1} → statement M
-stamp-spec = tie.close (tie.spec opening-requires enum-known-head enum-known-head-2 add-line-stamp line-stamp-requires returns returns-2)
+stamp-spec =
+    tie.close
+    (tie.spec (λ c κs. search needs) (λ c. search needs) (λ c. search needs) add-line-stamp line-stamp-requires returns returns-2)

@@ -15,23 +15,9 @@ Inv-loop l m n i₀ i = Begun l m i
 abbrev μ-loop : tie.MeasureT-loop
 μ-loop l m n i₀ i = n - i
 
-least-requires : tie.Need-least-requires Inv-loop μ-loop
-least-requires c κs = search needs
-
 same-eights-requires : tie.Need-same-eights-requires Inv-loop μ-loop
 same-eights-requires c κs =
     (omega (arith, c .least .ensures), omega (arith, c .least .ensures))
-
-loop-holds : tie.Need-loop-holds Inv-loop μ-loop
-loop-holds c = search needs
-
-shared-slice-read-if1 : tie.Need-shared-slice-read-if1 Inv-loop μ-loop
-shared-slice-read-if1 c =
-    omega (arith, c .before .before .before .before .least .ensures)
-
-shared-slice-read-if1-2 : tie.Need-shared-slice-read-if1-2 Inv-loop μ-loop
-shared-slice-read-if1-2 c =
-    omega (arith, c .before .before .before .before .before .least .ensures)
 
 returns : tie.Need-returns Inv-loop μ-loop
 returns c =
@@ -39,17 +25,18 @@ returns c =
     let e = c .before .before .before .before .before .before .least .ensures in
     omega (arith, common-here (x .l .now) (x .m .now) (c .before .before .before .before .loop .i) (omega arith) (omega arith) (c .if1 .taken))
 
-add-i : tie.Need-add-i Inv-loop μ-loop
-add-i c = search needs
-
-loop-less : tie.Need-loop-less Inv-loop μ-loop
-loop-less c = search needs
-
 loop-again : tie.Need-loop-again Inv-loop μ-loop
 loop-again c =
     let x = c .before .before .before .before .before .before .before .before .before .args in
-    let e = c .before .before .before .before .before .before .least .ensures in
-    (omega arith, omega arith, omega (arith, common-past (x .l .now) (x .m .now) (c .before .before .before .before .loop .i) (omega arith) (omega arith) (c .if1 .left)))
+    let e = c .before .before .before .before .before .before .least .ensures in (
+      omega arith,
+      omega arith,
+      omega (
+        arith,
+        common-past (x .l .now) (x .m .now) (c .before .before .before .before .loop .i) (omega arith) (omega arith)
+            (c .if1 .left),
+      ),
+    )
 
 returns-2 : tie.Need-returns-2 Inv-loop μ-loop
 returns-2 c =
@@ -59,19 +46,11 @@ returns-2 c =
     let z : min (length (drop i (x .l .now))) (length (drop i (x .m .now))) ≡ 0 = simp length-drop (omega arith) in
     omega (arith, common-spent (drop i (x .l .now)) (drop i (x .m .now)) z)
 
+-- the search closes the other needs
 pub common-start-spec : {M : Type 1} → statement M
 common-start-spec =
     tie.close
-    (tie.spec
-    Inv-loop
-    μ-loop
-    least-requires
-    same-eights-requires
-    loop-holds
-    shared-slice-read-if1
-    shared-slice-read-if1-2
-    returns
-    add-i
-    loop-less
-    loop-again
-    returns-2)
+    (tie.spec Inv-loop μ-loop (λ c κs. search needs) same-eights-requires (λ c. search needs)
+    (λ c. omega (arith, c .before .before .before .before .least .ensures))
+    (λ c. omega (arith, c .before .before .before .before .before .least .ensures)) returns (λ c. search needs) (λ c. search needs)
+    loop-again returns-2)

@@ -21,26 +21,11 @@ returns c =
     let x = c .before .args in
     sym (same-false (x .a .now) (x .b .now) (λ e. c .if1 .taken (ap (λ (s : List ℕ). length s) e)))
 
-loop-holds : tie.Need-loop-holds Inv-loop μ-loop
-loop-holds c = search needs
-
-shared-slice-read-if2 : tie.Need-shared-slice-read-if2 Inv-loop μ-loop
-shared-slice-read-if2 c = search needs
-
-shared-slice-read-if2-2 : tie.Need-shared-slice-read-if2-2 Inv-loop μ-loop
-shared-slice-read-if2-2 c = search needs
-
 returns-2 : tie.Need-returns-2 Inv-loop μ-loop
 returns-2 c =
     let l = c .before .before .before .before in
     let x = l .before .before .args in
     sym (same-other (x .a .now) (x .b .now) (l .loop .i) (c .if2 .taken))
-
-add-i : tie.Need-add-i Inv-loop μ-loop
-add-i c = search needs
-
-loop-less : tie.Need-loop-less Inv-loop μ-loop
-loop-less c = search needs
 
 loop-again : tie.Need-loop-again Inv-loop μ-loop
 loop-again c =
@@ -58,18 +43,9 @@ returns-3 c =
     let eb : length (x .b .now) ≤ i = omega arith in
     rw (drop-of-length-le (x .a .now) ea, drop-of-length-le (x .b .now) eb) at (l .loop .inv .1)
 
+-- the search closes the other needs
 pub same-bytes-spec : {M : Type 1} → statement M
 same-bytes-spec =
     tie.close
-    (tie.spec
-    Inv-loop
-    μ-loop
-    returns
-    loop-holds
-    shared-slice-read-if2
-    shared-slice-read-if2-2
-    returns-2
-    add-i
-    loop-less
-    loop-again
-    returns-3)
+    (tie.spec Inv-loop μ-loop returns (λ c. search needs) (λ c. search needs) (λ c. search needs) returns-2 (λ c. search needs)
+    (λ c. search needs) loop-again returns-3)

@@ -7,18 +7,6 @@ use borrow.Author.Needs.{needs}
 use Rattle.write.proofs.pass.Statement.{statement}
 use Rattle.write.proofs.pass.Tie as tie
 
-version-of-requires : tie.Need-version-of-requires
-version-of-requires c κs = search needs
-
-read-front-requires : tie.Need-read-front-requires
-read-front-requires c κs = search needs
-
-enum-told : tie.Need-enum-told
-enum-told c = search needs
-
-enum-known-front : tie.Need-enum-known-front
-enum-known-front c = search needs
-
 add-middle : tie.Need-add-middle
 add-middle c =
     let F = rw (c .before .front .given .1) at (c .before .before .before .read-front .ensures) in
@@ -66,39 +54,25 @@ put-header-requires c κs =
 
 put-records-requires : tie.Need-put-records-requires
 put-records-requires c κs =
-    let F = rw (c .before .before .before .before .before .before .before .before .front .given .1) at (c .before .before .before .before .before .before .before .before .before .before .read-front .ensures) in
+    let F = rw (c .before .before .before .before .before .before .before .before .front .given .1) at
+    (c .before .before .before .before .before .before .before .before .before .before .read-front .ensures) in
     (F .inside, omega (arith, c .before .before .before .put-header .ensures .most))
 
 returns : tie.Need-returns
 returns c =
     pass-flawed v8 _ _ _ (c .before .before .before .version-of .ensures) (rw (c .enum-told .given .1) at (c .before .before .read-front .ensures))
 
-same-length : tie.Need-same-length
-same-length c = search needs
-
 returns-2 : tie.Need-returns-2
 returns-2 c =
-    let F = rw (c .before .before .before .before .before .before .before .before .before .before .before .front .given .1) at (c .before .before .before .before .before .before .before .before .before .before .before .before .before .read-front .ensures) in
-    pass-sheet v8 _ _ _ _ _ _ _ _ _ _ _ (c .before .before .before .before .before .before .before .before .before .before .before .before .before .before .version-of .ensures) F (c .before .before .before .before .before .before .put-header .ensures) (c .before .before .put-records .ensures)
+    let F = rw (c .before .before .before .before .before .before .before .before .before .before .before .front .given .1) at
+    (c .before .before .before .before .before .before .before .before .before .before .before .before .before .read-front .ensures) in
+    pass-sheet v8 _ _ _ _ _ _ _ _ _ _ _ (c .before .before .before .before .before .before .before .before .before .before .before .before .before .before
+    .version-of .ensures) F (c .before .before .before .before .before .before .put-header .ensures) (c .before .before .put-records .ensures)
 
+-- the search closes the other needs
 pub pass-spec : {M : Type 1} → statement M
 pass-spec =
     tie.close
-    (tie.spec
-    version-of-requires
-    read-front-requires
-    enum-told
-    enum-known-front
-    add-middle
-    add-begin
-    sub-put-header
-    part-put-header-start
-    part-put-header-end
-    sub-put-header-2
-    part-put-header-start-2
-    part-put-header-end-2
-    put-header-requires
-    put-records-requires
-    returns
-    same-length
-    returns-2)
+    (tie.spec (λ c κs. search needs) (λ c κs. search needs) (λ c. search needs) (λ c. search needs) add-middle add-begin sub-put-header
+    part-put-header-start part-put-header-end sub-put-header-2 part-put-header-start-2 part-put-header-end-2 put-header-requires
+    put-records-requires returns (λ c. search needs) returns-2)

@@ -9,77 +9,44 @@ use borrow.Author.Needs.{needs}
 use Rattle.write.proofs.write.Statement.{statement}
 use Rattle.write.proofs.write.Tie as tie
 
-slice-relend-prefix-pass : tie.Need-slice-relend-prefix-pass
-slice-relend-prefix-pass c = search needs
-
-slice-aggregate-pass : tie.Need-slice-aggregate-pass
-slice-aggregate-pass c = search needs
-
-pass-requires : tie.Need-pass-requires
-pass-requires c κs = search needs
-
-enum-known-answer : tie.Need-enum-known-answer
-enum-known-answer c = search needs
-
-enum-known-answer-2 : tie.Need-enum-known-answer-2
-enum-known-answer-2 c = search needs
-
-same-length : tie.Need-same-length
-same-length c = search needs
-
 returns : tie.Need-returns
 unfolding writeOutcome writeBuffer
 returns c =
     let a = c .before .before .before .before .before .before .before .before .before .before .args in
     let p = c .before .before .before .before .before .before .pass .ensures in
-    passes-small v8 (frontHeader (a .sheet .now)) (sheetResult (a .sheet .now)) (a .out .now) (c .before .before .before .before .before .before .pass .last .1 .0) (c .before .before .before .before .before .before .pass .result) (p .kept) (p .answer) (c .before .before .answer2 .given .1) (c .if1 .taken)
-
-slice-relend-prefix-pass-2 : tie.Need-slice-relend-prefix-pass-2
-slice-relend-prefix-pass-2 c = search needs
+    passes-small v8 (frontHeader (a .sheet .now)) (sheetResult (a .sheet .now)) (a .out .now)
+    (c .before .before .before .before .before .before .pass .last .1 .0) (c .before .before .before .before .before .before .pass .result) (p .kept)
+    (p .answer) (c .before .before .answer2 .given .1) (c .if1 .taken)
 
 slice-aggregate-pass-2 : tie.Need-slice-aggregate-pass-2
 slice-aggregate-pass-2 c =
-    let e = length-take-le (c .before .before .before .answer2 .given .0 .0) (c .before .before .before .before .before .before .before .pass .last .1 .0 ++ c .before .before .before .before .before .before .before .before .before .before .before .args .out .now) (omega (arith, c .before .if1 .left)) in
+    let e = length-take-le (c .before .before .before .answer2 .given .0 .0)
+    (c .before .before .before .before .before .before .before .pass .last .1 .0 ++
+    c .before .before .before .before .before .before .before .before .before .before .before .args .out .now) (omega (arith, c .before .if1 .left)) in
     omega (arith, e)
-
-pass-requires-2 : tie.Need-pass-requires-2
-pass-requires-2 c κs = search needs
-
-same-length-2 : tie.Need-same-length-2
-same-length-2 c = search needs
 
 returns-2 : tie.Need-returns-2
 unfolding writeOutcome writeBuffer
 returns-2 c =
     let a = c .before .before .before .before .before .before .before .before .before .args in
     let p = c .before .before .before .before .before .pass .ensures in
-    passes-refused v8 (frontHeader (a .sheet .now)) (sheetResult (a .sheet .now)) (a .out .now) (c .before .before .before .before .before .pass .last .1 .0) (c .before .before .before .before .before .pass .result) (p .kept) (p .answer) (c .before .answer .given .1)
-
-same-length-3 : tie.Need-same-length-3
-same-length-3 c = search needs
+    passes-refused v8 (frontHeader (a .sheet .now)) (sheetResult (a .sheet .now)) (a .out .now) (c .before .before .before .before .before .pass .last .1 .0)
+    (c .before .before .before .before .before .pass .result) (p .kept) (p .answer) (c .before .answer .given .1)
 
 returns-3 : tie.Need-returns-3
 unfolding writeOutcome writeBuffer
 returns-3 c =
     let a = c .before .before .before .before .before .before .before .before .before .before .before .before .before .before .args in
     let p = c .before .before .before .before .before .before .before .before .before .before .pass .ensures in
-    passes-done v8 (frontHeader (a .sheet .now)) (sheetResult (a .sheet .now)) (a .out .now) (c .before .before .before .before .before .before .before .before .before .before .pass .last .1 .0) (c .before .before .before .before .before .before .before .before .before .before .pass .result) (p .kept) (p .answer) (c .before .before .before .before .before .before .answer2 .given .1) (c .before .before .before .before .if1 .left) (c .before .before .pass2 .ensures)
+    passes-done v8 (frontHeader (a .sheet .now)) (sheetResult (a .sheet .now)) (a .out .now)
+    (c .before .before .before .before .before .before .before .before .before .before .pass .last .1 .0)
+    (c .before .before .before .before .before .before .before .before .before .before .pass .result) (p .kept) (p .answer)
+    (c .before .before .before .before .before .before .answer2 .given .1) (c .before .before .before .before .if1 .left)
+    (c .before .before .pass2 .ensures)
 
+-- the search closes the other needs
 pub write-spec : {M : Type 1} → statement M
 write-spec =
     tie.close
-    (tie.spec
-    slice-relend-prefix-pass
-    slice-aggregate-pass
-    pass-requires
-    enum-known-answer
-    enum-known-answer-2
-    same-length
-    returns
-    slice-relend-prefix-pass-2
-    slice-aggregate-pass-2
-    pass-requires-2
-    same-length-2
-    returns-2
-    same-length-3
-    returns-3)
+    (tie.spec (λ c. search needs) (λ c. search needs) (λ c κs. search needs) (λ c. search needs) (λ c. search needs) (λ c. search needs)
+    returns (λ c. search needs) slice-aggregate-pass-2 (λ c κs. search needs) (λ c. search needs) returns-2 (λ c. search needs) returns-3)

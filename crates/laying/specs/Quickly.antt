@@ -1,0 +1,50 @@
+-- The commonest items, whose records are laid in by themselves. Assumes nothing.
+use Prim.Native.Nat.{ℕ, _+_, _^_, _≤_, _<_}
+use mathlib.Core.Path.{_≡_}
+use mathlib.Core.List.{List}
+use lib.ListN.{length}
+use Rattle.format.specs.Label.{labelLimit}
+use Rattle.format.specs.Sheet.{recordLimit, sheetVersion, layout}
+use Rattle.format.specs.State.{Next, bad, end, on, made}
+use Rattle.format.specs.Fields.{recordSize}
+use Rattle.format.specs.declared.Setting.{Setting}
+use Rattle.format.specs.declared.Fields.{Fields}
+use Rattle.item.specs.Seen.{Tells}
+use Rattle.item.specs.Commonest.{movedTo, trimStep}
+use Rattle.item.specs.declared.Step.the-variants.{Made as MadeStep}
+use Rattle.wire.specs.Laid.{laidIf}
+use Rattle.laying.specs.declared.Joint.{Joint}
+use Rattle.laying.specs.declared.Quick.{Quick}
+use Rattle.laying.specs.declared.Quick.the-variants.{Other, Leg, Made, Trim}
+
+-- d with the record that an item makes, if any, in it from k on, where it fits
+abbrev pub laidBy : Next → List ℕ → ℕ → List ℕ
+laidBy (bad n) d k = d
+laidBy end d k = d
+laidBy (on n st) d k = d
+laidBy (made n r st) d k = laidIf d k (layout sheetVersion r)
+
+-- what laying one of them needs: s are the bytes from the item on, b the label's buffer
+pub record Joined (j : Joint) (s b : List ℕ) (out : ℕ) : Type 0 where
+  pub there : 33 ≤ length s
+  pub few : j .keep + 16 ≤ labelLimit
+  pub add-few : j .add < 16
+  pub whole : length b ≡ labelLimit
+  pub out-few : out < 2 ^ 62
+
+-- an item x that makes a record and keeps `stays` bytes of the label: its size, the label's new length, the setting after it, the record's
+-- bytes and the bytes kept, with the label's buffer b and the sheet d′ after it
+pub record LaidAs (size m : ℕ) (after : Setting) (bytes kept : ℕ) (x : Next) (stays : ℕ) (b d d′ : List ℕ) (out : ℕ) : Type 0 where
+  pub fields : Fields
+  pub told : Tells (MadeStep size m after fields kept) b x
+  pub kept-is : kept ≡ stays
+  pub bytes-are : bytes ≡ recordSize fields m
+  pub small : bytes ≤ recordLimit
+  pub laid : d′ ≡ laidBy x d out
+
+-- an answer, with the label's buffer and the sheet before and after it, tells what the item x comes to
+abbrev pub Quickly : Quick → Next → ℕ → Setting → List ℕ → List ℕ → List ℕ → List ℕ → ℕ → Type 0
+Quickly Other x stays setting b b′ d d′ out = (b′ ≡ b) × (d′ ≡ d)
+Quickly (Leg size m to kept) x stays setting b b′ d d′ out = LaidAs size m (movedTo setting to) (34 + m) kept x stays b′ d d′ out
+Quickly (Made size m bytes kept) x stays setting b b′ d d′ out = LaidAs size m setting bytes kept x stays b′ d d′ out
+Quickly (Trim m) x stays setting b b′ d d′ out = Tells (trimStep m setting) b′ x × (d′ ≡ d)
