@@ -13,7 +13,21 @@ struct Archive {
 
 const ARCHIVES: [Archive; 1] = [Archive {
     name: "capi",
-    functions: &["read", "write", "write_v7", "convert", "edit", "compare", "open", "step", "next"],
+    functions: &[
+        "read",
+        "write",
+        "write_v7",
+        "convert",
+        "edit",
+        "compare",
+        "open",
+        "step",
+        "next",
+        "sha256",
+        "sha256_start",
+        "sha256_update",
+        "sha256_finish",
+    ],
 }];
 
 fn main() {

@@ -1,1 +1,2 @@
 mod Stands
+mod Digests

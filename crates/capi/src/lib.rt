@@ -13,6 +13,8 @@ ghost use Rattle.step.specs.Standing.{Opens};
 ghost use Rattle.step.specs.Going.{nextRecord, nextBuffer};
 ghost use Rattle.held.specs.Numbers.{heldOf, stateStand};
 ghost use Rattle.told.specs.Numbers.{outcomeNumbers, openNumbers, stepNumbers};
+ghost use Rattle.sha256.specs.Digest.{sha256Of};
+ghost use Rattle.sha256.specs.Streams.{updated, finished, begun, runningOf, stateStream};
 ghost use Rattle.capi.specs.Compares.{comparedOf};
 use format::Handed;
 use format::LABEL_LIMIT;
@@ -20,6 +22,9 @@ use format::Later;
 use format::Stepped;
 use held::Brief;
 use held::STAND_NUMBERS;
+use sha256::BLOCK;
+use sha256::DIGEST;
+use sha256::RUNNING_NUMBERS;
 use told::AnswerNumbers;
 use told::OpenNumbers;
 use told::StepNumbers;
@@ -222,4 +227,50 @@ pub extern "C" fn cockledrift_next(
     let numbers = held::numbers_of(reached);
     *state = numbers;
     told::tell_step(found)
+}
+
+// Writes the SHA-256 of bytes to the lent digest.
+#[no_mangle]
+pub extern "C" fn cockledrift_sha256(bytes: &[u8], out: &mut [u8; DIGEST])
+    ensures { λ _. ⌜ now (out .exit) ≡ sha256Of (now (bytes .entry)) ⌝ }
+{
+    sha256::sha256(bytes, out);
+}
+
+// Starts the SHA-256 of bytes that come in parts. The block may hold anything.
+#[no_mangle]
+pub extern "C" fn cockledrift_sha256_start(state: &mut [u64; RUNNING_NUMBERS])
+    ensures { λ _. ⌜ runningOf (now (state .exit)) ≡ begun ⌝ }
+{
+    let run = sha256::start();
+    let numbers = sha256::numbers_of(run);
+    *state = numbers;
+}
+
+// Takes in bytes more, from whatever the state and the block hold.
+#[no_mangle]
+pub extern "C" fn cockledrift_sha256_update(
+    state: &mut [u64; RUNNING_NUMBERS],
+    block: &mut [u8; BLOCK],
+    bytes: &[u8],
+)
+    ensures { λ _. ⌜ stateStream (now (state .exit)) (now (block .exit)) ≡ updated (stateStream (now (state .entry)) (now (block .entry))) (now (bytes .entry)) ⌝ }
+{
+    let run = sha256::running_of(state);
+    let next = sha256::update(run, block, bytes);
+    let numbers = sha256::numbers_of(next);
+    *state = numbers;
+}
+
+// Writes the digest of the bytes that came, from whatever the state and the block hold.
+#[no_mangle]
+pub extern "C" fn cockledrift_sha256_finish(
+    state: &[u64; RUNNING_NUMBERS],
+    block: &[u8; BLOCK],
+    out: &mut [u8; DIGEST],
+)
+    ensures { λ _. ⌜ now (out .exit) ≡ finished (stateStream (now (state .entry)) (now (block .entry))) ⌝ }
+{
+    let run = sha256::running_of(state);
+    sha256::finish(run, block, out);
 }

@@ -2,10 +2,11 @@
 //! every function is proved to meet its contract.
 //!
 //! A 3d file is read into a *sheet*, a list of records in bytes, and a sheet is
-//! written as a v8 file, or as a v7 file for older programs; a v8 file that was
-//! written here can be edited without its sheet; two files are compared by their
-//! time lines; a [`Reader`] goes through a file item by item. What the bytes of
-//! files and sheets mean, and what each refusal says, is in `docs/FORMAT.md`.
+//! written as a v8 file, or as a v7 file for older
+//! programs; a v8 file that was written here can be edited without its sheet; two
+//! files are compared by their time lines; a [`Reader`] goes through a file item by
+//! item; [`sha256`] tells a file's digest. What the bytes of files and sheets mean,
+//! and what each refusal says, is in `docs/FORMAT.md`.
 //!
 //! Every function takes lent slices and allocates nothing, but for those that
 //! end in `_vec`. No input makes one panic or go on for ever: bad bytes get a
@@ -40,6 +41,7 @@ mod edit;
 mod library;
 mod read;
 mod room;
+mod sha256;
 mod step;
 mod write;
 
@@ -48,5 +50,6 @@ pub use compare::{compare, Later, RefusedFile, Which};
 pub use convert::convert;
 pub use edit::{edit, edit_vec};
 pub use read::{read, read_vec};
+pub use sha256::{sha256, Sha256};
 pub use step::{Opened, Reader, Record, Step, RECORD_LIMIT};
 pub use write::{write, write_v7, write_v7_vec, write_vec};

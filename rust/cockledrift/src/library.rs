@@ -55,6 +55,13 @@ pub struct StepNumbers {
     pub number: u64,
 }
 
+/// How many numbers say what was taken in of a message: eight words and a count.
+pub const RUNNING_NUMBERS: usize = 9;
+
+/// The bytes of a block and of a digest of SHA-256.
+pub const BLOCK: usize = 64;
+pub const DIGEST: usize = 32;
+
 // A slice takes two arguments, its first byte and its length; an array one.
 extern "C" {
     fn cockledrift_read(file: *const u8, n: usize, sheet: *mut u8, m: usize) -> AnswerNumbers;
@@ -96,11 +103,25 @@ extern "C" {
         out: *mut u8,
         m: usize,
     ) -> StepNumbers;
+    fn cockledrift_sha256(bytes: *const u8, n: usize, out: *mut Digest);
+    fn cockledrift_sha256_start(running: *mut Running);
+    fn cockledrift_sha256_update(
+        running: *mut Running,
+        block: *mut Block,
+        bytes: *const u8,
+        n: usize,
+    );
+    fn cockledrift_sha256_finish(running: *const Running, block: *const Block, out: *mut Digest);
 }
 
 /// Where a step reader stands, and the buffer of its label.
 pub type Stand = [u64; STAND_NUMBERS];
 pub type Label = [u8; LABEL_LIMIT];
+
+/// What was taken in of a message, the block that waits, and a digest.
+pub type Running = [u64; RUNNING_NUMBERS];
+pub type Block = [u8; BLOCK];
+pub type Digest = [u8; DIGEST];
 
 /// A lent buffer's two arguments.
 #[inline]
@@ -162,4 +183,24 @@ pub fn next(file: &[u8], stand: &mut Stand, label: &mut Label, out: &mut [u8]) -
     let (out, room) = lend(out);
     // SAFETY: each slice's pointer goes with its length; all that is lent outlives the call.
     unsafe { cockledrift_next(file.as_ptr(), file.len(), stand, label, out, room) }
+}
+
+pub fn sha256(bytes: &[u8], out: &mut Digest) {
+    // SAFETY: the slice's pointer goes with its length; all that is lent outlives the call.
+    unsafe { cockledrift_sha256(bytes.as_ptr(), bytes.len(), out) }
+}
+
+pub fn sha256_start(running: &mut Running) {
+    // SAFETY: what is lent outlives the call.
+    unsafe { cockledrift_sha256_start(running) }
+}
+
+pub fn sha256_update(running: &mut Running, block: &mut Block, bytes: &[u8]) {
+    // SAFETY: the slice's pointer goes with its length; all that is lent outlives the call.
+    unsafe { cockledrift_sha256_update(running, block, bytes.as_ptr(), bytes.len()) }
+}
+
+pub fn sha256_finish(running: &Running, block: &Block, out: &mut Digest) {
+    // SAFETY: what is lent outlives the call.
+    unsafe { cockledrift_sha256_finish(running, block, out) }
 }

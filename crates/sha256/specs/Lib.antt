@@ -1,0 +1,4 @@
+pub mod Words
+pub mod Digest
+pub mod Streams
+pub mod Vectors
