@@ -1,5 +1,6 @@
 //! Links the proved library. Without an archive, or without one of its
 //! functions, the build fails and says how to make it: nothing stands in.
+//! The refusals' names and words come from the header for C.
 
 use std::path::{Path, PathBuf};
 use std::{env, fs};
@@ -31,18 +32,42 @@ const ARCHIVES: [Archive; 1] = [Archive {
 }];
 
 fn main() {
-    let folder = folder();
+    refusals(&root().join("include/cockledrift.h"));
+    let folder = root().join("target/staticlib");
     println!("cargo::rustc-link-search=native={}", folder.display());
     for archive in &ARCHIVES {
         link(&folder, archive);
     }
 }
 
-/// `target/staticlib` of the repository.
-fn folder() -> PathBuf {
+/// The repository's folder.
+fn root() -> PathBuf {
     let here = env::var_os("CARGO_MANIFEST_DIR").expect("cargo names this package's folder");
-    let root = Path::new(&here).ancestors().nth(2).expect("the package is in rust/");
-    root.join("target/staticlib")
+    Path::new(&here).ancestors().nth(2).expect("the package is in rust/").to_path_buf()
+}
+
+/// Writes `refusals.rs`: a constant for each line `X(COCKLEDRIFT_NAME, number,
+/// "words")` of the header, and the words of each number.
+fn refusals(header: &Path) {
+    println!("cargo::rerun-if-changed={}", header.display());
+    let text = fs::read_to_string(header).expect("the header for C is there");
+    let (mut names, mut words) = (String::new(), String::new());
+    for line in text.lines().filter_map(|line| line.trim().strip_prefix("X(COCKLEDRIFT_")) {
+        let line = line.trim_end_matches('\\').trim_end();
+        let mut parts = line.strip_suffix(')').unwrap_or(line).splitn(3, ", ");
+        let [Some(name), Some(number), Some(said)] = [(); 3].map(|()| parts.next()) else {
+            panic!("no refusal of the header: {line}");
+        };
+        names += &format!("/// {}.\npub const {name}: u8 = {number};\n", said.trim_matches('"'));
+        words += &format!("{number} => {said},\n");
+    }
+    let text = format!(
+        "/// The number of each refusal, by name.\npub mod number {{\n{names}}}\n\
+         fn words(number: u8) -> &'static str {{\nmatch number {{\n{words}\
+         _ => \"no such number\",\n}}\n}}\n"
+    );
+    let out = PathBuf::from(env::var_os("OUT_DIR").expect("cargo names a folder to write to"));
+    fs::write(out.join("refusals.rs"), text).expect("cargo's folder can be written to");
 }
 
 /// Links an archive that has all its functions.

@@ -6,6 +6,8 @@ use crate::library::AnswerNumbers;
 use std::error::Error;
 use std::fmt;
 
+include!(concat!(env!("OUT_DIR"), "/refusals.rs"));
+
 /// What reading, writing, converting and editing answer.
 pub type Answer = Result<Done, Refusal>;
 
@@ -29,7 +31,7 @@ pub struct Done {
 /// ```
 #[derive(Clone, Copy, PartialEq, Eq, Hash, Debug)]
 pub struct Refusal {
-    /// What is wrong: `docs/FORMAT.md` has the table.
+    /// What is wrong: one of [`number`], and `docs/FORMAT.md` has the table.
     pub number: u8,
     /// Where it applies. For most numbers that is a place in the file; 11 has
     /// the length needed, 12 and 13 a record's number and 15 the record count.
@@ -46,31 +48,18 @@ impl Refusal {
     /// assert_eq!(refusal.needed(), Some(10));
     /// ```
     pub fn needed(&self) -> Option<usize> {
-        (self.number == 11).then_some(self.place)
+        (self.number == number::BUFFER_TOO_SMALL).then_some(self.place)
     }
 
-    /// What the number says, in a few words.
+    /// What the number says, in a few words: those of the header for C.
+    ///
+    /// ```
+    /// let refusal = cockledrift::read(b"", &mut []).unwrap_err();
+    /// assert_eq!(refusal.number, cockledrift::number::NO_3D_FILE);
+    /// assert_eq!(refusal.reason(), "no 3d file");
+    /// ```
     pub fn reason(&self) -> &'static str {
-        match self.number {
-            1 => "no 3d file",
-            2 => "no version from 3 to 8",
-            3 => "a bad title or time line, or no v8 byte",
-            4 => "a reserved code or bit",
-            5 => "an item is unfinished, or the end is missing",
-            6 => "the label is too short to drop from",
-            7 => "the label is over 4,096 bytes",
-            8 => "a leg with no position to start from",
-            9 => "the last day is before the first, or a day is over 65535",
-            10 => "bytes after the end",
-            11 => "the buffer is too small",
-            12 => "the sheet breaks the layout",
-            13 => "the style cannot be unsaid",
-            14 => "not what the writer gives for this file's sheet",
-            15 => "the run ends past the last record",
-            16 => "the file is over 16,777,216 bytes",
-            17 => "the time line is not readable",
-            _ => "no such number",
-        }
+        words(self.number)
     }
 }
 

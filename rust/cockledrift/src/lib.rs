@@ -8,9 +8,22 @@
 //! item; [`sha256`] tells a file's digest. What the bytes of files and sheets mean,
 //! and what each refusal says, is in `docs/FORMAT.md`.
 //!
+//! [`Sheet`] and [`Record`] have these as values:
+//!
+//! ```
+//! use cockledrift::{Record, Sheet};
+//!
+//! let file = std::fs::read("../testdata/passage.v8.3d")?;
+//! let sheet = Sheet::read(&file)?;
+//! assert_eq!(sheet.header().title, b"Passage sizes and styles");
+//! let legs = sheet.records().filter(|record| matches!(record, Record::Leg(_)));
+//! assert_eq!(legs.count(), 11);
+//! # Ok::<(), Box<dyn std::error::Error>>(())
+//! ```
+//!
 //! Every function takes lent slices and allocates nothing, but for those that
-//! end in `_vec`. No input makes one panic or go on for ever: bad bytes get a
-//! [`Refusal`], which has a number and a place.
+//! end in `_vec` and those of `Sheet`. No input makes one panic or go on for
+//! ever: bad bytes get a [`Refusal`], which has a number and a place.
 //!
 //! ```
 //! # fn main() -> Result<(), cockledrift::Refusal> {
@@ -23,6 +36,11 @@
 //! # Ok(())
 //! # }
 //! ```
+//!
+//! # Threads
+//!
+//! The library keeps nothing between calls: any number of threads may call at
+//! once, on the same file too.
 //!
 //! # Lent buffers
 //!
@@ -38,18 +56,24 @@ mod answer;
 mod compare;
 mod convert;
 mod edit;
+#[cfg(test)]
+mod layout;
 mod library;
 mod read;
+mod record;
 mod room;
 mod sha256;
+mod sheet;
 mod step;
 mod write;
 
-pub use answer::{Answer, Done, Refusal};
+pub use answer::{number, Answer, Done, Refusal};
 pub use compare::{compare, Later, RefusedFile, Which};
 pub use convert::convert;
 pub use edit::{edit, edit_vec};
 pub use read::{read, read_vec};
+pub use record::{Date, Leg, Point, Record, Records, Section, Station, Traverse};
 pub use sha256::{sha256, Sha256};
-pub use step::{Opened, Reader, Record, Step, RECORD_LIMIT};
+pub use sheet::{Header, Sheet};
+pub use step::{Found, Opened, Reader, Step, RECORD_LIMIT};
 pub use write::{write, write_v7, write_v7_vec, write_vec};

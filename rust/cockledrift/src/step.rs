@@ -4,7 +4,8 @@
 
 use crate::answer::byte;
 use crate::library::{self, Label, OpenNumbers, Stand, StepNumbers, LABEL_LIMIT, STAND_NUMBERS};
-use crate::Refusal;
+use crate::record::SheetVersion;
+use crate::{Record, Refusal};
 
 /// What opening answers: the version of the file, and the place of its first
 /// item.
@@ -18,7 +19,7 @@ pub struct Opened {
 
 /// A record that a step wrote to the front of the lent buffer.
 #[derive(Clone, Copy, PartialEq, Eq, Hash, Debug)]
-pub struct Record {
+pub struct Found {
     /// Its bytes, with the two length bytes.
     pub bytes: usize,
     /// How many bytes of the label stayed since the last item that carried one;
@@ -26,11 +27,22 @@ pub struct Record {
     pub kept: usize,
 }
 
+impl Found {
+    /// The record in the buffer that was lent to the step.
+    ///
+    /// # Panics
+    ///
+    /// In another buffer, where no record stands at the front.
+    pub fn record<'o>(&self, out: &'o [u8]) -> Record<'o> {
+        Record::of(&out[2..self.bytes], SheetVersion::Two).expect("the buffer of the step")
+    }
+}
+
 /// What one step came to.
 #[derive(Clone, Copy, PartialEq, Eq, Hash, Debug)]
 pub enum Step {
     /// An item that makes a record.
-    Record(Record),
+    Record(Found),
     /// An item that makes none.
     Nothing,
     /// The end of the file, again and again.
@@ -46,8 +58,9 @@ pub enum Step {
 /// let (mut reader, opened) = Reader::open(file);
 /// assert_eq!(opened?.place, 30);
 /// let mut out = [0; RECORD_LIMIT];
-/// let record = reader.next(&mut out)?.expect("a station");
-/// assert_eq!((record.bytes, record.kept), (17, 0));
+/// let found = reader.next(&mut out)?.expect("a station");
+/// assert_eq!((found.bytes, found.kept), (17, 0));
+/// assert_eq!(found.record(&out).label(), b"a");
 /// assert_eq!(reader.next(&mut out)?, None);
 /// # Ok::<(), cockledrift::Refusal>(())
 /// ```
@@ -92,9 +105,9 @@ impl<'f> Reader<'f> {
 
     /// Steps on to the next record, or to the end, where there is none.
     #[inline]
-    pub fn next(&mut self, out: &mut [u8]) -> Result<Option<Record>, Refusal> {
+    pub fn next(&mut self, out: &mut [u8]) -> Result<Option<Found>, Refusal> {
         match stepped(library::next(self.file, &mut self.stand, &mut self.label, out))? {
-            Step::Record(record) => Ok(Some(record)),
+            Step::Record(found) => Ok(Some(found)),
             Step::End => Ok(None),
             Step::Nothing => unreachable!("the library goes on until something is answered"),
         }
@@ -113,7 +126,7 @@ fn opened(numbers: OpenNumbers) -> Result<Opened, Refusal> {
 fn stepped(numbers: StepNumbers) -> Result<Step, Refusal> {
     let StepNumbers { what, bytes, kept, number } = numbers;
     match what {
-        1 => Ok(Step::Record(Record { bytes, kept })),
+        1 => Ok(Step::Record(Found { bytes, kept })),
         2 => Ok(Step::Nothing),
         3 => Ok(Step::End),
         4 => Err(Refusal { number: byte(number), place: bytes }),

@@ -75,7 +75,7 @@ impl<'f> Reader<'f> {
     #[inline]
     pub fn step(&mut self, out: &mut [u8]) -> Step {
         match self.0.step(out) {
-            Ok(cockledrift::Step::Record(cockledrift::Record { bytes, kept })) => {
+            Ok(cockledrift::Step::Record(cockledrift::Found { bytes, kept })) => {
                 Step::Record { bytes, kept }
             }
             Ok(cockledrift::Step::Nothing) => Step::Nothing,
@@ -87,7 +87,7 @@ impl<'f> Reader<'f> {
     #[inline]
     pub fn next(&mut self, out: &mut [u8]) -> Step {
         match self.0.next(out) {
-            Ok(Some(cockledrift::Record { bytes, kept })) => Step::Record { bytes, kept },
+            Ok(Some(cockledrift::Found { bytes, kept })) => Step::Record { bytes, kept },
             Ok(None) => Step::End,
             Err(cockledrift::Refusal { number, place }) => Step::Refused { number, place },
         }
