@@ -92,6 +92,22 @@ struct cockledrift_answer {
 struct cockledrift_answer cockledrift_read(const uint8_t *file, size_t file_bytes, uint8_t *sheet, size_t sheet_room)
     COCKLEDRIFT_LENT;
 
+/* What salvaging answers: as reading, and a report. */
+struct cockledrift_salvaged {
+    uint64_t refused; /* COCKLEDRIFT_DONE, or the number of a refusal: then all below is 0 but the place */
+    size_t bytes;     /* the bytes of the sheet */
+    size_t records;   /* its records, its header not counted */
+    uint64_t version; /* the version of the file */
+    uint64_t number;  /* the report: the refusal that reading gives, or COCKLEDRIFT_DONE for a whole file */
+    size_t place;     /* its place, or the file's length for a whole file; refused: the refusal's place */
+    size_t left;      /* the file's bytes from that place on */
+};
+
+/* Saves what can be saved of a file whose header reads: `sheet` has the sheet of all records made by items before the
+   first refused one at the front. Refused with the header's refusals and COCKLEDRIFT_BUFFER_TOO_SMALL alone. */
+struct cockledrift_salvaged cockledrift_salvage(const uint8_t *file, size_t file_bytes, uint8_t *sheet,
+                                                size_t sheet_room) COCKLEDRIFT_LENT;
+
 /* Writes a sheet, of version 1 or 2, as a v8 file. Done: `out` has the file at the front. */
 struct cockledrift_answer cockledrift_write(const uint8_t *sheet, size_t sheet_bytes, uint8_t *out, size_t out_room)
     COCKLEDRIFT_LENT;
@@ -240,6 +256,14 @@ COCKLEDRIFT_AT(cockledrift_answer, number, 0, 8);
 COCKLEDRIFT_AT(cockledrift_answer, bytes, 8, 8);
 COCKLEDRIFT_AT(cockledrift_answer, records, 16, 8);
 COCKLEDRIFT_AT(cockledrift_answer, version, 24, 8);
+COCKLEDRIFT_LAYOUT(sizeof(struct cockledrift_salvaged) == 56);
+COCKLEDRIFT_AT(cockledrift_salvaged, refused, 0, 8);
+COCKLEDRIFT_AT(cockledrift_salvaged, bytes, 8, 8);
+COCKLEDRIFT_AT(cockledrift_salvaged, records, 16, 8);
+COCKLEDRIFT_AT(cockledrift_salvaged, version, 24, 8);
+COCKLEDRIFT_AT(cockledrift_salvaged, number, 32, 8);
+COCKLEDRIFT_AT(cockledrift_salvaged, place, 40, 8);
+COCKLEDRIFT_AT(cockledrift_salvaged, left, 48, 8);
 COCKLEDRIFT_LAYOUT(sizeof(struct cockledrift_compared) == 40);
 COCKLEDRIFT_AT(cockledrift_compared, which, 0, 8);
 COCKLEDRIFT_AT(cockledrift_compared, file, 8, 8);

@@ -34,6 +34,7 @@ def _numbers(*fields):
 
 
 _Answer = _numbers("number", "bytes", "records", "version")
+_Salvaged = _numbers("refused", "bytes", "records", "version", "number", "place", "left")
 _Compared = _numbers("which", "file", "number", "place", "length")
 _Opened = _numbers("number", "place", "version")
 _Stepped = _numbers("what", "bytes", "kept", "number")
@@ -50,6 +51,7 @@ def _declare(name, answer, *arguments):
 
 _step_arguments = (_bytes, _size, ctypes.POINTER(_Stand), ctypes.POINTER(_Label), _out, _size)
 _read = _declare("read", _Answer, _bytes, _size, _out, _size)
+_salvage = _declare("salvage", _Salvaged, _bytes, _size, _out, _size)
 _write = _declare("write", _Answer, _bytes, _size, _out, _size)
 _write_v7 = _declare("write_v7", _Answer, _bytes, _size, _out, _size)
 _convert = _declare("convert", _Answer, _bytes, _size, _out, _size, _out, _size)
@@ -220,6 +222,25 @@ class Sheet:
 def read(file: bytes) -> Sheet:
     """The sheet of a file, v3 to v8."""
     return Sheet(*_filled(lambda out, room: _read(file, len(file), out, room)))
+
+
+class Salvaged(NamedTuple):
+    sheet: Sheet
+    number: int  # the refusal that read gives, or 0 for a whole file
+    place: int  # its place, or the file's length
+    left: int  # the file's bytes from that place on
+
+
+def salvage(file: bytes) -> Salvaged:
+    """What can be saved of a file: the sheet of all records made by items before the first refused one."""
+    buffer = ctypes.create_string_buffer(1)
+    answer = _salvage(file, len(file), buffer, 0)
+    if answer.refused == BUFFER_TOO_SMALL:
+        buffer = ctypes.create_string_buffer(answer.place)
+        answer = _salvage(file, len(file), buffer, len(buffer))
+    if answer.refused:
+        raise Refusal(answer.refused, answer.place)
+    return Salvaged(Sheet(buffer.raw[: answer.bytes], answer.version), answer.number, answer.place, answer.left)
 
 
 def _sheet_bytes(sheet: Union[Sheet, bytes]) -> bytes:

@@ -16,6 +16,7 @@ const ARCHIVES: [Archive; 1] = [Archive {
     name: "capi",
     functions: &[
         "read",
+        "salvage",
         "write",
         "write_v7",
         "convert",

@@ -13,15 +13,18 @@ ghost use Rattle.step.specs.Standing.{Opens};
 ghost use Rattle.step.specs.Going.{nextRecord, nextBuffer};
 ghost use Rattle.held.specs.Numbers.{heldOf, stateStand};
 ghost use Rattle.told.specs.Numbers.{outcomeNumbers, openNumbers, stepNumbers};
+ghost use Rattle.read.specs.Salvage.{salvageOutcome, salvageBuffer, salvagedOf};
 ghost use Rattle.sha256.specs.Digest.{sha256Of};
 ghost use Rattle.sha256.specs.Streams.{updated, finished, begun, runningOf, stateStream};
 ghost use Rattle.capi.specs.Compares.{comparedOf};
+ghost use Rattle.capi.specs.Salvages.{salvageNumbers};
 use format::Handed;
 use format::LABEL_LIMIT;
 use format::Later;
 use format::Stepped;
 use held::Brief;
 use held::STAND_NUMBERS;
+use read::Salvaged;
 use sha256::BLOCK;
 use sha256::DIGEST;
 use sha256::RUNNING_NUMBERS;
@@ -49,6 +52,64 @@ pub extern "C" fn cockledrift_read(file: &[u8], sheet: &mut [u8]) -> AnswerNumbe
 {
     let a = read::read(file, sheet);
     told::tell(a)
+}
+
+// What can be saved of a file. Refused 0 is success, with the sheet's bytes and records, the
+// file's version, and the report: the refusal's number, or 0 for a whole file, its place, and
+// how many of the file's bytes stand from there on. Any other is the number of a refusal, with
+// its place.
+#[repr(C)]
+pub struct SalvageNumbers {
+    pub refused: u64,
+    pub bytes: usize,
+    pub records: usize,
+    pub version: u64,
+    pub number: u64,
+    pub place: usize,
+    pub left: usize,
+}
+
+fn tell_saved(s: Salvaged) -> SalvageNumbers
+    ensures { λ r. ⌜ r ≡ salvageNumbers (salvagedOf s) ⌝ }
+{
+    match s {
+        Salvaged::Saved {
+            bytes,
+            records,
+            version,
+            number,
+            place,
+            left,
+        } => SalvageNumbers {
+            refused: 0,
+            bytes,
+            records,
+            version: told::long(version),
+            number: told::long(number),
+            place,
+            left,
+        },
+        Salvaged::Refused { number, place } => SalvageNumbers {
+            refused: told::long(number),
+            bytes: 0,
+            records: 0,
+            version: 0,
+            number: 0,
+            place,
+            left: 0,
+        },
+    }
+}
+
+// Salvages a file: the records made by items before the first refused one go to the lent
+// sheet.
+#[no_mangle]
+pub extern "C" fn cockledrift_salvage(file: &[u8], sheet: &mut [u8]) -> SalvageNumbers
+    ensures answer { λ r. ⌜ r ≡ salvageNumbers (salvageOutcome (now (file .entry)) (length (now (sheet .entry)))) ⌝ }
+    ensures sheet { λ _. ⌜ now (sheet .exit) ≡ salvageBuffer (now (file .entry)) (now (sheet .entry)) ⌝ }
+{
+    let s = read::salvage(file, sheet);
+    tell_saved(s)
 }
 
 // Writes a sheet as a v8 file into the lent buffer.

@@ -8,6 +8,7 @@ pub mod GoodRecords
 pub mod HeaderLaws
 pub mod IterateLaws
 pub mod LabelLaws
+pub mod OpeningLaws
 pub mod Orders
 pub mod OurFiles
 pub mod OutlineCases

@@ -8,6 +8,7 @@ use lib.ListN.{length, take, drop}
 use Rattle.format.specs.State.{State, start}
 use Rattle.format.specs.Refusals.{stop}
 use Rattle.format.specs.declared.Verdict.{Verdict}
+use Rattle.format.specs.declared.Verdict.the-variants.{Good, Refusal}
 use Rattle.format.specs.Reading.{next, run, itemsOf}
 use Rattle.format.proofs.ReadingLaws.{there-within, left-bad, left-after, left-done, left-on, left-made}
 use Rattle.measure.specs.Measures.{Keeps, Goes, Makes, Measures, ComesIn}
@@ -15,7 +16,6 @@ use Rattle.measure.specs.Totals.{passedBy, passOf}
 use Rattle.measure.specs.declared.Measured.{Measured}
 use Rattle.measure.specs.declared.Measured.the-variants.{Bad, End, Styled, Moved, Passes, Made}
 use Rattle.measure.specs.declared.Passed.{Passed}
-use Rattle.measure.specs.declared.Passed.the-variants.{Refused, Done}
 use Rattle.measure.proofs.Sums.{pass-also, pass-stop}
 
 -- what is left of the file, in a state of which this is kept, comes with the counts so far to the same as the whole
@@ -64,13 +64,13 @@ module _ (file : List ℕ) (place front at out records len style : ℕ) (placed 
   pub ends : {v : Verdict} → run 8 at (drop at file) (G .state) ≡ stop v → passedBy v out records ≡ whole
   ends {v} e = sym (pass-stop out records v) ∙ rw e at (G .answer)
 
-  pub ends-bad : (k : ℕ) → Found (Bad k) → Refused k at ≡ whole
+  pub ends-bad : (k : ℕ) → Found (Bad k) → passedBy (Refusal k at) out records ≡ whole
   ends-bad k f = ends (left-bad 8 file at (G .state) (sym (found (Bad k) f)))
 
-  pub ends-after : Found End → 1 < length (drop at file) → Refused 10 (at + 1) ≡ whole
+  pub ends-after : Found End → 1 < length (drop at file) → passedBy (Refusal 10 (at + 1)) out records ≡ whole
   ends-after f h = ends (left-after 8 file at (G .state) (sym (found End f)) h)
 
-  pub ends-done : Found End → length (drop at file) ≤ 1 → Done out records ≡ whole
+  pub ends-done : Found End → length (drop at file) ≤ 1 → passedBy Good out records ≡ whole
   ends-done f h = ends (left-done 8 file at (G .state) (sym (found End f)) h)
 
   -- an item that makes no record

@@ -3,15 +3,12 @@ use Prim.Native.Nat.{ℕ, _+_}
 use lib.ListN.{length}
 use Rattle.format.specs.Sheet.{sheetVersion, layoutAll}
 use Rattle.format.specs.Refusals.{Result}
-use Rattle.format.specs.declared.Verdict.the-variants.{Good, Refusal}
 use Rattle.format.specs.declared.Verdict.{Verdict}
 use Rattle.measure.specs.declared.Passed.{Passed}
-use Rattle.measure.specs.declared.Passed.the-variants.{Refused, Done}
 
 abbrev pub passedBy : Verdict → ℕ → ℕ → Passed
-passedBy Good bytes records = Done bytes records
-passedBy (Refusal number place) bytes records = Refused number place
+passedBy v bytes records = record { verdict = v; bytes = bytes; records = records }
 
--- the answer to a result with so many bytes and records before it
+-- why a reading stopped, with so many bytes and records before its own
 unfoldable pub passOf : ℕ → ℕ → Result → Passed
 passOf bytes records x = passedBy (x .verdict) (bytes + length (layoutAll sheetVersion (x .records))) (records + length (x .records))

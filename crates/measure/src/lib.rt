@@ -2,6 +2,7 @@
 // labels count here, so no label is kept: v3 to v7 look for dots, and v8 does not.
 use format::LABEL_LIMIT;
 use format::LabelPart;
+use format::Verdict;
 use kind::Kind;
 use kind::Tail;
 use kind::new_kind;
@@ -28,10 +29,12 @@ ghost use Rattle.format.specs.Header.{fileLimit};
 ghost use Rattle.format.specs.Label.{labelLimit};
 ghost use Rattle.format.specs.Sheet.{frontLimit};
 
-// What the items of a file come to: a refusal; or the sheet's bytes and records.
-pub enum Passed {
-    Refused { number: u8, place: usize },
-    Done { bytes: usize, records: usize },
+// What the items of a file come to: the sheet's bytes and records before the first refused
+// item, and the refusal, if there is one.
+pub struct Passed {
+    pub verdict: Verdict,
+    pub bytes: usize,
+    pub records: usize,
 }
 
 // What an item comes to: a refusal; the end; another style; a position; its size, where
@@ -302,6 +305,17 @@ fn measure_item(s: &[u8], len: usize, style: u8, placed: bool) -> Measured
     }
 }
 
+// What the items come to where they stop for this reason, after so many bytes and records.
+pub fn stopped(verdict: Verdict, bytes: usize, records: usize) -> Passed
+    ensures { λ r. ⌜ r ≡ record { verdict = verdict; bytes = bytes; records = records } ⌝ }
+{
+    Passed {
+        verdict,
+        bytes,
+        records,
+    }
+}
+
 // The items of a v8 file from `place` on: the answer for a sheet with room enough, whose
 // first record goes to `front`.
 pub fn measure(file: &[u8], place: usize, front: usize) -> Passed
@@ -319,19 +333,14 @@ pub fn measure(file: &[u8], place: usize, front: usize) -> Passed
         let it = measure_item(rest, len, style, placed);
         match it {
             Measured::Bad { number } => {
-                return Passed::Refused { number, place: at };
+                return stopped(Verdict::Refusal { number, place: at }, out, records);
             }
             Measured::End => {
                 if 1 < rest.len() {
-                    return Passed::Refused {
-                        number: 10,
-                        place: at + 1,
-                    };
+                    let place = at + 1;
+                    return stopped(Verdict::Refusal { number: 10, place }, out, records);
                 }
-                return Passed::Done {
-                    bytes: out,
-                    records,
-                };
+                return stopped(Verdict::Good, out, records);
             }
             Measured::Styled { style: to } => {
                 style = to;

@@ -1,3 +1,6 @@
 pub mod Room
 pub mod Turn
 pub mod Quickly
+pub mod Whole
+pub mod FrontLaws
+pub mod SalvageLaws

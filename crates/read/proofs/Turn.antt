@@ -33,7 +33,6 @@ use denote.Enum.Declared.{tagOf}
 use Rattle.format.proofs.SheetLaws.{layout-size}
 use Rattle.measure.specs.Totals.{passedBy, passOf}
 use Rattle.measure.specs.declared.Passed.{Passed}
-use Rattle.measure.specs.declared.Passed.the-variants.{Refused, Done}
 use Rattle.measure.proofs.Sums.{pass-also, pass-stop}
 use Rattle.laying.specs.Quickly.{laidBy}
 use Rattle.read.specs.Pass.{lay, ReadsTo}
@@ -118,13 +117,13 @@ module _ (version : ℕ) (file : List ℕ) (place : ℕ) (sheet₀ : List ℕ) (
   unfolding lay
   ends {v} e q = (sym (pass-stop out records v) ∙ rw e at (G .answer), q ∙ rw e at (G .sheet-is))
 
-  pub ends-bad : (k : ℕ) (b s : List ℕ) → Found version file at setting label (Bad k) b → Laid s → Ends (Refused k at) s
+  pub ends-bad : (k : ℕ) (b s : List ℕ) → Found version file at setting label (Bad k) b → Laid s → Ends (passedBy (Refusal k at) out records) s
   ends-bad k b s T e = ends (left-bad version file at state (T .same)) (rw (← T .same) at e)
 
-  pub ends-after : (b s : List ℕ) → Found version file at setting label End b → Laid s → 1 < length (drop at file) → Ends (Refused 10 (at + 1)) s
+  pub ends-after : (b s : List ℕ) → Found version file at setting label End b → Laid s → 1 < length (drop at file) → Ends (passedBy (Refusal 10 (at + 1)) out records) s
   ends-after b s T e h = ends (left-after version file at state (T .same) h) (rw (← T .same) at e)
 
-  pub ends-done : (b s : List ℕ) → Found version file at setting label End b → Laid s → length (drop at file) ≤ 1 → Ends (Done out records) s
+  pub ends-done : (b s : List ℕ) → Found version file at setting label End b → Laid s → length (drop at file) ≤ 1 → Ends (passedBy Good out records) s
   ends-done b s T e h = ends (left-done version file at state (T .same) h) (rw (← T .same) at e)
 
   -- the item's bytes are there; which buffer they are seen by is all one
@@ -181,7 +180,7 @@ lay-fits (r ∷ rs) d k h =
     rw (laid-some d R k h1) (lay-fits rs (laid d k R) (k + length R) h2 ∙ laid-next d R (layoutAll sheetVersion rs) k (omega arith))
 
 -- what is laid into the first b bytes is laid into the whole
-lay-within : (rs : List Record) (d : List ℕ) (k b : ℕ) → k + length (layoutAll sheetVersion rs) ≤ b → b ≤ length d → lay (take b d) k rs ++ drop b d ≡ lay d k rs
+pub lay-within : (rs : List Record) (d : List ℕ) (k b : ℕ) → k + length (layoutAll sheetVersion rs) ≤ b → b ≤ length d → lay (take b d) k rs ++ drop b d ≡ lay d k rs
 lay-within rs d k b h j =
     let n = length-take-le b d j in
     rw (lay-fits rs (take b d) k (omega arith), lay-fits rs d k (omega arith)) (laid-within d (layoutAll sheetVersion rs) k b h j)
@@ -197,85 +196,3 @@ lay-behind front rest old rs k e f h =
     ∙ ap (λ (n : ℕ). laid (laid old 0 front) n rest) z
     ∙ laid-next old front rest 0 (omega arith)
     ∙ laid-zero old (front ++ rest))
-
--- ---- `read`: which way the answer goes
-
--- what a measuring pass says of the bytes
-done-bytes : (b n front : ℕ) (x : Result) → Done b n ≡ passOf front 0 x → (x .verdict ≡ Good) × (b ≡ front + length (layoutAll sheetVersion (x .records))) × (n ≡ length (x .records))
-unfolding passOf
-done-bytes b n front x e = go (x .verdict) refl e
-  where
-    go : (v : Verdict) → x .verdict ≡ v → Done b n ≡ passedBy v (front + length (layoutAll sheetVersion (x .records))) (0 + length (x .records)) → (x .verdict ≡ Good) × (b ≡ front + length (layoutAll sheetVersion (x .records))) × (n ≡ length (x .records))
-    go Good q e = (q, cc, (let z : n ≡ 0 + length (x .records) = cc in z ∙ zero-add _))
-    go (Refusal k p) q e = absurd (let z : _≡_ {A = ℕ} 0 1 = cc in omega arith)
-
-refused-is : (k p front : ℕ) (x : Result) → Refused k p ≡ passOf front 0 x → x .verdict ≡ Refusal k p
-unfolding passOf
-refused-is k p front x e = go (x .verdict) refl e
-  where
-    go : (v : Verdict) → x .verdict ≡ v → Refused k p ≡ passedBy v (front + length (layoutAll sheetVersion (x .records))) (0 + length (x .records)) → x .verdict ≡ Refusal k p
-    go Good q e = absurd (let z : _≡_ {A = ℕ} 0 1 = cc in omega arith)
-    go (Refusal j r) q e = q ∙ cc
-
--- the length of a sheet's front and records
-sheet-length : (h : Header) (rs : List Record) → length (sheetOf sheetVersion h rs) ≡ 7 + length (h .title) + length (h .time) + length (layoutAll sheetVersion rs)
-unfolding sheetOf
-sheet-length h rs = let l = header-length h in let a = length-append (headerLayout h) (layoutAll sheetVersion rs) in omega arith
-
-module _ (file old : List ℕ) (v p e t m : ℕ) (O : Opens file v p e t m) where
-  abbrev h : Header
-  h = saying e t m file
-
-  abbrev x : Result
-  x = itemsOf v p file
-
-  abbrev pub front : ℕ
-  front = 7 + t + m
-
-  pub title-length : length (h .title) ≡ t
-  title-length = let r = O .room in length-take-le t (drop 24 file) (simp length-drop (omega (arith, r .place-least, r .inside)))
-
-  pub time-length : length (h .time) ≡ m
-  time-length = let r = O .room in length-take-le m (drop (25 + t) file) (simp length-drop (omega (arith, r .place-least, r .inside)))
-
-  front-length : length (sheetVersion ∷ headerLayout h) ≡ front
-  front-length = let a = title-length in let b = time-length in let q = header-length h in omega arith
-
-  bytes-are : length (sheetOf sheetVersion h (x .records)) ≡ front + length (layoutAll sheetVersion (x .records))
-  bytes-are = let a = title-length in let b = time-length in let q = sheet-length h (x .records) in omega arith
-
-  pub read-refused : (k q : ℕ) → Refused k q ≡ passOf front 0 x → ReadsTo file old (AnswerRefused k q) old
-  unfolding readOutcome readBuffer
-  read-refused k q d = let w = refused-is k q front x d in record { answer = rw (O .due, w); buffer = rw (O .due, w) }
-
-  module _ (b n : ℕ) (d : Done b n ≡ passOf front 0 x) where
-    sheet-bytes : length (sheetOf sheetVersion h (x .records)) ≡ b
-    sheet-bytes = bytes-are ∙ sym (done-bytes b n front x d .1)
-
-    pub read-small : length old < b → ReadsTo file old (AnswerRefused 11 b) old
-    unfolding readOutcome readBuffer pick
-    read-small l =
-        let w = done-bytes b n front x d in
-        record { answer = simp (O .due, w .0, sheet-bytes, lt-ltb _ _ l); buffer = simp (O .due, w .0, sheet-bytes, lt-ltb _ _ l) }
-
-    pub front-fits : b ≤ length old → front ≤ length old
-    front-fits l = let w = done-bytes b n front x d .1 in omega arith
-
-    -- the second pass is lent just the bytes that are needed
-    pub read-done : b ≤ length old → (s y : List ℕ) → s ≡ over (sheetVersion ∷ headerLayout h) old → y ≡ lay (take b s) front (x .records) → ReadsTo file old (AnswerDone b n v) (y ++ drop b s)
-    unfolding readOutcome readBuffer pick sheetOf
-    read-done l s y p q =
-        let w = done-bytes b n front x d in
-        let k : front + length (layoutAll sheetVersion (x .records)) ≤ length old = (let z = w .1 in omega arith) in
-        let m : length s ≡ length old = ap length p ∙ length-over (sheetVersion ∷ headerLayout h) old (omega (arith, front-length)) in
-        let r : y ++ drop b s ≡ lay (over (sheetVersion ∷ headerLayout h) old) front (x .records) =
-        ap (λ (z : List ℕ). z ++ drop b s) q ∙ lay-within (x .records) s front b (omega (arith, w .1)) (omega arith) ∙ ap (λ (z : List ℕ). lay z front (x .records)) p in
-        record {
-          answer = simp (O .due, w .0, sheet-bytes, le-ltb _ _ l, w .2);
-          buffer = r ∙ lay-behind (sheetVersion ∷ headerLayout h) (layoutAll sheetVersion (x .records)) old (x .records) front refl front-length k ∙ simp (O .due, w .0, sheet-bytes, le-ltb _ _ l);
-        }
-
--- a refused opening
-pub read-shut : (file old : List ℕ) (k q : ℕ) → shut k q ≡ openingOf file → ReadsTo file old (AnswerRefused k q) old
-unfolding readOutcome readBuffer
-read-shut file old k q e = record { answer = rw (← e); buffer = rw (← e) }

@@ -1,12 +1,16 @@
 -- A pass over the items of a file: the records laid into a sheet as they are made. Assumes nothing.
-use Prim.Native.Nat.{ℕ, _+_}
+use Prim.Native.Nat.{ℕ, _+_, _≤_}
 use mathlib.Core.List.{List, [], _∷_}
 use lib.ListN.{length}
 use Rattle.format.specs.State.{Record}
-use Rattle.format.specs.Sheet.{sheetVersion, layout}
+use Rattle.format.specs.Sheet.{sheetVersion, layout, sheetOf}
 use Rattle.wire.specs.Laid.{laidIf}
 use mathlib.Core.Path.{_≡_}
-use Rattle.format.specs.Reading.{readOutcome, readBuffer}
+use Rattle.format.specs.Reading.{itemsOf, readOutcome, readBuffer}
+use Rattle.format.specs.Refusals.{Result}
+use Rattle.header.specs.Head.{saying, Opens}
+use Rattle.measure.specs.declared.Passed.{Passed}
+use Rattle.read.specs.declared.Heading.{Heading}
 use Rattle.format.specs.Answers.{answerOf}
 use Rattle.format.specs.declared.Answer.{Answer}
 
@@ -14,6 +18,29 @@ use Rattle.format.specs.declared.Answer.{Answer}
 unfoldable pub lay : List ℕ → ℕ → List Record → List ℕ
 lay d k [] = d
 lay d k (r ∷ rs) = lay (laidIf d k (layout sheetVersion r)) (k + length (layout sheetVersion r)) rs
+
+-- a header that was opened
+abbrev pub Headed : List ℕ → Heading → Type 0
+Headed file h = Opens file (h .version) (h .place) (h .extended) (h .title) (h .time)
+
+-- the records of a file's items, and why reading them stops
+abbrev pub resultOf : List ℕ → Heading → Result
+resultOf file h = itemsOf (h .version) (h .place) file
+
+-- their sheet
+abbrev pub sheetOfHead : List ℕ → Heading → List ℕ
+sheetOfHead file h = sheetOf sheetVersion (saying (h .extended) (h .title) (h .time) file) (resultOf file h .records)
+
+-- `judged`: why reading stops, and the bytes and records of the sheet before that
+pub record Judges (file : List ℕ) (h : Heading) (r : Passed) : Type 0 where
+  pub verdict-is : r .verdict ≡ resultOf file h .verdict
+  pub bytes-are : r .bytes ≡ length (sheetOfHead file h)
+  pub records-are : r .records ≡ length (resultOf file h .records)
+
+-- `fill`: the sheet has so many bytes, and they are there
+pub record Fills (file : List ℕ) (h : Heading) (bytes : ℕ) (sheet : List ℕ) : Type 0 where
+  pub bytes-are : bytes ≡ length (sheetOfHead file h)
+  pub fits : bytes ≤ length sheet
 
 -- an answer and the sheet after it are what reading the file gives
 pub record ReadsTo (file old : List ℕ) (a : Answer) (sheet : List ℕ) : Type 0 where

@@ -12,8 +12,9 @@ ghost use Rattle.measure.specs.Totals.{passOf};
 ghost use Rattle.format.specs.Items.{itemOf};
 ghost use Rattle.format.specs.Outline.{dropLeaves};
 ghost use Rattle.laying.specs.Quickly.{laidBy, Quickly};
-ghost use Rattle.read.specs.Pass.{lay, ReadsTo};
-ghost use Rattle.header.specs.Head.{Opens};
+ghost use Rattle.read.specs.Pass.{lay, Headed, Judges, Fills, sheetOfHead, ReadsTo};
+ghost use Rattle.read.specs.Salvage.{reportNumber, reportPlace, salvageOutcome, salvageBuffer, salvagedOf, SalvagesTo};
+ghost use Rattle.format.specs.Bytes.{over};
 ghost use Rattle.format.specs.Header.{fileLimit};
 ghost use Rattle.format.specs.Label.{labelLimit};
 ghost use Rattle.format.specs.Sheet.{frontLimit};
@@ -21,6 +22,7 @@ use format::Answer;
 use format::LABEL_LIMIT;
 use format::Position;
 use format::Setting;
+use format::Verdict;
 use header::Head;
 use item::Step;
 use item::leg_at;
@@ -33,6 +35,7 @@ use laying::lay_leg;
 use laying::lay_section;
 use laying::lay_station;
 use measure::Passed;
+use measure::stopped;
 use short::Short;
 use short::short_item;
 use short::sides;
@@ -173,19 +176,14 @@ fn pass(file: &[u8], version: u8, place: usize, sheet: &mut [u8], front: usize) 
                 let it = lay_item(version, rest, &mut label.bytes, old, setting, sheet, out);
                 match it {
                     Step::Bad { number } => {
-                        return Passed::Refused { number, place: at };
+                        return stopped(Verdict::Refusal { number, place: at }, out, records);
                     }
                     Step::End => {
                         if 1 < rest.len() {
-                            return Passed::Refused {
-                                number: 10,
-                                place: at + 1,
-                            };
+                            let place = at + 1;
+                            return stopped(Verdict::Refusal { number: 10, place }, out, records);
                         }
-                        return Passed::Done {
-                            bytes: out,
-                            records,
-                        };
+                        return stopped(Verdict::Good, out, records);
                     }
                     Step::On {
                         size,
@@ -228,39 +226,60 @@ fn measured(file: &[u8], version: u8, place: usize, sheet: &mut [u8], front: usi
     measure::measure(file, place, front)
 }
 
-// Reads the items of a file that was opened, in two passes: 11 comes last.
-fn read_items(
-    file: &[u8],
-    sheet: &mut [u8],
+// A header that was opened, in numbers: the version, the first item's place, the flag, and
+// how many bytes the title and the time line have.
+struct Heading {
     version: u8,
     place: usize,
     extended: u8,
     title: usize,
     time: usize,
-) -> Answer
-    requires { ⌜ Opens (now file) version place extended title time ⌝ }
+}
+
+// The first pass over the items of a file that was opened.
+fn judged(file: &[u8], sheet: &mut [u8], head: Heading) -> Passed
+    requires { ⌜ Headed (now file) head ⌝ }
+    ensures { λ r. ⌜ Judges (now (file .entry)) head r × (now (sheet .exit) ≡ now (sheet .entry)) ⌝ }
+{
+    let front = 7 + head.title + head.time;
+    measured(file, head.version, head.place, sheet, front)
+}
+
+// The second pass: the sheet of the records before the first refused item, of so many bytes.
+fn fill(file: &[u8], sheet: &mut [u8], head: Heading, bytes: usize)
+    requires { ⌜ Headed (now file) head × Fills (now file) head bytes (now sheet) ⌝ }
+    ensures { λ _. ⌜ now (sheet .exit) ≡ over (sheetOfHead (now (file .entry)) head) (now (sheet .entry)) ⌝ }
+{
+    let front = 7 + head.title + head.time;
+    let ends = 24 + head.title;
+    let from = ends + 1;
+    let stops = from + head.time;
+    record::put_front(sheet, head.extended, &file[24..ends], &file[from..stops]);
+    pass(file, head.version, head.place, &mut sheet[..bytes], front);
+}
+
+// Reads the items of a file that was opened, in two passes: 11 comes last.
+fn read_items(file: &[u8], sheet: &mut [u8], head: Heading) -> Answer
+    requires { ⌜ Headed (now file) head ⌝ }
     ensures { λ r. ⌜ ReadsTo (now (file .entry)) (now (sheet .entry)) r (now (sheet .exit)) ⌝ }
 {
-    let front = 7 + title + time;
-    let total = measured(file, version, place, sheet, front);
-    match total {
-        Passed::Refused { number, place: at } => Answer::Refused { number, place: at },
-        Passed::Done { bytes, records } => {
+    let total = judged(file, sheet, head);
+    let verdict = total.verdict;
+    let bytes = total.bytes;
+    match verdict {
+        Verdict::Refusal { number, place } => Answer::Refused { number, place },
+        Verdict::Good => {
             if sheet.len() < bytes {
                 return Answer::Refused {
                     number: 11,
                     place: bytes,
                 };
             }
-            let ends = 24 + title;
-            let from = ends + 1;
-            let stops = from + time;
-            record::put_front(sheet, extended, &file[24..ends], &file[from..stops]);
-            pass(file, version, place, &mut sheet[..bytes], front);
+            fill(file, sheet, head, bytes);
             Answer::Done {
                 bytes,
-                records,
-                version,
+                records: total.records,
+                version: head.version,
             }
         }
     }
@@ -280,6 +299,106 @@ pub fn read(file: &[u8], sheet: &mut [u8]) -> Answer
             extended,
             title,
             time,
-        } => read_items(file, sheet, version, place, extended, title, time),
+        } => {
+            let heading = Heading {
+                version,
+                place,
+                extended,
+                title,
+                time,
+            };
+            read_items(file, sheet, heading)
+        }
+    }
+}
+
+// ---- request #111: what can be saved
+
+// What salvaging answers: the sheet's bytes and records, the file's version, and the report:
+// the refusal and its place, and the file's bytes from there on; or a refusal.
+pub enum Salvaged {
+    Saved {
+        bytes: usize,
+        records: usize,
+        version: u8,
+        number: u8,
+        place: usize,
+        left: usize,
+    },
+    Refused {
+        number: u8,
+        place: usize,
+    },
+}
+
+// Why reading stopped, in numbers: 0 and the file's length for a whole file.
+struct Report {
+    number: u8,
+    place: usize,
+}
+
+fn reported(verdict: Verdict, size: usize) -> Report
+    ensures { λ r. ⌜ (r .number ≡ reportNumber verdict) × (r .place ≡ reportPlace verdict size) ⌝ }
+{
+    match verdict {
+        Verdict::Good => Report {
+            number: 0,
+            place: size,
+        },
+        Verdict::Refusal { number, place } => Report { number, place },
+    }
+}
+
+// Salvages the items of a file that was opened: the two passes of reading with another ending.
+fn salvage_items(file: &[u8], sheet: &mut [u8], head: Heading) -> Salvaged
+    requires { ⌜ Headed (now file) head ⌝ }
+    ensures { λ r. ⌜ SalvagesTo (now (file .entry)) (now (sheet .entry)) r (now (sheet .exit)) ⌝ }
+{
+    let total = judged(file, sheet, head);
+    let verdict = total.verdict;
+    let bytes = total.bytes;
+    if sheet.len() < bytes {
+        return Salvaged::Refused {
+            number: 11,
+            place: bytes,
+        };
+    }
+    fill(file, sheet, head, bytes);
+    let report = reported(verdict, file.len());
+    Salvaged::Saved {
+        bytes,
+        records: total.records,
+        version: head.version,
+        number: report.number,
+        place: report.place,
+        left: file.len() - report.place,
+    }
+}
+
+// Writes the records that the items of a file make before the first refused one to the lent
+// sheet.
+pub fn salvage(file: &[u8], sheet: &mut [u8]) -> Salvaged
+    ensures answer { λ r. ⌜ salvagedOf r ≡ salvageOutcome (now (file .entry)) (length (now (sheet .entry))) ⌝ }
+    ensures sheet { λ _. ⌜ now (sheet .exit) ≡ salvageBuffer (now (file .entry)) (now (sheet .entry)) ⌝ }
+{
+    let head = header::opening(file);
+    match head {
+        Head::Shut { number, place } => Salvaged::Refused { number, place },
+        Head::Whole {
+            version,
+            place,
+            extended,
+            title,
+            time,
+        } => {
+            let heading = Heading {
+                version,
+                place,
+                extended,
+                title,
+                time,
+            };
+            salvage_items(file, sheet, heading)
+        }
     }
 }

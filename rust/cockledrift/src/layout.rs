@@ -15,6 +15,20 @@ fn answers() {
 }
 
 #[test]
+fn salvages() {
+    let fields = [
+        offset_of!(SalvageNumbers, refused),
+        offset_of!(SalvageNumbers, bytes),
+        offset_of!(SalvageNumbers, records),
+        offset_of!(SalvageNumbers, version),
+        offset_of!(SalvageNumbers, number),
+        offset_of!(SalvageNumbers, place),
+        offset_of!(SalvageNumbers, left),
+    ];
+    assert_eq!((fields, size_of::<SalvageNumbers>()), ([0, 8, 16, 24, 32, 40, 48], 56));
+}
+
+#[test]
 fn comparisons() {
     let fields = [
         offset_of!(ComparedNumbers, which),

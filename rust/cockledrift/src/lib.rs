@@ -1,8 +1,8 @@
 //! Survex 3d files (cave surveys), versions 3 to 8, through a library in which
 //! every function is proved to meet its contract.
 //!
-//! A 3d file is read into a *sheet*, a list of records in bytes, and a sheet is
-//! written as a v8 file, or as a v7 file for older
+//! A 3d file is read into a *sheet*, a list of records in bytes, and of a damaged
+//! one what can be saved; a sheet is written as a v8 file, or as a v7 file for older
 //! programs; a v8 file that was written here can be edited without its sheet; two
 //! files are compared by their time lines; a [`Reader`] goes through a file item by
 //! item; [`sha256`] tells a file's digest. What the bytes of files and sheets mean,
@@ -62,6 +62,7 @@ mod library;
 mod read;
 mod record;
 mod room;
+mod salvage;
 mod sha256;
 mod sheet;
 mod step;
@@ -73,6 +74,7 @@ pub use convert::convert;
 pub use edit::{edit, edit_vec};
 pub use read::{read, read_vec};
 pub use record::{Date, Leg, Point, Record, Records, Section, Station, Traverse};
+pub use salvage::{salvage, salvage_vec, Saved};
 pub use sha256::{sha256, Sha256};
 pub use sheet::{Header, Sheet};
 pub use step::{Found, Opened, Reader, Step, RECORD_LIMIT};

@@ -17,6 +17,19 @@ pub struct AnswerNumbers {
     pub version: u64,
 }
 
+/// What was saved: refused 0, the sheet's bytes and records, the version, and the
+/// report's number, place and bytes left; or the number of a refusal and its place.
+#[repr(C)]
+pub struct SalvageNumbers {
+    pub refused: u64,
+    pub bytes: usize,
+    pub records: usize,
+    pub version: u64,
+    pub number: u64,
+    pub place: usize,
+    pub left: usize,
+}
+
 /// Which file is later: 1, 2 or 0 for neither, with the place and the length of
 /// the later time line; or 3 for a refusal of `file`, with its number and place.
 #[repr(C)]
@@ -65,6 +78,7 @@ pub const DIGEST: usize = 32;
 // A slice takes two arguments, its first byte and its length; an array one.
 extern "C" {
     fn cockledrift_read(file: *const u8, n: usize, sheet: *mut u8, m: usize) -> AnswerNumbers;
+    fn cockledrift_salvage(file: *const u8, n: usize, sheet: *mut u8, m: usize) -> SalvageNumbers;
     fn cockledrift_write(sheet: *const u8, n: usize, out: *mut u8, m: usize) -> AnswerNumbers;
     fn cockledrift_write_v7(sheet: *const u8, n: usize, out: *mut u8, m: usize) -> AnswerNumbers;
     fn cockledrift_convert(
@@ -133,6 +147,12 @@ pub fn read(file: &[u8], sheet: &mut [u8]) -> AnswerNumbers {
     let (sheet, room) = lend(sheet);
     // SAFETY: each pointer goes with the length of its own slice, which outlives the call.
     unsafe { cockledrift_read(file.as_ptr(), file.len(), sheet, room) }
+}
+
+pub fn salvage(file: &[u8], sheet: &mut [u8]) -> SalvageNumbers {
+    let (sheet, room) = lend(sheet);
+    // SAFETY: each pointer goes with the length of its own slice, which outlives the call.
+    unsafe { cockledrift_salvage(file.as_ptr(), file.len(), sheet, room) }
 }
 
 pub fn write(sheet: &[u8], out: &mut [u8]) -> AnswerNumbers {

@@ -5,6 +5,7 @@
 use crate::answer::number;
 use crate::record::{first, SheetVersion};
 use crate::{read_vec, write, write_v7_vec, write_vec, Records, Refusal};
+use crate::{salvage, salvage_vec, Saved};
 
 /// A survey as a list of records, in bytes that keep the layout of a sheet.
 ///
@@ -43,6 +44,20 @@ impl Sheet {
     /// [`read`](crate::read) takes a buffer of any length.
     pub fn read(file: &[u8]) -> Result<Sheet, Refusal> {
         read_vec(file).map(|bytes| Sheet { bytes })
+    }
+
+    /// The sheet of what can be saved of a file, and the report.
+    ///
+    /// ```
+    /// let file = b"Survex 3D Image File\nv8\nA\n@0\n\0\x07";
+    /// let (sheet, saved) = cockledrift::Sheet::salvage(file)?;
+    /// assert_eq!((sheet.records().count(), saved.place, saved.left), (0, 30, 1));
+    /// # Ok::<(), cockledrift::Refusal>(())
+    /// ```
+    pub fn salvage(file: &[u8]) -> Result<(Sheet, Saved), Refusal> {
+        let mut bytes = salvage_vec(file)?;
+        let saved = salvage(file, &mut bytes)?;
+        Ok((Sheet { bytes }, saved))
     }
 
     /// The sheet in these bytes, of version 1 or 2, where they keep the layout:

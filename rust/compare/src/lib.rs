@@ -9,7 +9,8 @@ pub use lent::{disagree, hex, same, Call, Difference, Fills};
 pub use run::{edits_wanted, files_wanted, seed, sheets_wanted, Tally};
 
 use generate::Edit;
-use second::{Answer, Later};
+use second::{Answer, Later, Salvaged};
+use std::cell::RefCell;
 
 /// Reading, at several buffer lengths. Answers what an ample buffer gives.
 pub fn read(file: &[u8]) -> Result<Answer, Difference> {
@@ -24,6 +25,38 @@ pub fn read_by(proved: Reader, file: &[u8]) -> Result<Answer, Difference> {
     one_buffer(needed, 3 * file.len() + 100, &|sheet, _| proved(file, sheet), &|sheet, _| {
         second::read(file, sheet)
     })
+}
+
+/// Salvaging, likewise: the answer that is compared is that of reading, and the reports must be
+/// the same at every length.
+pub fn salvage(file: &[u8]) -> Result<Salvaged, Difference> {
+    let mut report = None;
+    let reports = RefCell::new(Vec::new());
+    let by = |salvage: fn(&[u8], &mut [u8]) -> Salvaged, sheet: &mut [u8]| {
+        let saved = salvage(file, sheet);
+        reports.borrow_mut().push(saved);
+        plain(saved)
+    };
+    let needed = need(plain(second::salvage(file, &mut [])));
+    let ample = 3 * file.len() + 100;
+    let answer = one_buffer(needed, ample, &|sheet, _| by(proved::salvage, sheet), &|sheet, _| {
+        by(second::salvage, sheet)
+    })?;
+    for pair in reports.borrow().chunks(2) {
+        assert_eq!(pair[0], pair[1], "salvaging {}", hex(file));
+        report = Some(pair[0]);
+    }
+    let last = report.expect("several lengths were tried");
+    assert_eq!(plain(last), answer);
+    Ok(last)
+}
+
+/// What salvaging answers but for its report.
+fn plain(saved: Salvaged) -> Answer {
+    match saved {
+        Salvaged::Saved { bytes, records, version, .. } => Answer::Done { bytes, records, version },
+        Salvaged::Refused { number, place } => Answer::Refused { number, place },
+    }
 }
 
 /// Writing, likewise.

@@ -1,7 +1,7 @@
 //! The proved library with the second implementation's types: the one place
 //! where the two sets of types meet.
 
-use second::{Answer, Later, Opened, Step};
+use second::{Answer, Later, Opened, Salvaged, Step};
 
 /// An answer of the proved library.
 fn answer(answer: cockledrift::Answer) -> Answer {
@@ -15,6 +15,20 @@ fn answer(answer: cockledrift::Answer) -> Answer {
 
 pub fn read(file: &[u8], sheet: &mut [u8]) -> Answer {
     answer(cockledrift::read(file, sheet))
+}
+
+pub fn salvage(file: &[u8], sheet: &mut [u8]) -> Salvaged {
+    match cockledrift::salvage(file, sheet) {
+        Ok(cockledrift::Saved { done, refusal, place, left }) => Salvaged::Saved {
+            bytes: done.bytes,
+            records: done.records,
+            version: done.version,
+            number: refusal.map_or(0, |refusal| refusal.number),
+            place,
+            left,
+        },
+        Err(cockledrift::Refusal { number, place }) => Salvaged::Refused { number, place },
+    }
 }
 
 pub fn write(sheet: &[u8], out: &mut [u8]) -> Answer {

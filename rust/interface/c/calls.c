@@ -103,6 +103,13 @@ static void say_answer(char *line, struct cockledrift_answer a)
              a.version, hash(START, out.start, out.bytes), hash(START, second.start, second.bytes));
 }
 
+static void say_salvaged(char *line, struct cockledrift_salvaged s)
+{
+    int said = snprintf(line, LINE, "%" PRIu64 " %zu %zu %" PRIu64, s.refused, s.bytes, s.records, s.version);
+    snprintf(line + said, LINE - said, " %" PRIu64 " %zu %zu %016" PRIx64, s.number, s.place, s.left,
+             hash(START, out.start, out.bytes));
+}
+
 typedef struct cockledrift_stepped stepper(const uint8_t *, size_t, uint64_t *, uint8_t *, uint8_t *, size_t);
 
 /* Steps to the end or a refusal, and once more. */
@@ -183,6 +190,7 @@ static void call(char *line, const struct request *r, const uint8_t *a, const ui
     uint8_t *to = out.start;
     switch (r->letter) {
     case 'r': say_answer(line, cockledrift_read(a, n, to, room)); break;
+    case 'v': say_salvaged(line, cockledrift_salvage(a, n, to, room)); break;
     case 'w': say_answer(line, cockledrift_write(a, n, to, room)); break;
     case '7': say_answer(line, cockledrift_write_v7(a, n, to, room)); break;
     case 'c': say_answer(line, cockledrift_convert(a, n, to, room, second.start, second.bytes)); break;

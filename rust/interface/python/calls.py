@@ -8,6 +8,11 @@ import cockledrift
 import list as example
 
 
+def salvaged(file):
+    sheet, number, place, left = cockledrift.salvage(file)
+    return f"{number} {place} {left} {sheet.bytes.hex()}"
+
+
 def records(found):
     """The records of a step reader, by their bytes, with what was kept."""
     return " ".join(f"{record.lay().hex()}:{kept}" for record, kept in found)
@@ -36,6 +41,7 @@ def parts(data, first):
 
 CALLS = {
     "r": lambda a, b, first, count: cockledrift.read(a).bytes.hex(),
+    "v": lambda a, b, first, count: salvaged(a),
     "t": lambda a, b, first, count: b"".join(r.lay() for r in cockledrift.Sheet(a).records()).hex(),
     "w": lambda a, b, first, count: cockledrift.write(a).hex(),
     "7": lambda a, b, first, count: cockledrift.write_v7(a).hex(),

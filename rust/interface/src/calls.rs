@@ -59,6 +59,7 @@ impl Memory {
         let (out, second) = (self.out.lend(*room, side), self.second.lend(*second_room, side));
         let line = match letter {
             b'r' => answered(cockledrift::read(a, out), out, second),
+            b'v' => salvaged(cockledrift::salvage(a, out), out),
             b'w' => answered(cockledrift::write(a, out), out, second),
             b'7' => answered(cockledrift::write_v7(a, out), out, second),
             b'c' => answered(cockledrift::convert(a, out, second), out, second),
@@ -105,6 +106,20 @@ fn answered(answer: Answer, out: &[u8], second: &[u8]) -> String {
     };
     let (out, second) = (hash(START, out), hash(START, second));
     format!("{number} {bytes} {records} {version} {out:016x} {second:016x}")
+}
+
+fn salvaged(answer: Result<cockledrift::Saved, Refusal>, out: &[u8]) -> String {
+    let (refused, done, number, place, left) = match answer {
+        Ok(cockledrift::Saved { done, refusal, place, left }) => {
+            (0, done, refusal.map_or(0, |refusal| refusal.number), place, left)
+        }
+        Err(Refusal { number, place }) => {
+            (number, Done { bytes: 0, records: 0, version: 0 }, 0, place, 0)
+        }
+    };
+    let Done { bytes, records, version } = done;
+    let out = hash(START, out);
+    format!("{refused} {bytes} {records} {version} {number} {place} {left} {out:016x}")
 }
 
 fn compared(first: &[u8], second: &[u8]) -> String {

@@ -102,6 +102,8 @@ fn of_file(file: &[u8], before: &[u8]) -> Vec<Request> {
     let mut requests = vec![
         Request::new(b'r', file, 0),
         Request::new(b'r', file, room),
+        Request::new(b'v', file, 0),
+        Request::new(b'v', file, room + 5000),
         Request::new(b'p', file, room),
         Request::new(b's', file, cockledrift::RECORD_LIMIT),
         Request::new(b'n', file, 40),
@@ -194,6 +196,7 @@ fn damaged_files_are_answered_alike() {
     let seen = all_alike(fixed.chain(rounds.flat_map(|(_, requests)| requests)));
     println!("{} calls, by letter and number: {seen:?}", seen.values().sum::<usize>());
     must_have_seen(&seen, 'r', &[0, 1, 2, 3, 4, 5, 6, 7, 8, 9, 10, 11]);
+    must_have_seen(&seen, 'v', &[0, 1, 2, 3, 11]);
     must_have_seen(&seen, 's', &[0, 1, 2, 3, 4, 5, 6, 7, 8, 9, 10]);
     must_have_seen(&seen, 'n', &[0, 5, 10, 11]);
     must_have_seen(&seen, 'c', &[0, 5, 11]);

@@ -36,6 +36,11 @@ impl Call {
         let Call { letter, a, b, first, count } = self;
         match letter {
             b'r' => said(Sheet::read(a).map(|sheet| hex(sheet.bytes()))),
+            b'v' => said(cockledrift::salvage_vec(a).map(|mut sheet| {
+                let saved = cockledrift::salvage(a, &mut sheet).expect("room enough");
+                let number = saved.refusal.map_or(0, |refusal| refusal.number);
+                format!("{number} {} {} {}", saved.place, saved.left, hex(&sheet))
+            })),
             b't' => said(Sheet::of(a.clone()).map(|sheet| hex(&laid(sheet.records())))),
             b'w' => said(cockledrift::write_vec(a).map(|file| hex(&file))),
             b'7' => said(cockledrift::write_v7_vec(a).map(|file| hex(&file))),
@@ -129,6 +134,7 @@ fn files_are_answered_alike() {
     let files: Vec<_> = (0..40).flat_map(|round| files::round(seed(), round)).collect();
     let mut calls = Vec::new();
     for (place, (_, file)) in files.iter().enumerate().step_by(2) {
+        calls.push(Call::new(b'v', file));
         calls.extend(b"rpcsn".map(|letter| Call::new(letter, file)));
         calls.push(Call::new(b'd', file));
         calls.push(Call { first: file.len() / 3, ..Call::new(b'D', file) });

@@ -1,8 +1,8 @@
-//! Survex 3d files, v3 to v8: reading to a sheet, stepping, writing v8 and v7,
-//! editing v8 and comparing time lines.
+//! Survex 3d files, v3 to v8: reading to a sheet, salvaging, stepping, writing
+//! v8 and v7, editing v8 and comparing time lines.
 //!
 //! An independent second implementation of document 01 and of requests #101,
-//! #106, #107 and #110 of document 02, written from these documents and the two
+//! #106, #107, #110 and #111 of document 02, written from these documents and the two
 //! published format pages. It allocates only in `edit`.
 
 mod codes;
@@ -12,6 +12,7 @@ mod item;
 mod later;
 mod read;
 mod record;
+mod salvage;
 mod sheet;
 mod state;
 mod step;
@@ -22,6 +23,7 @@ mod write;
 pub use edit::edit;
 pub use later::{compare, seconds, Later};
 pub use read::read;
+pub use salvage::{salvage, Salvaged};
 pub use step::{open, Opened, Step, Stepper};
 pub use write::{write, write_v7};
 

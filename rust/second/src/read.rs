@@ -13,20 +13,36 @@ use crate::{no, Answer, Refusal};
 /// Refusals come as "16, 1, 2, 3, the v8 byte, then items in order; in an item
 /// 4, 5, 6, 7, 9, 8; then 10, then 11" and leave `sheet` untouched.
 pub fn read(file: &[u8], sheet: &mut [u8]) -> Answer {
-    match read_judged(file, sheet) {
-        Ok(answer) => answer,
+    match pass(file, sheet, Wanted::WholeFile) {
+        Ok(Passed { bytes, records, version, .. }) => Answer::Done { bytes, records, version },
         Err(refusal) => refusal.into(),
     }
 }
 
-fn read_judged(file: &[u8], sheet: &mut [u8]) -> Result<Answer, Refusal> {
+/// Whether what the items refuse, 10 included, refuses the call, or only ends
+/// the sheet.
+#[derive(Clone, Copy, PartialEq, Eq)]
+pub(crate) enum Wanted {
+    WholeFile,
+    RecordsBefore,
+}
+
+/// What both passes made of a file, and how its items ended.
+pub(crate) struct Passed {
+    pub bytes: usize,
+    pub records: usize,
+    pub version: u8,
+    pub end: Result<(), Refusal>,
+}
+
+pub(crate) fn pass(file: &[u8], sheet: &mut [u8], wanted: Wanted) -> Result<Passed, Refusal> {
     let head = header(file)?;
     // v8 and the older versions have loops of their own. Only the older ones
     // look for dots, and so must know the label's bytes while measuring.
     if head.version == 8 {
-        two_passes::<false>(8, file, &head, sheet)
+        two_passes::<false>(8, file, &head, sheet, wanted)
     } else {
-        two_passes::<true>(head.version, file, &head, sheet)
+        two_passes::<true>(head.version, file, &head, sheet, wanted)
     }
 }
 
@@ -36,46 +52,48 @@ fn two_passes<const DOTS: bool>(
     file: &[u8],
     head: &Header,
     sheet: &mut [u8],
-) -> Result<Answer, Refusal> {
-    let (bytes, records) = measure::<DOTS>(version, file, head)?;
+    wanted: Wanted,
+) -> Result<Passed, Refusal> {
+    let passed = measure::<DOTS>(version, file, head);
+    let Passed { bytes, end, .. } = passed;
+    if wanted == Wanted::WholeFile {
+        end?;
+    }
     if sheet.len() < bytes {
         return Err(no(11, bytes));
     }
     let start = put_header(head, sheet);
-    fill(version, file, head.items, &mut sheet[start..bytes]);
-    Ok(Answer::Done { bytes, records, version })
+    let filled = fill(version, file, head.items, &mut sheet[start..bytes]);
+    debug_assert_eq!(filled, end, "both passes end alike");
+    Ok(passed)
 }
 
 /// The first pass: the sheet's bytes and records.
 #[inline(always)]
-fn measure<const DOTS: bool>(
-    version: u8,
-    file: &[u8],
-    head: &Header,
-) -> Result<(usize, usize), Refusal> {
+fn measure<const DOTS: bool>(version: u8, file: &[u8], head: &Header) -> Passed {
     let mut bytes = header_size(head);
     let mut records = 0;
-    walk::<DOTS>(version, file, head.items, |item, state| {
+    let end = walk::<DOTS>(version, file, head.items, |item, state| {
         if let Some(size) = record::size(item, state.label().len()) {
             bytes += size;
             records += 1;
         }
-    })?;
-    Ok((bytes, records))
+    });
+    Passed { bytes, records, version, end }
 }
 
 /// The second pass, into a part that fits exactly.
 #[inline(always)]
-fn fill(version: u8, file: &[u8], items: usize, part: &mut [u8]) {
+fn fill(version: u8, file: &[u8], items: usize, part: &mut [u8]) -> Result<(), Refusal> {
     let mut at = 0;
-    let walked = walk::<true>(version, file, items, |item, state| {
+    walk::<true>(version, file, items, |item, state| {
         at += record::put(item, state, &mut part[at..]);
-    });
-    debug_assert!(walked.is_ok(), "the first pass judged this file");
+    })
 }
 
-/// Goes through all items, the first at `items`, and shows each with the state
-/// it finds, its own label already in place.
+/// Goes through all items up to the end or the first refused one, the first at
+/// `items`, and shows each with the state it finds, its own label already in
+/// place.
 #[inline(always)]
 fn walk<'a, const KEEP: bool>(
     version: u8,

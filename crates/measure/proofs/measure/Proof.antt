@@ -4,7 +4,7 @@ use Rattle.measure.specs.declared.Measured.{Measured}
 use Rattle.measure.specs.declared.Measured.the-variants.{Styled, Moved, Passes, Made}
 use native.Mathlib.Omega.{arith}
 use Prim.Native.Nat.{_-_}
-use mathlib.Core.Path.{_≡_}
+use mathlib.Core.Path.{_≡_, _∙_}
 use lib.ListN.{length, length-drop}
 use Rattle.measure.proofs.Turn.{Going, going-first, found, ends-bad, ends-after, ends-done, going-on, going-made, Within, item-within}
 use Rattle.measure.proofs.measure.Statement.{statement}
@@ -38,30 +38,39 @@ measure-item-requires c κs = c .before .loop .inv .short
 enum-known-it : tie.Need-enum-known-it Inv-loop μ-loop
 enum-known-it c = search needs
 
+stopped-requires : tie.Need-stopped-requires Inv-loop μ-loop
+stopped-requires c κs = search needs
+
 returns : tie.Need-returns Inv-loop μ-loop
 returns c =
-    let G = c .before .before .before .before .before .loop .inv in
-    let f = rw (c .before .it .given .1) at (c .before .before .before .measure-item .ensures) in
-    ends-bad _ _ _ _ _ _ _ _ _ G _ (f .1)
+    let G = c .before .before .before .before .before .before .loop .inv in
+    let f = rw (c .before .before .it .given .1) at (c .before .before .before .before .measure-item .ensures) in
+    c .stopped .ensures ∙ ends-bad _ _ _ _ _ _ _ _ _ G _ (f .1)
 
 enum-told : tie.Need-enum-told Inv-loop μ-loop
 enum-told c = search needs
 
-add-t23 : tie.Need-add-t23 Inv-loop μ-loop
-add-t23 c =
+add-place : tie.Need-add-place Inv-loop μ-loop
+add-place c =
     omega (arith, c .before .before .before .before .before .loop .inv .inside, c .before .before .before .before .before .before .before .pre .0)
+
+stopped-requires-2 : tie.Need-stopped-requires-2 Inv-loop μ-loop
+stopped-requires-2 c κs = search needs
 
 returns-2 : tie.Need-returns-2 Inv-loop μ-loop
 returns-2 c =
-    let G = c .before .before .before .before .before .loop .inv in
-    let f = rw (c .before .enum-told .given .1) at (c .before .before .before .measure-item .ensures) in
-    ends-after _ _ _ _ _ _ _ _ _ G (f .1) (simp length-drop (omega arith))
+    let G = c .before .before .before .before .before .before .loop .inv in
+    let f = rw (c .before .before .enum-told .given .1) at (c .before .before .before .before .measure-item .ensures) in
+    c .stopped2 .ensures ∙ ends-after _ _ _ _ _ _ _ _ _ G (f .1) (simp length-drop (omega (arith, c .before .if1 .taken)))
+
+stopped-requires-3 : tie.Need-stopped-requires-3 Inv-loop μ-loop
+stopped-requires-3 c κs = search needs
 
 returns-3 : tie.Need-returns-3 Inv-loop μ-loop
 returns-3 c =
-    let G = c .before .before .before .before .before .loop .inv in
-    let f = rw (c .before .enum-told .given .1) at (c .before .before .before .measure-item .ensures) in
-    ends-done _ _ _ _ _ _ _ _ _ G (f .1) (simp length-drop (omega arith))
+    let G = c .before .before .before .before .before .before .loop .inv in
+    let f = rw (c .before .before .enum-told .given .1) at (c .before .before .before .before .measure-item .ensures) in
+    c .stopped3 .ensures ∙ ends-done _ _ _ _ _ _ _ _ _ G (f .1) (simp length-drop (omega (arith, c .before .if1 .left)))
 
 enum-known-it-2 : tie.Need-enum-known-it-2 Inv-loop μ-loop
 enum-known-it-2 c = search needs
@@ -155,10 +164,13 @@ measure-spec =
     part-rest-end
     measure-item-requires
     enum-known-it
+    stopped-requires
     returns
     enum-told
-    add-t23
+    add-place
+    stopped-requires-2
     returns-2
+    stopped-requires-3
     returns-3
     enum-known-it-2
     add-at

@@ -2,7 +2,7 @@
 use borrow.Author.Needs.{needs}
 use native.Mathlib.Omega.{arith}
 use Prim.Native.Nat.{_-_}
-use mathlib.Core.Path.{_≡_}
+use mathlib.Core.Path.{_≡_, _∙_}
 use lib.ListN.{length, length-drop}
 use Rattle.item.specs.declared.Step.the-variants.{On, Made}
 use Rattle.read.proofs.Turn.{Going, going-first, ends-bad, ends-after, ends-done, item-within, going-on, going-made}
@@ -154,44 +154,56 @@ lay-item-requires c κs =
 enum-known-it : tie.Need-enum-known-it Inv-loop μ-loop
 enum-known-it c = search needs
 
+stopped-requires : tie.Need-stopped-requires Inv-loop μ-loop
+stopped-requires c κs = search needs
+
 same-length : tie.Need-same-length Inv-loop μ-loop
 same-length c = search needs
 
 returns : tie.Need-returns Inv-loop μ-loop
 returns c =
-    let E = rw (c .before .before .before .before .before .before .before .before .enum-told .given .1) at (c .before .before .before .before .before .before .before .before .before .before .before .before .lay-short .ensures) in
-    let G = going-same _ _ _ _ _ _ _ _ _ _ _ (c .before .before .before .before .before .before .before .before .before .before .before .before .before .before .before .before .loop .inv) _ _ (E .0) (E .1) in
-    let T = rw (c .before .it .given .1) at (c .before .before .before .before .before .lay-item .ensures .0) in
-    let e = c .before .before .before .before .before .lay-item .ensures .1 in
-    ends-bad _ _ _ _ _ _ _ _ _ _ _ G _ _ _ T e
+    let E = rw (c .before .before .before .before .before .before .before .before .before .enum-told .given .1) at (c .before .before .before .before .before .before .before .before .before .before .before .before .before .lay-short .ensures) in
+    let G = going-same _ _ _ _ _ _ _ _ _ _ _ (c .before .before .before .before .before .before .before .before .before .before .before .before .before .before .before .before .before .loop .inv) _ _ (E .0) (E .1) in
+    let T = rw (c .before .before .it .given .1) at (c .before .before .before .before .before .before .lay-item .ensures .0) in
+    let e = c .before .before .before .before .before .before .lay-item .ensures .1 in
+    let z = ends-bad _ _ _ _ _ _ _ _ _ _ _ G _ _ _ T e in
+    (c .stopped .ensures ∙ z .0, z .1)
 
 enum-told-2 : tie.Need-enum-told-2 Inv-loop μ-loop
 enum-told-2 c = search needs
 
-add-t43 : tie.Need-add-t43 Inv-loop μ-loop
-add-t43 c = search needs
+add-place : tie.Need-add-place Inv-loop μ-loop
+add-place c = search needs
+
+stopped-requires-2 : tie.Need-stopped-requires-2 Inv-loop μ-loop
+stopped-requires-2 c κs = search needs
 
 same-length-2 : tie.Need-same-length-2 Inv-loop μ-loop
 same-length-2 c = search needs
 
 returns-2 : tie.Need-returns-2 Inv-loop μ-loop
 returns-2 c =
-    let E = rw (c .before .before .before .before .before .before .before .before .enum-told .given .1) at (c .before .before .before .before .before .before .before .before .before .before .before .before .lay-short .ensures) in
-    let G = going-same _ _ _ _ _ _ _ _ _ _ _ (c .before .before .before .before .before .before .before .before .before .before .before .before .before .before .before .before .loop .inv) _ _ (E .0) (E .1) in
-    let T = rw (c .before .enum-told2 .given .1) at (c .before .before .before .before .before .lay-item .ensures .0) in
-    let e = c .before .before .before .before .before .lay-item .ensures .1 in
-    ends-after _ _ _ _ _ _ _ _ _ _ _ G _ _ T e (simp length-drop (omega arith))
+    let E = rw (c .before .before .before .before .before .before .before .before .before .enum-told .given .1) at (c .before .before .before .before .before .before .before .before .before .before .before .before .before .lay-short .ensures) in
+    let G = going-same _ _ _ _ _ _ _ _ _ _ _ (c .before .before .before .before .before .before .before .before .before .before .before .before .before .before .before .before .before .loop .inv) _ _ (E .0) (E .1) in
+    let T = rw (c .before .before .enum-told2 .given .1) at (c .before .before .before .before .before .before .lay-item .ensures .0) in
+    let e = c .before .before .before .before .before .before .lay-item .ensures .1 in
+    let z = ends-after _ _ _ _ _ _ _ _ _ _ _ G _ _ T e (simp length-drop (omega (arith, c .before .if1 .taken))) in
+    (c .stopped2 .ensures ∙ z .0, z .1)
+
+stopped-requires-3 : tie.Need-stopped-requires-3 Inv-loop μ-loop
+stopped-requires-3 c κs = search needs
 
 same-length-3 : tie.Need-same-length-3 Inv-loop μ-loop
 same-length-3 c = search needs
 
 returns-3 : tie.Need-returns-3 Inv-loop μ-loop
 returns-3 c =
-    let E = rw (c .before .before .before .before .before .before .before .before .enum-told .given .1) at (c .before .before .before .before .before .before .before .before .before .before .before .before .lay-short .ensures) in
-    let G = going-same _ _ _ _ _ _ _ _ _ _ _ (c .before .before .before .before .before .before .before .before .before .before .before .before .before .before .before .before .loop .inv) _ _ (E .0) (E .1) in
-    let T = rw (c .before .enum-told2 .given .1) at (c .before .before .before .before .before .lay-item .ensures .0) in
-    let e = c .before .before .before .before .before .lay-item .ensures .1 in
-    ends-done _ _ _ _ _ _ _ _ _ _ _ G _ _ T e (simp length-drop (omega arith))
+    let E = rw (c .before .before .before .before .before .before .before .before .before .enum-told .given .1) at (c .before .before .before .before .before .before .before .before .before .before .before .before .before .lay-short .ensures) in
+    let G = going-same _ _ _ _ _ _ _ _ _ _ _ (c .before .before .before .before .before .before .before .before .before .before .before .before .before .before .before .before .before .loop .inv) _ _ (E .0) (E .1) in
+    let T = rw (c .before .before .enum-told2 .given .1) at (c .before .before .before .before .before .before .lay-item .ensures .0) in
+    let e = c .before .before .before .before .before .before .lay-item .ensures .1 in
+    let z = ends-done _ _ _ _ _ _ _ _ _ _ _ G _ _ T e (simp length-drop (omega (arith, c .before .if1 .left))) in
+    (c .stopped3 .ensures ∙ z .0, z .1)
 
 enum-known-it-2 : tie.Need-enum-known-it-2 Inv-loop μ-loop
 enum-known-it-2 c = search needs
@@ -301,12 +313,15 @@ pass-spec =
     enum-told
     lay-item-requires
     enum-known-it
+    stopped-requires
     same-length
     returns
     enum-told-2
-    add-t43
+    add-place
+    stopped-requires-2
     same-length-2
     returns-2
+    stopped-requires-3
     same-length-3
     returns-3
     enum-known-it-2

@@ -1,7 +1,7 @@
 -- `read::read` meets its contract. Assumes nothing.
 use borrow.Author.Needs.{needs}
 use mathlib.Core.Path.{sym}
-use Rattle.read.proofs.Turn.{read-shut}
+use Rattle.read.proofs.Whole.{read-shut}
 use Rattle.read.proofs.read.Statement.{statement}
 use Rattle.read.proofs.read.Tie as tie
 

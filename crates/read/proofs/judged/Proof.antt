@@ -1,0 +1,33 @@
+use Rattle.read.proofs.Whole.{judges}
+use borrow.Author.Needs.{needs}
+use Rattle.read.proofs.judged.Statement.{statement}
+use Rattle.read.proofs.judged.Tie as tie
+use Rattle.read.proofs.judged.Reads as reads
+use Rattle.read.proofs.judged.Lts as lts
+use Rattle.read.proofs.measured.Reads as measured-reads
+
+-- src/lib.rt:244:17
+add-front : tie.Need-add-front
+add-front c = search needs
+
+-- src/lib.rt:244:17
+add-front-2 : tie.Need-add-front-2
+add-front-2 c = search needs
+
+-- src/lib.rt:245:5
+measured-requires : tie.Need-measured-requires
+measured-requires c κs = search needs
+
+-- src/lib.rt:240:1
+same-length : tie.Need-same-length
+same-length c = search needs
+
+-- src/lib.rt:240:1
+returns : tie.Need-returns
+returns c =
+    let a = c .before .before .before .before .before .before .before .before in
+    let m = c .before .before .measured .ensures in
+    (judges (a .args .file .now) (a .args .head) (a .pre) _ (m .0), m .1)
+
+pub judged-spec : {M : Type 1} → statement M
+judged-spec = tie.close (tie.spec add-front add-front-2 measured-requires same-length returns)
