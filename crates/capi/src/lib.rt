@@ -139,12 +139,12 @@ pub extern "C" fn cockledrift_convert(
     sheet: &mut [u8],
     out: &mut [u8],
 ) -> AnswerNumbers
-    ensures answer { λ r. ⌜ r ≡ outcomeNumbers (convertOutcome (now (file .entry)) (now (sheet .entry)) (length (now (out .entry)))) ⌝ }
+    ensures answer { λ r. ⌜ r ≡ outcomeNumbers (convertOutcome (now (file .entry)) (length (now (sheet .entry))) (length (now (out .entry)))) ⌝ }
     ensures sheet { λ _. ⌜ now (sheet .exit) ≡ readBuffer (now (file .entry)) (now (sheet .entry)) ⌝ }
-    ensures file { λ _. ⌜ now (out .exit) ≡ convertBuffer (now (file .entry)) (now (sheet .entry)) (now (out .entry)) ⌝ }
+    ensures file { λ _. ⌜ now (out .exit) ≡ convertBuffer (now (file .entry)) (length (now (sheet .entry))) (now (out .entry)) ⌝ }
 {
-    let a = convert::convert(file, sheet, out);
-    told::tell(a)
+    let converted = convert::convert(file, sheet, out);
+    told::tell(converted)
 }
 
 // A comparison with no refusal.

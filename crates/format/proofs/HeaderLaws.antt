@@ -12,6 +12,7 @@ use Rattle.format.specs.Bytes.{pick}
 use Rattle.format.specs.Header.{Header, Opening, shut, opened, magic, titleLimit, timeLimit, fileLimit, lineEnd, goodLine, extendedByte}
 use Rattle.format.specs.Header.{closedHeader, timeLine, titleLine, goodVersion, headerOf, openingOf}
 use Rattle.format.specs.Sheet.{goodText}
+use Rattle.format.specs.Refusals.{readerNumber}
 use Rattle.format.specs.WellFormed.{GoodHeader}
 use Rattle.format.specs.V7Codes.{v7HeaderCodes}
 use Rattle.format.specs.Codes.{headerCodes}
@@ -264,7 +265,7 @@ pub record Fits (file : List ℕ) (version place : ℕ) (h : Header) : Type 0 wh
   pub few : length file ≤ 16777216
 
 abbrev pub FitsOpening : List ℕ → Opening → Type 0
-FitsOpening file (shut n p) = Unit
+FitsOpening file (shut n p) = readerNumber n ≡ true
 FitsOpening file (opened v p h) = Fits file v p h
 
 module _ (file : List ℕ) (few : length file ≤ 16777216) where
@@ -305,10 +306,10 @@ module _ (file : List ℕ) (few : length file ≤ 16777216) where
       → FitsOpening file (extendedByte file p (record { extended = 0; title = title; time = time }))
   unfolding extendedByte
   extended-fits-at title time p l =
-      pick-case (FitsOpening file) _ _ _ (λ e. tt) λ e0.
+      pick-case (FitsOpening file) _ _ _ (λ e. refl) λ e0.
       let h : p < length file = leb-false (length file) p e0 in
       pick-case (FitsOpening file) _ _ _ (λ e. with-bit 0 (omega arith) title time p l h) λ e.
-      pick-case (FitsOpening file) _ _ _ (λ e. with-bit 1 (omega arith) title time p l h) λ e. tt
+      pick-case (FitsOpening file) _ _ _ (λ e. with-bit 1 (omega arith) title time p l h) λ e. refl
 
   closed-fits : (version : ℕ) → 3 ≤ version → version ≤ 8 → (title time : List ℕ) (p : ℕ) → Lines file title time p
       → FitsOpening file (closedHeader version file p (record { extended = 0; title = title; time = time }))
@@ -344,12 +345,12 @@ module _ (file : List ℕ) (few : length file ≤ 16777216) where
     time-fits : (version : ℕ) → 3 ≤ version → version ≤ 8 → FitsOpening file (timeLine version file k)
     unfolding timeLine
     time-fits version h3 h8 =
-        pick-case (FitsOpening file) _ _ _ (λ e. closed-fits version h3 h8 _ _ _ (lines-at (line-good timeLimit u e))) λ e. tt
+        pick-case (FitsOpening file) _ _ _ (λ e. closed-fits version h3 h8 _ _ _ (lines-at (line-good timeLimit u e))) λ e. refl
 
   title-fits : (version : ℕ) → 3 ≤ version → version ≤ 8 → FitsOpening file (titleLine version file)
   unfolding titleLine
   title-fits version h3 h8 =
-      pick-case (FitsOpening file) _ _ _ (λ e. time-fits (line-good titleLimit (drop 24 file) e) version h3 h8) λ e. tt
+      pick-case (FitsOpening file) _ _ _ (λ e. time-fits (line-good titleLimit (drop 24 file) e) version h3 h8) λ e. refl
 
   version-fits : goodVersion file ≡ true → (3 ≤ getD file 22 0 - 48) × (getD file 22 0 - 48 ≤ 8)
   unfolding goodVersion
@@ -365,11 +366,11 @@ module _ (file : List ℕ) (few : length file ≤ 16777216) where
   unfolding headerOf
   header-fits =
       pick-case (FitsOpening file) _ _ _ (λ e0.
-      pick-case (FitsOpening file) _ _ _ (λ e. let v = version-fits e in title-fits (getD file 22 0 - 48) (v .0) (v .1)) λ e. tt) λ e. tt
+      pick-case (FitsOpening file) _ _ _ (λ e. let v = version-fits e in title-fits (getD file 22 0 - 48) (v .0) (v .1)) λ e. refl) λ e. refl
 
 pub fits-opening : (file : List ℕ) → FitsOpening file (openingOf file)
 unfolding openingOf
-fits-opening file = pick-case (FitsOpening file) _ _ _ (λ e. tt) λ e. header-fits file (ltb-false fileLimit (length file) e)
+fits-opening file = pick-case (FitsOpening file) _ _ _ (λ e. refl) λ e. header-fits file (ltb-false fileLimit (length file) e)
 
 pub opening-fits : (file : List ℕ) {v p : ℕ} {h : Header} → openingOf file ≡ opened v p h → Fits file v p h
 opening-fits file e = rw e at (fits-opening file)

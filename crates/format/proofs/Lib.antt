@@ -1,6 +1,7 @@
 pub mod ApplyLaws
 pub mod Basics
 pub mod Cases
+pub mod ConversionLaws
 pub mod Edges
 pub mod EditingLaws
 pub mod GoingLaws

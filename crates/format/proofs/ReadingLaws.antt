@@ -20,7 +20,7 @@ use Rattle.format.specs.Items.{newDateItem, newLowItem, newHighItem, ite
 use Rattle.format.specs.declared.LabelPart.{LabelPart}
 use Rattle.format.specs.declared.LabelPart.the-variants.{Unfinished, Numbers}
 use Rattle.format.specs.State.{State, Record, Next, bad, end, on, made, onLabel, apply, nextOf}
-use Rattle.format.specs.Refusals.{Result, stop, also}
+use Rattle.format.specs.Refusals.{readerNumber, Result, stop, also}
 use Rattle.format.specs.declared.Verdict.the-variants.{Good, Refusal}
 use Rattle.format.specs.Reading.{next, ended, afterItem, readStep, run, Reached, begins, goes, makes}
 use Rattle.format.specs.declared.Point.{Point}
@@ -29,25 +29,25 @@ use Rattle.format.proofs.Basics.{pick-case}
 use Rattle.format.proofs.IterateLaws.{iter-eq}
 use Rattle.format.proofs.ApplyLaws.{label-case, leg-case}
 
--- ---- progress: the size of an item, where m bytes are there
+-- ---- progress: the size of an item, where m bytes are there; a refusal has one of the reader's numbers
 
 abbrev pub SizedItem : ℕ → Decoded → Type 0
-SizedItem m (faulty k) = Unit
+SizedItem m (faulty k) = readerNumber k ≡ true
 SizedItem m (whole n it) = (1 ≤ n) × (n ≤ m)
 
 sized-sized : (n : ℕ) (s : List ℕ) (it : Item) → 1 ≤ n → SizedItem (length s) (sized n s it)
 unfolding sized
-sized-sized n s it h = pick-case (SizedItem (length s)) _ _ _ (λ e. tt) λ e. (h, ltb-false _ _ e)
+sized-sized n s it h = pick-case (SizedItem (length s)) _ _ _ (λ e. refl) λ e. (h, ltb-false _ _ e)
 
 sized-behind : (m : ℕ) (n : ℕ) (t : List ℕ) (it : Item) → 1 + length t ≤ m → SizedItem m (behindCode (sized n t it))
 unfolding sized
 sized-behind m n t it h =
-    pick-case (λ (x : Decoded). SizedItem m (behindCode x)) _ _ _ (λ e. tt) λ e.
+    pick-case (λ (x : Decoded). SizedItem m (behindCode x)) _ _ _ (λ e. refl) λ e.
     let z : n ≤ length t = ltb-false _ _ e in (omega arith, omega arith)
 
 sized-labelled : (m : ℕ) (p : LabelPart) (t : List ℕ) (n : ℕ) (make : ℕ → List ℕ → List ℕ → Item) → 1 + length t ≤ m → SizedItem m (labelledItem p t n make)
 unfolding labelledItem
-sized-labelled m Unfinished t n make h = tt
+sized-labelled m Unfinished t n make h = refl
 sized-labelled m (Numbers k d a) t n make h = sized-behind m (k + a + n) t _ h
 
 sized-section : (m code : ℕ) (p : LabelPart) (t : List ℕ) → 1 + length t ≤ m → SizedItem m (sectionItem code p t)
@@ -66,15 +66,15 @@ sized-old-middle : (version code : ℕ) (s : List ℕ) → 1 ≤ length s → Si
 unfolding oldMiddleItem oldDateItem v7DateItem errorItem secondsItem twoSecondsItem dayItem spanItem daysItem
 sized-old-middle version code s h =
     let P = SizedItem (length s) in
-    pick-case P _ _ _ (λ e. pick-case P _ _ _ (λ e. tt) (λ e. sized-sized 21 s _ (omega arith))) λ e.
-    pick-case P _ _ _ (λ e. tt) λ e.
+    pick-case P _ _ _ (λ e. pick-case P _ _ _ (λ e. refl) (λ e. sized-sized 21 s _ (omega arith))) λ e.
+    pick-case P _ _ _ (λ e. refl) λ e.
     pick-case P _ _ _
-    (λ e. pick-case P _ _ _ (λ e. sized-sized 5 s _ (omega arith)) λ e. pick-case P _ _ _ (λ e. sized-sized 9 s _ (omega arith)) λ e. tt)
+    (λ e. pick-case P _ _ _ (λ e. sized-sized 5 s _ (omega arith)) λ e. pick-case P _ _ _ (λ e. sized-sized 9 s _ (omega arith)) λ e. refl)
     λ e.
     pick-case P _ _ _ (λ e. sized-sized 3 s _ (omega arith)) λ e.
     pick-case P _ _ _ (λ e. sized-sized 4 s _ (omega arith)) λ e.
     pick-case P _ _ _ (λ e. sized-sized 5 s _ (omega arith)) λ e.
-    pick-case P _ _ _ (λ e. (omega arith, h)) λ e. tt
+    pick-case P _ _ _ (λ e. (omega arith, h)) λ e. refl
 
 sized-old-low : (code : ℕ) (s : List ℕ) → 1 ≤ length s → SizedItem (length s) (oldLowItem code s)
 unfolding oldLowItem moveItem
@@ -88,18 +88,18 @@ sized-old-high : (m version code : ℕ) (t : List ℕ) → 1 + length t ≤ m �
 unfolding oldHighItem
 sized-old-high m version code t h =
     let P = SizedItem m in
-    pick-case P _ _ _ (λ e. pick-case P _ _ _ (λ e. tt) (λ e. sized-section m code (oldPart t) t h)) λ e.
-    pick-case P _ _ _ (λ e. tt) λ e.
+    pick-case P _ _ _ (λ e. pick-case P _ _ _ (λ e. refl) (λ e. sized-section m code (oldPart t) t h)) λ e.
+    pick-case P _ _ _ (λ e. refl) λ e.
     pick-case P _ _ _ (λ e. sized-station m (code - 0x40) (oldPart t) t h) λ e.
-    pick-case P _ _ _ (λ e. tt) λ e.
-    pick-case P _ _ _ (λ e. sized-line m (code - 0x80) (oldPart t) t h) λ e. tt
+    pick-case P _ _ _ (λ e. refl) λ e.
+    pick-case P _ _ _ (λ e. sized-line m (code - 0x80) (oldPart t) t h) λ e. refl
 
 sized-new-low : (code : ℕ) (s : List ℕ) → 1 ≤ length s → SizedItem (length s) (newLowItem code s)
 unfolding newLowItem moveItem errorItem newDateItem dayItem spanItem daysItem
 sized-new-low code s h =
     let P = SizedItem (length s) in
     pick-case P _ _ _ (λ e. (omega arith, h)) λ e.
-    pick-case P _ _ _ (λ e. tt) λ e.
+    pick-case P _ _ _ (λ e. refl) λ e.
     pick-case P _ _ _ (λ e. sized-sized 13 s _ (omega arith)) λ e.
     pick-case P _ _ _
     (λ e.
@@ -107,18 +107,18 @@ sized-new-low code s h =
     pick-case P _ _ _ (λ e. sized-sized 3 s _ (omega arith)) λ e.
     pick-case P _ _ _ (λ e. sized-sized 4 s _ (omega arith)) λ e. sized-sized 5 s _ (omega arith))
     λ e.
-    pick-case P _ _ _ (λ e. sized-sized 21 s _ (omega arith)) λ e. tt
+    pick-case P _ _ _ (λ e. sized-sized 21 s _ (omega arith)) λ e. refl
 
 sized-new-high : (m code : ℕ) (t : List ℕ) → 1 + length t ≤ m → SizedItem m (newHighItem code t)
 unfolding newHighItem
 sized-new-high m code t h =
     let P = SizedItem m in
     pick-case P _ _ _ (λ e. sized-section m code (newPart t) t h) λ e.
-    pick-case P _ _ _ (λ e. tt) λ e.
+    pick-case P _ _ _ (λ e. refl) λ e.
     pick-case P _ _ _ (λ e. sized-line m (code - 0x40) (newPart t) t h) λ e.
-    pick-case P _ _ _ (λ e. tt) λ e.
+    pick-case P _ _ _ (λ e. refl) λ e.
     pick-case P _ _ _ (λ e. sized-line m (code - 0x60) (Numbers 0 0 0) t h) λ e.
-    pick-case P _ _ _ (λ e. tt) λ e. sized-station m (code - 0x80) (newPart t) t h
+    pick-case P _ _ _ (λ e. refl) λ e. sized-station m (code - 0x80) (newPart t) t h
 
 -- every item, of every version, uses at least one byte and no more than are there
 pub progress : (version : ℕ) (s : List ℕ) → SizedItem (length s) (itemOf version s)
@@ -126,7 +126,7 @@ unfolding itemOf
 progress version s =
     let P = SizedItem (length s) in
     let code = getD s 0 0 in
-    pick-case P _ _ _ (λ e. tt) λ e.
+    pick-case P _ _ _ (λ e. refl) λ e.
     let h : 1 ≤ length s = ltb-false _ _ e in
     let k : 1 + length (drop 1 s) ≤ length s = simp length-drop (omega arith) in
     pick-case P _ _ _
@@ -139,7 +139,7 @@ progress version s =
 -- ---- the same of what an item comes to
 
 abbrev pub SizedNext : ℕ → Next → Type 0
-SizedNext m (bad k) = Unit
+SizedNext m (bad k) = readerNumber k ≡ true
 SizedNext m end = 1 ≤ m
 SizedNext m (on n st) = (1 ≤ n) × (n ≤ m)
 SizedNext m (made n r st) = (1 ≤ n) × (n ≤ m)
@@ -147,7 +147,7 @@ SizedNext m (made n r st) = (1 ≤ n) × (n ≤ m)
 module _ (m : ℕ) (st : State) (n : ℕ) (h : 1 ≤ n) (k : n ≤ m) where
   sized-label : (cut : Cut) (added : List ℕ) (go : List ℕ → Next) → ((l : List ℕ) → SizedNext m (go l))
       → SizedNext m (onLabel (labelStep (st .label) cut added) go)
-  sized-label cut added go f = label-case (SizedNext m) (st .label) cut added go tt tt (λ l z. f l)
+  sized-label cut added go f = label-case (SizedNext m) (st .label) cut added go refl refl (λ l z. f l)
 
   sized-apply : (it : Item) → SizedNext m (apply st n it)
   sized-apply Stop = pick-case (SizedNext m) _ _ _ (λ e. omega arith) λ e. sized-label Empty [] _ (λ l. (h, k))
@@ -155,14 +155,14 @@ module _ (m : ℕ) (st : State) (n : ℕ) (h : 1 ≤ n) (k : n ≤ m) where
   sized-apply (Style s) = pick-case (SizedNext m) _ _ _ (λ e. omega arith) λ e. (h, k)
   sized-apply (Move p) = (h, k)
   sized-apply NoDate = (h, k)
-  sized-apply (Date first last) = pick-case (SizedNext m) _ _ _ (λ e. tt) λ e. (h, k)
+  sized-apply (Date first last) = pick-case (SizedNext m) _ _ _ (λ e. refl) λ e. (h, k)
   sized-apply (Error t) = (h, k)
   sized-apply (Xsect last dims d added) = sized-label (Back d) added _ (λ l. (h, k))
   sized-apply (Label flags p d added) = sized-label (Back d) added _ (λ l. (h, k))
-  sized-apply (Line flags p d added) = sized-label (Back d) added _ (λ l. leg-case (SizedNext m) (st .setting .position) n st flags p l tt (λ from. (h, k)))
+  sized-apply (Line flags p d added) = sized-label (Back d) added _ (λ l. leg-case (SizedNext m) (st .setting .position) n st flags p l refl (λ from. (h, k)))
 
 sized-next-of : (m : ℕ) (st : State) (x : Decoded) → SizedItem m x → SizedNext m (nextOf st x)
-sized-next-of m st (faulty k) z = tt
+sized-next-of m st (faulty k) z = z
 sized-next-of m st (whole n it) z = sized-apply m st n (z .0) (z .1) it
 
 pub next-sized : (version : ℕ) (s : List ℕ) (st : State) → SizedNext (length s) (next version s st)

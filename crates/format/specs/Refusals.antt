@@ -2,7 +2,8 @@
 -- lent buffer then holds. Assumes nothing.
 use Prim.Native.Nat.{ℕ}
 use mathlib.Core.List.{List, [], _∷_}
-use lib.Dec.{ltb}
+use mathlib.Core.Bool.{Bool, _&&_, _||_}
+use lib.Dec.{eqb, ltb, leb}
 use Rattle.format.specs.Bytes.{pick, over}
 use Rattle.format.specs.State.{Record}
 use Rattle.format.specs.declared.Verdict.{Verdict}
@@ -12,6 +13,10 @@ use Rattle.format.specs.declared.Verdict.the-variants.{Good, Refusal}
 abbrev pub orElse : Verdict → Verdict → Verdict
 orElse Good v = v
 orElse (Refusal n p) v = Refusal n p
+
+-- the numbers in "Reading: 16, 1, 2, 3, the v8 byte, then items in order; in an item 4, 5, 6, 7, 9, 8; then 10, then 11"
+abbrev pub readerNumber : ℕ → Bool
+readerNumber n = leb 1 n && (leb n 11 || eqb n 16)
 
 -- ---- the records made before a reading stopped, and why it stopped
 

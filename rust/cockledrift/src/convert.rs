@@ -8,9 +8,10 @@ use crate::{library, Answer};
 /// Reads a file, v3 to v8, to the lent `sheet`, then writes it as a v8 file to
 /// the front of the lent `out`.
 ///
-/// The answer is the writer's: bytes of the v8 file, and version 8. After a
-/// reader's refusal both buffers are as they were; after a writer's the sheet
-/// stands and `out` is as it was. 11 does not say which buffer is too small:
+/// The answer has the bytes of the v8 file, and version 8. It is refused as
+/// [`read`](crate::read) refuses the file, with both buffers as they were; or
+/// because the v8 file is too long (16) or `out` too small for it (11): then the
+/// sheet stands and `out` is as it was. 11 does not say which buffer is too small:
 /// [`read`](crate::read) alone tells.
 ///
 /// ```

@@ -2,8 +2,8 @@
 //! v8 and v7, editing v8 and comparing time lines.
 //!
 //! An independent second implementation of document 01 and of requests #101,
-//! #106, #107, #110 and #111 of document 02, written from these documents and the two
-//! published format pages. It allocates only in `edit`.
+//! #106, #107, #110, #111 and #113 of document 02, written from these documents and
+//! the two published format pages. It allocates only in `edit`.
 
 mod codes;
 mod edit;
@@ -26,6 +26,8 @@ pub use read::read;
 pub use salvage::{salvage, Salvaged};
 pub use step::{open, Opened, Step, Stepper};
 pub use write::{write, write_v7};
+
+use write::write_made;
 
 /// "file read or written over 16,777,216 bytes"
 pub(crate) const LONGEST_FILE: usize = 16_777_216;
@@ -79,11 +81,12 @@ pub(crate) fn turn<const N: usize>(numbers: &[u8; N], turned: &mut [u8; N]) {
 
 /// Reads `file` (v3 to v8) to the lent `sheet`, then writes it as v8 to `out`.
 ///
-/// "after a writer's refusal the sheet stands and the file buffer is
-/// untouched"; after a reader's refusal both are untouched.
+/// It gives the reader's refusals, "then 16 and 11". After one of the reader's
+/// both buffers are untouched; "after a writer's refusal the sheet stands and
+/// the file buffer is untouched".
 pub fn convert(file: &[u8], sheet: &mut [u8], out: &mut [u8]) -> Answer {
     match read(file, sheet) {
-        Answer::Done { bytes, .. } => write(&sheet[..bytes], out),
+        Answer::Done { bytes, .. } => write_made(&sheet[..bytes], out),
         refused => refused,
     }
 }

@@ -24,8 +24,24 @@ pub fn write_v7(sheet: &[u8], file: &mut [u8]) -> Answer {
     write_judged::<V7>(sheet, file).unwrap_or_else(Answer::from)
 }
 
+/// Writes a sheet that reading made as a v8 file to the front of `file`. Only
+/// 16 and 11 are left: such a sheet "is never refused with 12 or 13".
+pub(crate) fn write_made(sheet: &[u8], file: &mut [u8]) -> Answer {
+    match measure::<V8>(sheet) {
+        Ok(measured) => write_measured::<V8>(sheet, measured, file).unwrap_or_else(Answer::from),
+        Err(refusal) => unreachable!("a sheet made by reading is refused: {refusal:?}"),
+    }
+}
+
 fn write_judged<V: Version>(sheet: &[u8], file: &mut [u8]) -> Result<Answer, Refusal> {
-    let (bytes, records) = measure::<V>(sheet)?;
+    write_measured::<V>(sheet, measure::<V>(sheet)?, file)
+}
+
+fn write_measured<V: Version>(
+    sheet: &[u8],
+    (bytes, records): (usize, usize),
+    file: &mut [u8],
+) -> Result<Answer, Refusal> {
     if bytes > LONGEST_FILE {
         return Err(no(16, 0));
     }

@@ -134,11 +134,19 @@ fn spoiled_files_answer_alike() {
         // `read_all` watches the memory and compares with the stepper.
         match read_all(&spoiled) {
             Ok((sheet, count, _)) => {
+                // Neither 12 nor 13: reading made the sheet.
                 let ours = write_all(&sheet).unwrap();
+                let mut lent = vec![FILLER; sheet.len()];
+                let converted = watched(|out| convert(&spoiled, &mut lent.clone(), out));
+                assert_eq!(converted, Ok((ours.clone(), count, 8)), "{round}");
+                convert(&spoiled, &mut lent, &mut []);
+                assert_eq!(lent, sheet, "{round}");
                 assert_eq!(read_all(&ours), Ok((sheet, count, 8)), "{round}");
                 seen[0] += 1;
             }
             Err((number, place)) => {
+                let converted = watched(|out| convert(&spoiled, &mut [FILLER; 4200], out));
+                assert_eq!(converted, Err((number, place)), "{round}");
                 assert!(place <= spoiled.len());
                 seen[usize::from(number)] += 1;
             }

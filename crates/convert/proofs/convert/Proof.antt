@@ -4,7 +4,7 @@ use native.Mathlib.Omega.{arith}
 use mathlib.Core.Path.{sym, _∙_}
 use lib.Seq.{length-take-le}
 use Rattle.read.proofs.Room.{read-room}
-use Rattle.convert.proofs.Laws.{convert-refused, convert-written}
+use Rattle.format.proofs.ConversionLaws.{convert-refused, convert-written}
 use Rattle.convert.proofs.convert.Statement.{statement}
 use Rattle.convert.proofs.convert.Tie as tie
 
@@ -38,8 +38,9 @@ same-length c = search needs
 returns : tie.Need-returns
 returns c =
     let a = c .before .before .before .before .before .before .before .before .before .before in
-    let r = convert-refused (a .args .file .now) (a .args .sheet .now) (a .args .out .now) _ _ (rw (c .before .a .given .1) at (c .before .before .before .before .before .read .ensures .0)) in
-    (r .0, (c .before .before .before .before .before .read .ensures .1, r .1))
+    let e = rw (c .before .a .given .1) at (c .before .before .before .before .before .read .ensures .0) in
+    let r = convert-refused (a .args .file .now) (a .args .sheet .now) _ _ (sym e) (a .args .out .now) in
+    (sym (r .0), (c .before .before .before .before .before .read .ensures .1, sym (r .1)))
 
 same-length-2 : tie.Need-same-length-2
 same-length-2 c = search needs
@@ -49,10 +50,13 @@ same-length-3 c = search needs
 
 returns-2 : tie.Need-returns-2
 returns-2 c =
-    let a = c .before .before .before .before .before .before .before .before .before .before .before .before .before .before .before in
-    let q = c .before .before .before .before .before .before .before .before .before .before .read .ensures .1 in
-    let r = convert-written (a .args .file .now) (a .args .sheet .now) (a .args .out .now) _ _ _ _ (rw (c .before .before .before .before .before .before .a2 .given .1) at (c .before .before .before .before .before .before .before .before .before .before .read .ensures .0)) q in
-    (c .before .before .write .ensures .0 ∙ r .0, (q, c .before .before .write .ensures .1 ∙ r .1))
+    let y = c .before .before .before .before .before .before .before .before .before .before .before .before .before .before in
+    let a = y .before in
+    let R = c .before .before .before .before .before .before .before .before .before .before .read .ensures in
+    let e = rw (c .before .before .before .before .before .before .a2 .given .1) at (R .0) in
+    let r = convert-written (a .args .file .now) (a .args .sheet .now) (λ i. y .shared-slice-known .given i .fits) _ _ _ (sym e) (a .args .out .now) in
+    let W = c .before .before .write .ensures in
+    (rw (R .1) at (W .0) ∙ sym (r .0), (R .1, rw (R .1) at (W .1) ∙ sym (r .1)))
 
 pub convert-spec : {M : Type 1} → statement M
 convert-spec =
