@@ -69,6 +69,7 @@ extern "C" {
     X(COCKLEDRIFT_PAST_LAST_RECORD, 15, "the run ends past the last record") \
     X(COCKLEDRIFT_FILE_TOO_LONG, 16, "the file is over 16,777,216 bytes") \
     X(COCKLEDRIFT_BAD_TIME_LINE, 17, "the time line is not readable") \
+    X(COCKLEDRIFT_NO_LEG, 21, "no leg of this survey") \
     X(COCKLEDRIFT_NOT_IN_V7, 23, "v7 cannot carry it")
 
 #define COCKLEDRIFT_NUMBER(name, number, words) name = number,
@@ -149,6 +150,21 @@ struct cockledrift_compared {
 /* Compares two files by their time lines. Only headers are judged, the first file's first. */
 struct cockledrift_compared cockledrift_compare(const uint8_t *first, size_t first_bytes, const uint8_t *second,
                                                 size_t second_bytes) COCKLEDRIFT_LENT;
+
+/* ---- How far a survey reaches */
+
+struct cockledrift_reached {
+    uint64_t number; /* COCKLEDRIFT_DONE, or the refusal's number */
+    size_t place;    /* refused: the refusal's place; done: 0 */
+    size_t legs;     /* done: the legs that took part, at least one; refused: 0, as all below */
+    int32_t least_x, least_y, least_z;          /* the least over both ends of these legs, in centimetres */
+    int32_t greatest_x, greatest_y, greatest_z; /* and the greatest */
+};
+
+/* The bounds of all legs of a sheet whose label is the name, or begins with it and then a dot; the empty name takes
+   all. Refused with COCKLEDRIFT_BAD_SHEET as for writing, and with COCKLEDRIFT_NO_LEG where no leg takes part. */
+struct cockledrift_reached cockledrift_reach(const uint8_t *sheet, size_t sheet_bytes, const uint8_t *name,
+                                             size_t name_bytes) COCKLEDRIFT_LENT;
 
 /* ---- Stepping through a file. A reader is the file, fourteen numbers and the buffer of a label, which the caller
    keeps from one step to the next. Any numbers and any bytes there are safe; to copy them is to copy the reader. */
@@ -270,6 +286,16 @@ COCKLEDRIFT_AT(cockledrift_compared, file, 8, 8);
 COCKLEDRIFT_AT(cockledrift_compared, number, 16, 8);
 COCKLEDRIFT_AT(cockledrift_compared, place, 24, 8);
 COCKLEDRIFT_AT(cockledrift_compared, length, 32, 8);
+COCKLEDRIFT_LAYOUT(sizeof(struct cockledrift_reached) == 48);
+COCKLEDRIFT_AT(cockledrift_reached, number, 0, 8);
+COCKLEDRIFT_AT(cockledrift_reached, place, 8, 8);
+COCKLEDRIFT_AT(cockledrift_reached, legs, 16, 8);
+COCKLEDRIFT_AT(cockledrift_reached, least_x, 24, 4);
+COCKLEDRIFT_AT(cockledrift_reached, least_y, 28, 4);
+COCKLEDRIFT_AT(cockledrift_reached, least_z, 32, 4);
+COCKLEDRIFT_AT(cockledrift_reached, greatest_x, 36, 4);
+COCKLEDRIFT_AT(cockledrift_reached, greatest_y, 40, 4);
+COCKLEDRIFT_AT(cockledrift_reached, greatest_z, 44, 4);
 COCKLEDRIFT_LAYOUT(sizeof(struct cockledrift_opened) == 24);
 COCKLEDRIFT_AT(cockledrift_opened, number, 0, 8);
 COCKLEDRIFT_AT(cockledrift_opened, place, 8, 8);

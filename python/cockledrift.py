@@ -38,6 +38,12 @@ _Salvaged = _numbers("refused", "bytes", "records", "version", "number", "place"
 _Compared = _numbers("which", "file", "number", "place", "length")
 _Opened = _numbers("number", "place", "version")
 _Stepped = _numbers("what", "bytes", "kept", "number")
+
+
+class _Reached(ctypes.Structure):
+    _fields_ = [("number", _u64), ("place", _u64), ("legs", _u64), ("bounds", ctypes.c_int32 * 6)]
+
+
 _Stand, _Label = _u64 * STAND_NUMBERS, ctypes.c_char * LABEL_LIMIT
 
 _library = ctypes.CDLL(os.environ.get("COCKLEDRIFT_LIBRARY", "libcockledrift.so.0"))
@@ -57,6 +63,7 @@ _write_v7 = _declare("write_v7", _Answer, _bytes, _size, _out, _size)
 _convert = _declare("convert", _Answer, _bytes, _size, _out, _size, _out, _size)
 _edit = _declare("edit", _Answer, _bytes, _size, _size, _size, _bytes, _size, _out, _size)
 _compare = _declare("compare", _Compared, _bytes, _size, _bytes, _size)
+_reach = _declare("reach", _Reached, _bytes, _size, _bytes, _size)
 _open = _declare("open", _Opened, _bytes, _size, ctypes.POINTER(_Stand))
 _step = _declare("step", _Stepped, *_step_arguments)
 _next = _declare("next", _Stepped, *_step_arguments)
@@ -271,6 +278,21 @@ def edit(file: bytes, first: int, count: int, new=()) -> bytes:
     to be what `write` gives for its sheet: `convert` makes it so."""
     laid = new if isinstance(new, bytes) else b"".join(record.lay() for record in new)
     return _filled(lambda out, room: _edit(file, len(file), first, count, laid, len(laid), out, room))[0]
+
+
+class Reach(NamedTuple):
+    legs: int
+    least: Point
+    greatest: Point
+
+
+def reach(sheet: Union[Sheet, bytes], name: bytes = b"") -> Reach:
+    """How far the legs reach whose label is the name, or begins with it and then a dot; the empty name takes all."""
+    sheet = _sheet_bytes(sheet)
+    answer = _reach(sheet, len(sheet), name, len(name))
+    if answer.number:
+        raise Refusal(answer.number, answer.place)
+    return Reach(answer.legs, tuple(answer.bounds[:3]), tuple(answer.bounds[3:]))
 
 
 def compare(first: bytes, second: bytes) -> Tuple[int, bytes]:

@@ -22,6 +22,7 @@ const ARCHIVES: [Archive; 1] = [Archive {
         "convert",
         "edit",
         "compare",
+        "reach",
         "open",
         "step",
         "next",

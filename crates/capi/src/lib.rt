@@ -8,7 +8,8 @@ ghost use Rattle.format.specs.Conversion.{convertOutcome, convertBuffer};
 ghost use Rattle.format.specs.Times.{compareOf, laterPart};
 ghost use Rattle.format.specs.Editing.{editOutcome, editBuffer};
 ghost use Rattle.format.specs.Stepping.{openStand, stepOf, stepBuffer};
-ghost use Rattle.format.specs.Answers.{laterOf, openOutcome};
+ghost use Rattle.format.specs.Reach.{reachOf};
+ghost use Rattle.format.specs.Answers.{laterOf, openOutcome, reachedOf};
 ghost use Rattle.step.specs.Standing.{Opens};
 ghost use Rattle.step.specs.Going.{nextRecord, nextBuffer};
 ghost use Rattle.held.specs.Numbers.{heldOf, stateStand};
@@ -17,10 +18,12 @@ ghost use Rattle.read.specs.Salvage.{salvageOutcome, salvageBuffer, salvagedOf}
 ghost use Rattle.sha256.specs.Digest.{sha256Of};
 ghost use Rattle.sha256.specs.Streams.{updated, finished, begun, runningOf, stateStream};
 ghost use Rattle.capi.specs.Compares.{comparedOf};
+ghost use Rattle.capi.specs.Reaches.{reachNumbers};
 ghost use Rattle.capi.specs.Salvages.{salvageNumbers};
 use format::Handed;
 use format::LABEL_LIMIT;
 use format::Later;
+use format::Reached;
 use format::Stepped;
 use held::Brief;
 use held::STAND_NUMBERS;
@@ -42,6 +45,21 @@ pub struct Compared {
     pub number: u64,
     pub place: usize,
     pub length: usize,
+}
+
+// How far a survey reaches. Number 0 is success, with how many legs took part and the
+// least and the greatest x, y and z; any other is the refusal's number, with its place.
+#[repr(C)]
+pub struct ReachNumbers {
+    pub number: u64,
+    pub place: usize,
+    pub legs: usize,
+    pub least_x: i32,
+    pub least_y: i32,
+    pub least_z: i32,
+    pub greatest_x: i32,
+    pub greatest_y: i32,
+    pub greatest_z: i32,
 }
 
 // Reads a file into the lent sheet.
@@ -334,4 +352,46 @@ pub extern "C" fn cockledrift_sha256_finish(
 {
     let run = sha256::running_of(state);
     sha256::finish(run, block, out);
+}
+
+fn tell_reach(r: Reached) -> ReachNumbers
+    ensures { λ n. ⌜ n ≡ reachNumbers (reachedOf r) ⌝ }
+{
+    match r {
+        Reached::Box {
+            legs,
+            least,
+            greatest,
+        } => ReachNumbers {
+            number: 0,
+            place: 0,
+            legs,
+            least_x: least.x,
+            least_y: least.y,
+            least_z: least.z,
+            greatest_x: greatest.x,
+            greatest_y: greatest.y,
+            greatest_z: greatest.z,
+        },
+        Reached::Refused { number, place } => ReachNumbers {
+            number: told::long(number),
+            place,
+            legs: 0,
+            least_x: 0,
+            least_y: 0,
+            least_z: 0,
+            greatest_x: 0,
+            greatest_y: 0,
+            greatest_z: 0,
+        },
+    }
+}
+
+// How far the survey of that name reaches in a sheet.
+#[no_mangle]
+pub extern "C" fn cockledrift_reach(sheet: &[u8], name: &[u8]) -> ReachNumbers
+    ensures { λ r. ⌜ r ≡ reachNumbers (reachOf (now (sheet .entry)) (now (name .entry))) ⌝ }
+{
+    let r = reach::reach(sheet, name);
+    tell_reach(r)
 }

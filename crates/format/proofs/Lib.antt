@@ -15,6 +15,8 @@ pub mod OurFiles
 pub mod OutlineCases
 pub mod OutlineLaws
 pub mod PaperLaws
+pub mod ReachCases
+pub mod ReachLaws
 pub mod ReadBack
 pub mod ReadingLaws
 pub mod RefusalLaws

@@ -1,9 +1,12 @@
 -- "For every answer that is an enum, a definition gives this paper's number and values for each case of the enum." Assumes nothing.
 use Prim.Native.Nat.{ℕ}
+use mathlib.Core.List.{List, [], _∷_}
+use lib.IntN.{ℤ}
 use Rattle.format.specs.Header.{Opening, shut, opened}
 use Rattle.format.specs.Refusals.{Outcome, accepted, refused}
 use Rattle.format.specs.Stepping.{StepOutcome, wrote, nothing, ends, refuses}
 use Rattle.format.specs.Times.{Comparison, first, second, equal, firstRefused, secondRefused}
+use Rattle.format.specs.Reach.{ReachOutcome, spans, unspanned}
 use Rattle.format.specs.declared.Answer.{Answer}
 use Rattle.format.specs.declared.Answer.the-variants.{Done, Refused}
 use Rattle.format.specs.declared.Opened.{Opened}
@@ -12,6 +15,9 @@ use Rattle.format.specs.declared.Stepped.{Stepped}
 use Rattle.format.specs.declared.Stepped.the-variants.{Record, Nothing, End, Refused as StepRefused}
 use Rattle.format.specs.declared.Later.{Later}
 use Rattle.format.specs.declared.Later.the-variants.{First, Second, Same, FirstRefused, SecondRefused}
+use Rattle.format.specs.declared.Corner.{Corner}
+use Rattle.format.specs.declared.Reached.{Reached}
+use Rattle.format.specs.declared.Reached.the-variants.{Box, Refused as Unreached}
 
 -- "answers bytes, records and file version"; a refusal has a number and a place
 abbrev pub answerOf : Answer → Outcome
@@ -45,3 +51,11 @@ laterOf Second = second
 laterOf Same = equal
 laterOf (FirstRefused number place) = firstRefused number place
 laterOf (SecondRefused number place) = secondRefused number place
+
+-- #102: "the least and greatest x, y and z", "how many legs took part"
+abbrev pub rowOf : Corner → List ℤ
+rowOf c = c .x ∷ c .y ∷ c .z ∷ []
+
+abbrev pub reachedOf : Reached → ReachOutcome
+reachedOf (Box legs least greatest) = spans (rowOf least ∷ rowOf greatest ∷ []) legs
+reachedOf (Unreached number place) = unspanned number place

@@ -16,5 +16,6 @@ pub mod Conversion
 pub mod Outline
 pub mod Stepping
 pub mod Times
+pub mod Reach
 pub mod Answers
 pub mod Fields

@@ -233,3 +233,24 @@ pub enum Later {
     FirstRefused { number: u8, place: usize },
     SecondRefused { number: u8, place: usize },
 }
+
+// A corner of a box: x, y and z in centimetres, as numbers.
+pub struct Corner {
+    pub x: i32,
+    pub y: i32,
+    pub z: i32,
+}
+
+// The answer of how far a survey reaches: how many legs took part, the least and the
+// greatest x, y and z of their ends; or a refusal.
+pub enum Reached {
+    Box {
+        legs: usize,
+        least: Corner,
+        greatest: Corner,
+    },
+    Refused {
+        number: u8,
+        place: usize,
+    },
+}

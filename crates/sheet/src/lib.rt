@@ -44,7 +44,7 @@ pub fn size_of(n: u32) -> usize
 }
 
 // A number of two bytes as a day.
-fn day_of(n: u32) -> u16
+pub fn day_of(n: u32) -> u16
     requires { ⌜ n ≤ 65535 ⌝ }
     ensures { λ r. ⌜ r ≡ n ⌝ }
 {
@@ -100,7 +100,7 @@ pub fn label_fits(n: usize, k: usize) -> bool
 
 // Whether the days are those of a date of this kind: unused days are 0, and a range
 // has its first day before its last.
-fn good_date(kind: u8, first: u16, last: u16) -> bool
+pub fn good_date(kind: u8, first: u16, last: u16) -> bool
     ensures { λ r. ⌜ r ≡ goodDate kind first last ⌝ }
 {
     if kind == 0 {

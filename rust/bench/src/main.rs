@@ -7,7 +7,7 @@
 use compare::proved;
 use generate::coder::{Coder, Form};
 use generate::Rng;
-use second::Answer;
+use second::{Answer, Reach};
 use std::hint::black_box;
 use std::time::{Duration, Instant};
 
@@ -28,6 +28,67 @@ fn main() {
     versions("v8", "stations, cross-sections and legs in turn", &mixed(), repeats);
     older(repeats);
     edits(repeats);
+    reaches(repeats);
+}
+
+/// How far the legs of a sheet reach: of all of them, of a survey that all are in, and of one that
+/// a leg in 28 is in. Nothing is lent but the sheet.
+fn reaches(repeats: usize) {
+    for (what, sheet) in [("legs", read_sheet(&legs(8))), ("records in turn", read_sheet(&mixed()))]
+    {
+        println!("reach: sheet {} bytes of {what}", sheet.len());
+        let pair = |proved, other| Pair { proved, other, against: "second" };
+        report("reach of all", &sheet, 0, pair(reach::proved_all, reach::second_all), repeats);
+        report(
+            "reach of a survey",
+            &sheet,
+            0,
+            pair(reach::proved_most, reach::second_most),
+            repeats,
+        );
+        report("reach of few", &sheet, 0, pair(reach::proved_few, reach::second_few), repeats);
+    }
+}
+
+mod reach {
+    use super::{answered, proved, Answer};
+
+    const MOST: &[u8] = b"cave.series";
+    const FEW: &[u8] = b"cave.series.passage.a";
+
+    pub fn proved_all(sheet: &[u8], _: &mut [u8]) -> Answer {
+        answered(proved::reach(sheet, &FEW[..0]))
+    }
+
+    pub fn second_all(sheet: &[u8], _: &mut [u8]) -> Answer {
+        answered(second::reach(sheet, &FEW[..0]))
+    }
+
+    pub fn proved_most(sheet: &[u8], _: &mut [u8]) -> Answer {
+        answered(proved::reach(sheet, MOST))
+    }
+
+    pub fn second_most(sheet: &[u8], _: &mut [u8]) -> Answer {
+        answered(second::reach(sheet, MOST))
+    }
+
+    pub fn proved_few(sheet: &[u8], _: &mut [u8]) -> Answer {
+        answered(proved::reach(sheet, FEW))
+    }
+
+    pub fn second_few(sheet: &[u8], _: &mut [u8]) -> Answer {
+        answered(second::reach(sheet, FEW))
+    }
+}
+
+/// A reach as an answer: the sum of the bounds for bytes, the legs for records.
+fn answered(reach: Reach) -> Answer {
+    let Reach::Reached { least, greatest, legs } = reach else { panic!("{reach:?}") };
+    let mut bytes = 0;
+    for number in [least, greatest].concat() {
+        bytes = bytes * 3 + number as u32 as usize;
+    }
+    Answer::Done { bytes, records: legs, version: 0 }
 }
 
 /// The sheet of the v7 file of legs, written as v7.

@@ -41,6 +41,18 @@ fn comparisons() {
 }
 
 #[test]
+fn reaches() {
+    let fields = [
+        offset_of!(ReachNumbers, number),
+        offset_of!(ReachNumbers, place),
+        offset_of!(ReachNumbers, legs),
+        offset_of!(ReachNumbers, least),
+        offset_of!(ReachNumbers, greatest),
+    ];
+    assert_eq!((fields, size_of::<ReachNumbers>()), ([0, 8, 16, 24, 36], 48));
+}
+
+#[test]
 fn openings() {
     let fields = [
         offset_of!(OpenNumbers, number),

@@ -5,8 +5,9 @@
 //! one what can be saved; a sheet is written as a v8 file, or as a v7 file for older
 //! programs; a v8 file that was written here can be edited without its sheet; two
 //! files are compared by their time lines; a [`Reader`] goes through a file item by
-//! item; [`sha256`] tells a file's digest. What the bytes of files and sheets mean,
-//! and what each refusal says, is in `docs/FORMAT.md`.
+//! item; [`reach`] says how far a survey of a sheet reaches, and [`sha256`] tells a
+//! file's digest. What the bytes of files and sheets mean, and what each refusal
+//! says, is in `docs/FORMAT.md`.
 //!
 //! [`Sheet`] and [`Record`] have these as values:
 //!
@@ -59,6 +60,7 @@ mod edit;
 #[cfg(test)]
 mod layout;
 mod library;
+mod reach;
 mod read;
 mod record;
 mod room;
@@ -72,6 +74,7 @@ pub use answer::{number, Answer, Done, Refusal};
 pub use compare::{compare, Later, RefusedFile, Which};
 pub use convert::convert;
 pub use edit::{edit, edit_vec};
+pub use reach::{reach, Reach};
 pub use read::{read, read_vec};
 pub use record::{Date, Leg, Point, Record, Records, Section, Station, Traverse};
 pub use salvage::{salvage, salvage_vec, Saved};

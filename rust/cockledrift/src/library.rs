@@ -42,6 +42,17 @@ pub struct ComparedNumbers {
     pub length: usize,
 }
 
+/// How far a survey reaches: number 0, how many legs took part and the two corners;
+/// or the refusal's number and place.
+#[repr(C)]
+pub struct ReachNumbers {
+    pub number: u64,
+    pub place: usize,
+    pub legs: usize,
+    pub least: [i32; 3],
+    pub greatest: [i32; 3],
+}
+
 /// How many numbers say where a step reader stands.
 pub const STAND_NUMBERS: usize = 14;
 
@@ -100,6 +111,7 @@ extern "C" {
         k: usize,
     ) -> AnswerNumbers;
     fn cockledrift_compare(a: *const u8, n: usize, b: *const u8, m: usize) -> ComparedNumbers;
+    fn cockledrift_reach(sheet: *const u8, n: usize, name: *const u8, m: usize) -> ReachNumbers;
     fn cockledrift_open(file: *const u8, n: usize, stand: *mut Stand) -> OpenNumbers;
     fn cockledrift_step(
         file: *const u8,
@@ -184,6 +196,11 @@ pub fn edit(file: &[u8], first: usize, count: usize, new: &[u8], out: &mut [u8])
 pub fn compare(first: &[u8], second: &[u8]) -> ComparedNumbers {
     // SAFETY: each pointer goes with the length of its own slice, which outlives the call.
     unsafe { cockledrift_compare(first.as_ptr(), first.len(), second.as_ptr(), second.len()) }
+}
+
+pub fn reach(sheet: &[u8], name: &[u8]) -> ReachNumbers {
+    // SAFETY: each pointer goes with the length of its own slice, which outlives the call.
+    unsafe { cockledrift_reach(sheet.as_ptr(), sheet.len(), name.as_ptr(), name.len()) }
 }
 
 pub fn open(file: &[u8], stand: &mut Stand) -> OpenNumbers {

@@ -9,7 +9,7 @@ pub use lent::{disagree, hex, same, Call, Difference, Fills};
 pub use run::{edits_wanted, files_wanted, seed, sheets_wanted, Tally};
 
 use generate::Edit;
-use second::{Answer, Later, Salvaged};
+use second::{Answer, Later, Reach, Salvaged};
 use std::cell::RefCell;
 
 /// Reading, at several buffer lengths. Answers what an ample buffer gives.
@@ -168,4 +168,16 @@ pub fn later_by<'a>(
         second.0,
         hex(second.1)
     ))
+}
+
+/// How far a survey reaches.
+pub fn reach(sheet: &[u8], name: &[u8]) -> Result<Reach, String> {
+    reach_by(proved::reach(sheet, name), second::reach(sheet, name))
+}
+
+pub fn reach_by(proved: Reach, second: Reach) -> Result<Reach, String> {
+    if proved == second {
+        return Ok(second);
+    }
+    Err(format!("proved {proved:?}\nsecond {second:?}"))
 }

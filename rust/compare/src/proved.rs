@@ -1,7 +1,7 @@
 //! The proved library with the second implementation's types: the one place
 //! where the two sets of types meet.
 
-use second::{Answer, Later, Opened, Salvaged, Step};
+use second::{Answer, Later, Opened, Reach, Salvaged, Step};
 
 /// An answer of the proved library.
 fn answer(answer: cockledrift::Answer) -> Answer {
@@ -62,6 +62,15 @@ fn refused(file: cockledrift::Which, refusal: cockledrift::Refusal) -> Later {
         cockledrift::Which::Second => 2,
     };
     Later::Refused { file, number: refusal.number, place: refusal.place }
+}
+
+pub fn reach(sheet: &[u8], name: &[u8]) -> Reach {
+    match cockledrift::reach(sheet, name) {
+        Ok(cockledrift::Reach { least, greatest, legs }) => {
+            Reach::Reached { least, greatest, legs }
+        }
+        Err(cockledrift::Refusal { number, place }) => Reach::Refused { number, place },
+    }
 }
 
 /// The proved step reader.

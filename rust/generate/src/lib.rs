@@ -11,6 +11,7 @@ pub mod record;
 pub mod rng;
 pub mod sheet_edges;
 pub mod sheets;
+pub mod surveys;
 pub mod times;
 pub mod valid;
 

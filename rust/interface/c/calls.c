@@ -183,6 +183,13 @@ static void say_compared(char *line, struct cockledrift_compared c)
     snprintf(line, LINE, "%" PRIu64 " %" PRIu64 " %" PRIu64 " %zu %zu", c.which, c.file, c.number, c.place, c.length);
 }
 
+static void say_reached(char *line, struct cockledrift_reached c)
+{
+    int said = snprintf(line, LINE, "%" PRIu64 " %zu %zu", c.number, c.place, c.legs);
+    said += snprintf(line + said, LINE - said, " %d %d %d", c.least_x, c.least_y, c.least_z);
+    snprintf(line + said, LINE - said, " %d %d %d", c.greatest_x, c.greatest_y, c.greatest_z);
+}
+
 /* Makes the call with `a` and `b` to read, and `out` and `second` to fill. */
 static void call(char *line, const struct request *r, const uint8_t *a, const uint8_t *b)
 {
@@ -196,6 +203,7 @@ static void call(char *line, const struct request *r, const uint8_t *a, const ui
     case 'c': say_answer(line, cockledrift_convert(a, n, to, room, second.start, second.bytes)); break;
     case 'e': say_answer(line, cockledrift_edit(a, n, r->first, r->count, b, m, to, room)); break;
     case 'l': say_compared(line, cockledrift_compare(a, n, b, m)); break;
+    case 'x': say_reached(line, cockledrift_reach(a, n, b, m)); break;
     case 's': say_steps(line, cockledrift_step, a, n); break;
     case 'n': say_steps(line, cockledrift_next, a, n); break;
     case 'a': say_anywhere(line, a, n, b, m); break;

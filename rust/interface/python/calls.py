@@ -26,6 +26,11 @@ def steps(file):
     return " ".join(said)
 
 
+def reached(sheet, name):
+    legs, least, greatest = cockledrift.reach(sheet, name)
+    return " ".join(map(str, (legs, *least, *greatest)))
+
+
 def compared(a, b):
     which, line = cockledrift.compare(a, b)
     return f"{which} {line.hex()}"
@@ -48,6 +53,7 @@ CALLS = {
     "c": lambda a, b, first, count: cockledrift.convert(a).hex(),
     "e": lambda a, b, first, count: cockledrift.edit(a, first, count, b).hex(),
     "l": lambda a, b, first, count: compared(a, b),
+    "x": lambda a, b, first, count: reached(a, b),
     "s": lambda a, b, first, count: steps(a),
     "n": lambda a, b, first, count: records(cockledrift.Reader(a)),
     "p": lambda a, b, first, count: "\n".join(example.lines(a)).encode().hex(),

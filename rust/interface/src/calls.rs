@@ -65,6 +65,7 @@ impl Memory {
             b'c' => answered(cockledrift::convert(a, out, second), out, second),
             b'e' => answered(cockledrift::edit(a, *first, *count, b, out), out, second),
             b'l' => compared(a, b),
+            b'x' => reached(a, b),
             b's' => stepped(a, out, |reader, out| reader.step(out)),
             b'n' => {
                 stepped(a, out, |reader, out| Ok(reader.next(out)?.map_or(Step::End, Step::Record)))
@@ -135,6 +136,15 @@ fn compared(first: &[u8], second: &[u8]) -> String {
             format!("3 {file} {number} {place} 0")
         }
     }
+}
+
+fn reached(sheet: &[u8], name: &[u8]) -> String {
+    let (number, place, legs, bounds) = match cockledrift::reach(sheet, name) {
+        Ok(reach) => (0, 0, reach.legs, [reach.least, reach.greatest].concat()),
+        Err(Refusal { number, place }) => (number, place, 0, vec![0; 6]),
+    };
+    let told = format!("{number} {place} {legs}");
+    bounds.iter().fold(told, |told, bound| format!("{told} {bound}"))
 }
 
 type Stepper = fn(&mut Reader, &mut [u8]) -> Result<Step, Refusal>;

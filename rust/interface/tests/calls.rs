@@ -146,6 +146,10 @@ fn of_sheet(sheet: &[u8]) -> Vec<Request> {
         Request::new(b'w', sheet, v8.unwrap_or(100)),
         Request::new(b'7', sheet, v7.unwrap_or(100)),
     ];
+    requests.extend(
+        [&b""[..], b"a", b"abc"]
+            .map(|name| Request { b: name.to_vec(), ..Request::new(b'x', sheet, 0) }),
+    );
     requests.extend(v8.map(|bytes| Request::new(b'w', sheet, bytes - 1)));
     requests.extend(v7.map(|bytes| Request::new(b'7', sheet, bytes - 1)));
     requests
@@ -200,6 +204,7 @@ fn damaged_files_are_answered_alike() {
     must_have_seen(&seen, 's', &[0, 1, 2, 3, 4, 5, 6, 7, 8, 9, 10]);
     must_have_seen(&seen, 'n', &[0, 5, 10, 11]);
     must_have_seen(&seen, 'c', &[0, 5, 11]);
+    must_have_seen(&seen, 'x', &[0, 12, 21]);
     must_have_seen(&seen, 'w', &[0, 11, 12, 13]);
     must_have_seen(&seen, '7', &[0, 11, 12, 23]);
     must_have_seen(&seen, 'e', &[0, 11, 12, 14, 15]);

@@ -51,6 +51,11 @@ impl Call {
                 Later::First(line) => format!("1 {}", hex(line)),
                 Later::Second(line) => format!("2 {}", hex(line)),
             })),
+            b'x' => said(cockledrift::reach(a, b).map(|reach| {
+                let (legs, bounds) =
+                    (reach.legs.to_string(), [reach.least, reach.greatest].concat());
+                bounds.iter().fold(legs, |told, bound| format!("{told} {bound}"))
+            })),
             b's' => said(steps(a, |reader, out| reader.step(out))),
             b'n' => {
                 said(steps(a, |reader, out| Ok(reader.next(out)?.map_or(Step::End, Step::Record))))
@@ -150,6 +155,9 @@ fn sheets_and_edits_are_answered_alike() {
     let mut calls = Vec::new();
     let mut rng = Rng::new(seed(), 5);
     for (kind, sheet) in (0..20).flat_map(|round| sheets::round(seed(), round)) {
+        calls.extend(
+            [&b""[..], b"a"].map(|name| Call { b: name.to_vec(), ..Call::new(b'x', &sheet) }),
+        );
         calls.extend(b"tw7".map(|letter| Call::new(letter, &sheet)));
         let Some(file) = cockledrift::write_vec(&sheet).ok().filter(|_| kind == SheetKind::Good)
         else {

@@ -1,8 +1,9 @@
 //! Survex 3d files, v3 to v8: reading to a sheet, salvaging, stepping, writing
-//! v8 and v7, editing v8 and comparing time lines.
+//! v8 and v7, editing v8 and comparing time lines; how far a sheet's surveys
+//! reach.
 //!
 //! An independent second implementation of document 01 and of requests #101,
-//! #106, #107, #110, #111 and #113 of document 02, written from these documents and
+//! #102, #106, #107, #110, #111 and #113 of document 02, written from these documents and
 //! the two published format pages. It allocates only in `edit`.
 
 mod codes;
@@ -10,6 +11,7 @@ mod edit;
 mod header;
 mod item;
 mod later;
+mod reach;
 mod read;
 mod record;
 mod salvage;
@@ -22,6 +24,7 @@ mod write;
 
 pub use edit::edit;
 pub use later::{compare, seconds, Later};
+pub use reach::{reach, Reach};
 pub use read::read;
 pub use salvage::{salvage, Salvaged};
 pub use step::{open, Opened, Step, Stepper};

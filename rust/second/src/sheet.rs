@@ -81,6 +81,23 @@ pub(crate) fn each<'a>(
     Ok(number)
 }
 
+/// Shows each record of a whole sheet, or gives 12 "as for writing".
+#[inline(always)]
+pub(crate) fn all<'a>(
+    sheet: &'a [u8],
+    show: impl FnMut(usize, &Record<'a>),
+) -> Result<usize, Refusal> {
+    let (head, rest) = header(sheet).ok_or(no(12, 0))?;
+    each(head.layout, rest, show)
+}
+
+/// A position's x, y and z.
+#[inline(always)]
+pub(crate) fn point(bytes: &[u8; 12]) -> [i32; 3] {
+    let numbers = bytes.as_chunks::<4>().0;
+    std::array::from_fn(|axis| i32::from_be_bytes(numbers[axis]))
+}
+
 /// Takes the first record, or nothing if it is not well-formed by the layout.
 /// A header is none here: it stands "first and once".
 #[inline(always)]
