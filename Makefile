@@ -4,6 +4,7 @@
 #   make                              both libraries, in target/lib
 #   make install PREFIX=/usr/local    header, libraries, pkg-config file and Python module; DESTDIR goes before all
 #   make uninstall PREFIX=/usr/local  takes them away again
+#   make start                        the program `cockledrift`, with what is missing for it; then lists a file
 #   make proved                       builds the proved archive anew, after a change in crates/
 
 VERSION = 0.1.0
@@ -33,6 +34,16 @@ proved:
 # Where there is one already it is taken as it is: rt alone knows whether it is up to date.
 $(PROVED):
 	rt staticlib capi
+
+# What it does is told; what the proof says goes to a file.
+start:
+	@if [ ! -f $(PROVED) ]; then \
+		echo 'Proving the library: the first time this takes minutes. Its log is target/start.log.'; \
+		mkdir -p target && rt staticlib capi >target/start.log 2>&1 || { tail target/start.log; exit 1; }; \
+	fi
+	@echo 'Building rust/target/release/cockledrift.'
+	@cd rust && cargo build --release --offline --quiet -p cli
+	rust/target/release/cockledrift list rust/testdata/passage.v8.3d
 
 $(OUT)/message.o: c/message.c include/cockledrift.h
 	mkdir -p $(OUT)
@@ -75,5 +86,5 @@ uninstall:
 clean:
 	rm -rf $(OUT)
 
-.PHONY: all proved install uninstall clean always
+.PHONY: all start proved install uninstall clean always
 .DELETE_ON_ERROR:

@@ -1,0 +1,25 @@
+# Completion of cockledrift for bash.
+_cockledrift()
+{
+    local word=${COMP_WORDS[COMP_CWORD]} words=
+    if [ "$COMP_CWORD" -eq 1 ]; then
+        words='info list check later convert salvage measure catalogue verify restore diff edit help --help --version'
+    elif [[ $word == -* ]]; then
+        case ${COMP_WORDS[1]} in
+            info) words='--json --quiet --color --help' ;;
+            list) words='--raw --records --csv --json --quiet --color --help' ;;
+            check) words='--json --quiet --color --help' ;;
+            later) words='--json --quiet --color --help' ;;
+            convert) words='--to --output --force --json --quiet --color --help' ;;
+            salvage) words='--output --force --json --quiet --color --help' ;;
+            measure) words='--survey --json --quiet --color --help' ;;
+            catalogue) words='--sums --output --force --json --quiet --color --help' ;;
+            verify) words='--folder --json --quiet --color --help' ;;
+            restore) words='--even-if-older --even-if-unknown --dry-run --json --quiet --color --help' ;;
+            diff) words='--json --quiet --color --help' ;;
+            edit) words='--at --count --with --output --force --json --quiet --color --help' ;;
+        esac
+    fi
+    [ -n "$words" ] && mapfile -t COMPREPLY < <(compgen -W "$words" -- "$word")
+}
+complete -o default -F _cockledrift cockledrift

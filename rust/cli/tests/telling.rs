@@ -1,0 +1,169 @@
+//! `info`, `list`, `check` and `later`.
+
+mod common;
+use common::{
+    bad_inputs, data, data_bytes, desk, fed, folder, has, root, run, run_in, small, survex_files,
+};
+use std::fs;
+use std::process::{Command, Stdio};
+
+#[test]
+fn info() {
+    let folder = desk("info");
+    let ran = run_in(&folder, &["info", "good.3d"]);
+    let due = "file: good.3d\nversion: 8, 641 bytes\ntitle: Passage sizes and styles\n\
+        time: 2026-11-15 17:03:45 UTC (the line: @1794762225)\nextended elevation: no\n\
+        records: 34 (11 legs, 13 stations, 10 cross-sections, 0 traverse errors)\n\
+        dates: 2001-01-01 to 2003-05-18\nhouse-written: no\n";
+    assert_eq!((ran.code, &ran.out[..], &ran.err[..]), (0, due, ""));
+    bad_inputs(&folder, &["info"], &[]);
+    let ran = run_in(&folder, &["info", "cut.3d", "good.3d"]);
+    assert_eq!((ran.code, &ran.out[..]), (1, due));
+    let ran2 = run_in(&folder, &["info", "good.3d", "good.3d"]);
+    assert_eq!(ran2.out, format!("{due}\n{due}"));
+    let words = "refused 5 at byte 628: an item is unfinished, or the end is missing (try: cockledrift salvage)\n";
+    has(&ran.err, words);
+}
+
+#[test]
+fn info_of_other_headers() {
+    let folder = folder("headers");
+    fs::write(folder.join("a.3d"), small("Cave\0EPSG:32633", "Sun,2002.03.17 14:01:07 GMT"))
+        .expect("a file");
+    let ran = run_in(&folder, &["info", "a.3d"]);
+    has(&ran.out, "title: Cave\ncoordinate system: EPSG:32633\n");
+    has(&ran.out, "time: 2002-03-17 14:01:07 UTC (the line: Sun,2002.03.17 14:01:07 GMT)\n");
+    has(&ran.out, "dates: none\nhouse-written: yes\n");
+    fs::write(folder.join("b.3d"), small("Cave", "yesterday")).expect("a file");
+    has(&run_in(&folder, &["info", "b.3d"]).out, "time: cannot be read (the line: yesterday)\n");
+    let mut odd = small("T\"", "@0");
+    odd[24] = 0xff;
+    let ran = fed(&["info", "--json", "-"], &odd);
+    let due = "{\"schema\": 1, \"file\": \"-\", \"version\": 8, \"bytes\": 33, \"title\": \"\u{fffd}\\\"\", \
+        \"title_hex\": \"ff22\", \"second\": 0, \"time\": \"1970-01-01 00:00:00 UTC\", \"time_line\": \"@0\", \
+        \"extended\": false, \"legs\": 0, \"stations\": 0, \"sections\": 0, \"errors\": 0, \
+        \"first_date\": null, \"last_date\": null, \"house_written\": true}\n";
+    assert_eq!((ran.code, &ran.out[..], &ran.err[..]), (0, due, ""));
+    has(
+        &run(&["info", data("extended.v8.3d").to_str().expect("a name")]).out,
+        "extended elevation: yes\n",
+    );
+}
+
+#[test]
+fn list_raw_is_the_proved_listers() {
+    let lister = root().join("target/bin/lister");
+    if !lister.exists() {
+        assert!(std::env::var_os("CI").is_none(), "{lister:?} is not there");
+        return;
+    }
+    let folder = desk("raw");
+    let mut files = survex_files();
+    files.extend(["cut.3d", "empty.3d", "other.3d"].map(|name| folder.join(name)));
+    assert!(files.len() > 40);
+    for file in files {
+        let input = Stdio::from(fs::File::open(&file).expect("a file"));
+        let due = Command::new(&lister).stdin(input).output().expect("the lister runs").stdout;
+        let ran = common::ran(
+            common::program().args(["list", "--raw"]).arg(&file).output().expect("it runs"),
+        );
+        assert!(ran.bytes == due, "{file:?}");
+        let refused = due.starts_with(b"refused");
+        assert_eq!((ran.code, ran.err.is_empty()), (i32::from(refused), !refused), "{file:?}");
+    }
+}
+
+#[test]
+fn list() {
+    let folder = desk("list");
+    let ran = run_in(&folder, &["list", "good.3d"]);
+    assert_eq!((ran.code, &ran.err[..], ran.out.lines().count()), (0, "", 34));
+    has(
+        &ran.out,
+        "2 leg river: (19.06 -5.12 -2.61) to (28.86 -10.77 -6.61) m, 2003-05-17, diving\n",
+    );
+    has(&ran.out, "21 station river.in: (0.00 0.00 0.00) m, underground, entrance, fixed\n");
+    has(&ran.out, "25 section river.side.b: left 400.00 right - up - down 0.10 m, 2001-01-01, last in its passage\n");
+    bad_inputs(&folder, &["list"], &[]);
+    bad_inputs(&folder, &["list", "--csv"], &[]);
+    bad_inputs(&folder, &["list", "--records"], &[]);
+    let ran = run_in(&folder, &["list", "cut.3d"]);
+    assert_eq!((ran.code, &ran.out[..]), (1, ""));
+    let ran = run_in(&folder, &["list", "--csv", "--raw", "good.3d"]);
+    assert_eq!((ran.code, &ran.out[..]), (2, ""));
+    let loops = run(&["list", data("loops.v8.3d").to_str().expect("a name")]);
+    has(&loops.out, "1 error of 1 legs, 10.30 m: 4.74 m, horizontal 6.22, vertical 0.43\n");
+}
+
+#[test]
+fn list_csv_and_json() {
+    let folder = desk("csv");
+    let ran = run_in(&folder, &["list", "--csv", "good.3d"]);
+    assert_eq!((ran.code, &ran.err[..], ran.out.lines().count()), (0, "", 35));
+    let commas = |line: &str| line.matches(',').count();
+    assert!(ran.out.lines().all(|line| commas(line) == 22), "{}", ran.out);
+    has(&ran.out, "\n2,leg,river,,diving,2003-05-17,2003-05-17,19.06,-5.12,-2.61,28.86,-10.77,-6.61,,,,,,,,,,\n");
+    let ran = run_in(&folder, &["list", "--json", "good.3d"]);
+    assert_eq!((ran.code, &ran.err[..], ran.out.lines().count()), (0, "", 34));
+    let due =
+        "{\"schema\": 1, \"record\": 2, \"kind\": \"leg\", \"label\": \"river\", \"flags\": [], \
+        \"style\": \"diving\", \"first_date\": \"2003-05-17\", \"last_date\": \"2003-05-17\", \
+        \"from\": [1906, -512, -261], \"to\": [2886, -1077, -661]}\n";
+    has(&ran.out, due);
+}
+
+#[test]
+fn check() {
+    let folder = desk("check");
+    fs::create_dir_all(folder.join("folder/deep")).expect("a folder");
+    fs::copy(data("loops.v6.3d"), folder.join("folder/deep/LOOPS.3D")).expect("a copy");
+    fs::write(folder.join("folder/notes.txt"), "no 3d file").expect("a file");
+    std::os::unix::fs::symlink("..", folder.join("folder/round.3d")).expect("a link");
+    let ran = run_in(&folder, &["check", "."]);
+    let due = "./cut.3d: refused 5 at byte 628: an item is unfinished, or the end is missing (try: cockledrift salvage)\n\
+        ./empty.3d: refused 1 at byte 0: no 3d file\n./folder/deep/LOOPS.3D: good, v6\n./good.3d: good, v8\n\
+        ./huge.3d: refused 16 at byte 0: the file is over 16,777,216 bytes\n\
+        ./long.3d: refused 16 at byte 0: the file is over 16,777,216 bytes\n\
+        ./other.3d: refused 1 at byte 0: no 3d file\n7 files: 2 good, 5 refused\n";
+    assert_eq!((ran.code, &ran.out[..], &ran.err[..]), (1, due, ""));
+    let ran = run_in(&folder, &["check", "good.3d", "missing.3d", "cut.3d"]);
+    assert_eq!((ran.code, &ran.err[..]), (2, "missing.3d: No such file or directory\n"));
+    has(&ran.out, "3 files: 1 good, 1 refused, 1 not read\n");
+    let ran = run_in(&folder, &["check", "--json", "cut.3d"]);
+    let due = "{\"schema\": 1, \"file\": \"cut.3d\", \"good\": false, \"refused\": 5, \"place\": 628, \
+        \"place_counts\": \"byte\", \"reason\": \"an item is unfinished, or the end is missing\"}\n";
+    assert_eq!((ran.code, &ran.out[..], &ran.err[..]), (1, due, ""));
+}
+
+#[test]
+fn later() {
+    let folder = desk("later");
+    fs::write(folder.join("a.3d"), small("A", "@1016373666")).expect("a file");
+    fs::write(folder.join("b.3d"), small("B", "Sun,2002.03.17 14:01:07 GMT")).expect("a file");
+    fs::write(folder.join("c.3d"), small("C", "Sun,2002.03.18 15:03:07 BST")).expect("a file");
+    let times = "a.3d: 2002-03-17 14:01:06 UTC\nb.3d: 2002-03-17 14:01:07 UTC\n";
+    let ran = run_in(&folder, &["later", "a.3d", "b.3d"]);
+    assert_eq!(
+        (ran.code, &ran.out[..], &ran.err[..]),
+        (0, &format!("b.3d is later, by 1 second\n{times}")[..], "")
+    );
+    let ran = run_in(&folder, &["later", "b.3d", "b.3d"]);
+    assert_eq!(ran.code, 0);
+    has(&ran.out, "both have the same second\n");
+    let ran = run_in(&folder, &["later", "a.3d", "c.3d"]);
+    assert_eq!((ran.code, &ran.out[..]), (1, ""));
+    assert_eq!(ran.err, "c.3d: refused 17 at byte 26: the time line is not readable\n");
+    has(
+        &run_in(&folder, &["later", "good.3d", "a.3d"]).out,
+        "good.3d is later, by 9009 days, 3 hours, 2 minutes, 39 seconds\n",
+    );
+    bad_inputs(&folder, &["later"], &["good.3d"]);
+    bad_inputs(&folder, &["later", "good.3d"], &[]);
+    let ran = run_in(&folder, &["later", "--json", "a.3d", "b.3d"]);
+    has(&ran.out, "\"later\": \"second\", \"seconds\": [1016373666, 1016373667]");
+    let ran = fed(
+        &["later", "-", folder.join("a.3d").to_str().expect("a name")],
+        &data_bytes("loops.v6.3d"),
+    );
+    assert_eq!(ran.code, 0, "{}", ran.err);
+}
