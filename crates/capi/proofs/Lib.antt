@@ -1,2 +1,3 @@
 mod Stands
 mod Digests
+mod Tells
