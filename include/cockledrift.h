@@ -119,7 +119,8 @@ struct cockledrift_answer cockledrift_write_v7(const uint8_t *sheet, size_t shee
 
 /* Reads a file, then writes it as v8. Done: `sheet` has the sheet and `out` the v8 file at the front; the answer is the
    writer's. Refused by the reader: both are as they were. Refused by the writer: `sheet` has the sheet at the front,
-   `out` is as it was. COCKLEDRIFT_BUFFER_TOO_SMALL does not say which of them is too small: cockledrift_read tells. */
+   `out` is as it was. COCKLEDRIFT_BUFFER_TOO_SMALL does not say which of them is too small: cockledrift_read tells.
+   Of a v8 file the new one is never longer: an `out` of file_bytes suffices. */
 struct cockledrift_answer cockledrift_convert(const uint8_t *file, size_t file_bytes, uint8_t *sheet, size_t sheet_room,
                                               uint8_t *out, size_t out_room) COCKLEDRIFT_LENT;
 

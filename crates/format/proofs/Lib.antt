@@ -23,6 +23,10 @@ pub mod RefusalLaws
 pub mod RoundTrip
 pub mod Rows
 pub mod SheetLaws
+pub mod ShortestItems
+pub mod ShortestParts
+pub mod ShortestRun
+pub mod Squeezing
 pub mod SteppingLaws
 pub mod V7Cases
 pub mod V7Laws

@@ -123,7 +123,8 @@ pub const COMMANDS: &[Command] = &[
         operands: "IN",
         count: (1, 1),
         words: "writes a file as v8, or as v7 for older programs",
-        more: "Warns where Survex's programs will read a date range a day longer, and of what v7 does not say.\n\
+        more: "With --to 8 a v8 file never gets longer: no v8 file that says the same is shorter.\n\
+               Warns where Survex's programs will read a date range a day longer, and of what v7 does not say.\n\
                What v7 cannot carry (an extended elevation, other styles than normal, anonymous stations\n\
                and stations on the wall) is refused, and nothing is written.",
         example: "cockledrift convert --to 8 old.3d -o new.3d",

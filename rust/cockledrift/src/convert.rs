@@ -14,6 +14,8 @@ use crate::{library, Answer};
 /// sheet stands and `out` is as it was. 11 does not say which buffer is too small:
 /// [`read`](crate::read) alone tells.
 ///
+/// Of a v8 file the new one is never longer, so an `out` as long as the file suffices.
+///
 /// ```
 /// let file = b"Survex 3D Image File\nv3\nA\n@0\n\0";
 /// let (mut sheet, mut out) = ([0; 10], [0; 32]);
