@@ -28,6 +28,7 @@ pub mod ShortestParts
 pub mod ShortestRun
 pub mod Squeezing
 pub mod SteppingLaws
+pub mod TwoEdits
 pub mod V7Cases
 pub mod V7Laws
 pub mod Versions

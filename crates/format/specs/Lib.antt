@@ -12,6 +12,7 @@ pub mod Codes
 pub mod V7Codes
 pub mod Writing
 pub mod Editing
+pub mod TwoEdits
 pub mod Conversion
 pub mod Outline
 pub mod Stepping

@@ -98,3 +98,41 @@ fn unsaid(rng: &mut Rng, records: usize) -> Edit {
     new.extend(laid(&[Leg::plain(b"a").body()]));
     Edit { first, count, new }
 }
+
+/// Two edits of a file of so many records, the earlier first: runs that share no
+/// record, neither of them empty. None of fewer than two records.
+pub fn pair(rng: &mut Rng, records: usize) -> Option<(Edit, Edit)> {
+    if records < 2 {
+        return None;
+    }
+    let later = 1 + rng.below(records - 1);
+    let first = rng.below(later);
+    let count = if rng.one_in(2) { 1 } else { 1 + rng.below(later - first) };
+    let earlier = Edit { first, count, new: replacement(rng) };
+    let count = if rng.one_in(2) { 1 } else { 1 + rng.below(records - later) };
+    Some((earlier, Edit { first: later, count, new: replacement(rng) }))
+}
+
+/// Nothing, or good records, now and then with a leg of style 5 behind them.
+fn replacement(rng: &mut Rng) -> Vec<u8> {
+    let mut new = if rng.one_in(6) { Vec::new() } else { some(rng) };
+    if rng.one_in(12) {
+        new.extend(laid(&[Leg::plain(b"a").body()]));
+    }
+    new
+}
+
+/// The later edit at its number once the earlier one is made.
+pub fn shifted(earlier: &Edit, later: &Edit) -> Edit {
+    let first = later.first - earlier.count + record_count(&earlier.new);
+    Edit { first, ..later.clone() }
+}
+
+fn record_count(mut new: &[u8]) -> usize {
+    let mut count = 0;
+    while let Some((length, behind)) = new.split_first_chunk() {
+        new = &behind[usize::from(u16::from_be_bytes(*length))..];
+        count += 1;
+    }
+    count
+}
