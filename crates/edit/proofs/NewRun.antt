@@ -73,7 +73,19 @@ pub record Putting (new : List ℕ) (pen : Pen) (l d : List ℕ) (at : ℕ) (nex
 pub putting-first : (new : List ℕ) (pen : Pen) (l d : List ℕ) → PenFits pen l → pen .count .bytes ≤ fileLimit + codesLimit → Putting new pen l d 0 pen l d
 unfolding recordsOf
 putting-first new pen l d f h =
-    record { place = 0; number = 0; so-far = []; inside = omega arith; records = refl; verdict = refl; fits = f; few-bytes = h; few-records = omega arith; kept = refl; written = none }
+    record {
+      place = 0;
+      number = 0;
+      so-far = [];
+      inside = omega arith;
+      records = refl;
+      verdict = refl;
+      fits = f;
+      few-bytes = h;
+      few-records = omega arith;
+      kept = refl;
+      written = none;
+    }
 
 module _ (new : List ℕ) (pen : Pen) (l d : List ℕ) (at : ℕ) (next : Pen) (l′ d′ : List ℕ) (G : Putting new pen l d at next l′ d′) where
   pub putting-fits : length new ≤ 9223372036854775807 → pen .count .records ≤ 16777216 → Fits v8 (next .count)
@@ -83,13 +95,15 @@ module _ (new : List ℕ) (pen : Pen) (l d : List ℕ) (at : ℕ) (next : Pen) (
   pub never-flawed : recordsOf sheetVersion new .verdict ≡ Good → (h : at < length new)
       → EntryTold Flawed sheetVersion (take (length new - at) (drop at new)) → ⊥
   never-flawed e h T =
-      let q : Refusal 12 (G .number) ≡ Good = sym (ap (λ (x : Result). x .verdict) (flawed-at sheetVersion new at h T (G .place) (G .number))) ∙ G .verdict ∙ e in
+      let q : Refusal 12 (G .number) ≡ Good =
+      sym (ap (λ (x : Result). x .verdict) (flawed-at sheetVersion new at h T (G .place) (G .number))) ∙ G .verdict ∙ e in
       let z : _≡_ {A = ℕ} 0 1 = cc in
       omega arith
 
   pub puts-new : length new ≤ at → PutsNew new pen l d next l′ d′
   puts-new h =
-      let e : recordsOf sheetVersion new .records ≡ G .so-far = G .records ∙ ap (λ (x : Result). G .so-far ++ x .records) (none-at sheetVersion new at (G .place) (G .number) h) ∙ append-nil (G .so-far) in
+      let e : recordsOf sheetVersion new .records ≡ G .so-far =
+      G .records ∙ ap (λ (x : Result). G .so-far ++ x .records) (none-at sheetVersion new at (G .place) (G .number) h) ∙ append-nil (G .so-far) in
       record { written = rw e (G .written); fits = G .fits; few-bytes = G .few-bytes; few-records = omega (arith, G .few-records, G .inside) }
 
   pub putting-more : (h : at < length new) (n : ℕ) (f : Fields) (k : ℕ) → EntryTold (Whole n f k) sheetVersion (take (length new - at) (drop at new))

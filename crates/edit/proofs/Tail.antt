@@ -26,7 +26,8 @@ lay-fits d s y at h e = rw e (laid-part d s at (omega arith) (length d) refl) �
 laid-stays : (d : List ℕ) (k : ℕ) (s : List ℕ) → k ≤ length d → take k (laidIf d k s) ≡ take k d
 unfolding laid
 laid-stays d k s l =
-    less-or-not (length d) (k + length s) (λ h. ap (take k) (laid-none d s k h)) λ h. ap (take k) (laid-some d s k h) ∙ take-at (take k d) _ k (length-take-le k d l)
+    less-or-not (length d) (k + length s) (λ h. ap (take k) (laid-none d s k h))
+    λ h. ap (take k) (laid-some d s k h) ∙ take-at (take k d) _ k (length-take-le k d l)
 
 -- d′ is what laying the tail leaves
 pub tail-finished : (d tail : List ℕ) (t : Tally) {d′ : List ℕ} → d′ ≡ laidIf d (t .bytes) tail → (r : Answer)

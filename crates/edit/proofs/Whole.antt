@@ -62,7 +62,9 @@ pub emits-one : (pen : Pen) (l l′ : List ℕ) (f : Fields) (name d d′ : List
 emits-one pen l l′ f name d d′ count len A K =
     record {
       adds = A;
-      state = ap (stateOf (settingAfter (pen .setting) (recordOf f []))) (K .label-is) ∙ ap (λ (s : Setting). stateOf s (labelAfter (take (pen .len) l) (recordOf f name))) (setting-at (pen .setting) f name);
+      state =
+          ap (stateOf (settingAfter (pen .setting) (recordOf f []))) (K .label-is)
+          ∙ ap (λ (s : Setting). stateOf s (labelAfter (take (pen .len) l) (recordOf f name))) (setting-at (pen .setting) f name);
       fits = record { label-short = K .label-short; label-whole = K .label-whole };
     }
 
@@ -106,7 +108,10 @@ module _ {file : List ℕ} {cut : Splice} {b b′ : List ℕ} (K : CutAt file cu
 
   -- the old file from behind the run on
   at-back : (j : ℕ) (p : Place) (c : List ℕ) → Stands file h R j p c → restOf file (p .at) (stateAt p c) ≡ record { records = drop j R; verdict = Good }
-  at-back j p c S = rw (S .place-is, S .state) (ap (λ (s : List ℕ). run 8 (codesPlace h R j) (drop (codesPlace h R j) s) (afterAll v8 start (take j R))) file-is ∙ read-from h R j formed sayable (codesPlace h R j))
+  at-back j p c S =
+      rw (S .place-is, S .state)
+      (ap (λ (s : List ℕ). run 8 (codesPlace h R j) (drop (codesPlace h R j) s) (afterAll v8 start (take j R))) file-is
+      ∙ read-from h R j formed sayable (codesPlace h R j))
 
   pub back-standing : Standing file (cut .back) b′
   back-standing =
@@ -116,7 +121,12 @@ module _ {file : List ℕ} {cut : Splice} {b b′ : List ℕ} (K : CutAt file cu
         ready = record {
           small = K .opens .room .file-fits;
           inside = S .inside;
-          sound = record { good = rw (S .state) (good-all behind start R good-start formed); formed = rw e (formed-drop behind R formed); sayable = rw (e, S .state) (sayable-drop behind 0 0 start R sayable) };
+          sound =
+              record {
+                good = rw (S .state) (good-all behind start R good-start formed);
+                formed = rw e (formed-drop behind R formed);
+                sayable = rw (e, S .state) (sayable-drop behind 0 0 start R sayable);
+              };
         };
         readable = rw e;
         ours = rw e (rw (S .place-is, S .state) (ap (drop (codesPlace h R behind)) file-is ∙ from-record h R behind));
@@ -176,8 +186,11 @@ module _ {file : List ℕ} {cut : Splice} {b b′ : List ℕ} (K : CutAt file cu
     stays-there d f l =
         let e : take (cut .front .at) d ≡ H ++ before-codes = f l ∙ front-is in
         let q : take (cut .old .place) d ≡ H =
-        sym (take-take (cut .old .place) (cut .front .at) d (omega (arith, front-place))) ∙ ap (take (cut .old .place)) e ∙ take-at H before-codes (cut .old .place) (sym head-is) in
-        rw (q, ← front-place) (sym (append-assoc H before-codes _) ∙ ap (λ (s : List ℕ). s ++ drop (cut .front .at) d) (sym e) ∙ take-append-drop (cut .front .at) d)
+        sym (take-take (cut .old .place) (cut .front .at) d (omega (arith, front-place)))
+        ∙ ap (take (cut .old .place)) e
+        ∙ take-at H before-codes (cut .old .place) (sym head-is) in
+        rw (q, ← front-place)
+        (sym (append-assoc H before-codes _) ∙ ap (λ (s : List ℕ). s ++ drop (cut .front .at) d) (sym e) ∙ take-append-drop (cut .front .at) d)
 
     pub left-first : (d : List ℕ) → FrontStands file (cut .front .at) d
         → Left v8 x₀ (cut .old .place) d d (record { bytes = cut .front .at; records = first; fault = Good }) found (record { records = Y; verdict = Good })
@@ -188,7 +201,10 @@ module _ {file : List ℕ} {cut : Splice} {b b′ : List ℕ} (K : CutAt file cu
         record {
           verdict = refl;
           records = (let z = length-append (take first R) Y in omega (arith, z, first-length));
-          styles = sym (verdict-append (take first R) Y 0 start (sayable-take first 0 start R sayable) ∙ ap (λ (n : ℕ). recordsVerdict v8 n found Y) (zero-add (length (take first R)) ∙ first-length));
+          styles =
+              sym
+              (verdict-append (take first R) Y 0 start (sayable-take first 0 start R sayable)
+              ∙ ap (λ (n : ℕ). recordsVerdict v8 n found Y) (zero-add (length (take first R)) ∙ first-length));
           big = λ q. absurd (omega arith);
           exact = λ q. omega (arith, sizes, front-place);
           filled = λ q s.
@@ -230,14 +246,19 @@ module _ {file : List ℕ} {cut : Splice} {b b′ : List ℕ} (K : CutAt file cu
       unfolding D
       chain = written-then (rw pen-first at (H .puts .written)) (rw back-records at (G .written))
 
-      all-is : _≡_ {A = Result} (record { records = (recordsOf sheetVersion new .records ++ take (G .done) D) ++ left-records; verdict = Good }) (record { records = Y; verdict = Good })
+      all-is :
+          _≡_ {A = Result} (record { records = (recordsOf sheetVersion new .records ++ take (G .done) D) ++ left-records; verdict = Good })
+          (record { records = Y; verdict = Good })
       unfolding D
       all-is =
           ap (λ (rs : List Record). record { records = rs; verdict = Good })
           (append-assoc (recordsOf sheetVersion new .records) (take (G .done) (drop behind R)) left-records
-          ∙ ap (λ (rs : List Record). recordsOf sheetVersion new .records ++ rs) (ap (λ (rs : List Record). take (G .done) (drop behind R) ++ rs) rest-is ∙ take-append-drop (G .done) (drop behind R)))
+          ∙ ap (λ (rs : List Record). recordsOf sheetVersion new .records ++ rs)
+          (ap (λ (rs : List Record). take (G .done) (drop behind R) ++ rs) rest-is ∙ take-append-drop (G .done) (drop behind R)))
 
-      pub now-left : (Left v8 x₀ (cut .old .place) d d₂ (w .pen .count) (penState (w .pen) l₂) (record { records = left-records; verdict = Good })) × (length d₂ ≡ length d)
+      pub now-left :
+          (Left v8 x₀ (cut .old .place) d d₂ (w .pen .count) (penState (w .pen) l₂) (record { records = left-records; verdict = Good }))
+          × (length d₂ ≡ length d)
       now-left = left-written chain x₀ (cut .old .place) d (record { records = left-records; verdict = Good }) (rw all-is (left-first d f)) refl
 
       -- no record is left
@@ -253,11 +274,14 @@ module _ {file : List ℕ} {cut : Splice} {b b′ : List ℕ} (K : CutAt file cu
 
       -- the rest is as it was
       pub ends-copied : (w .left ≡ 0 → ⊥) → {d₃ : List ℕ} {r : Answer}
-          → Finished v8 d₂ d₃ (drop (w .place .at) file) (record { bytes = w .pen .count .bytes; records = w .pen .count .records + w .left; fault = w .pen .count .fault }) r → Rest v8 x₀ (cut .old .place) d d₃ r
+          → Finished v8 d₂ d₃ (drop (w .place .at) file)
+          (record { bytes = w .pen .count .bytes; records = w .pen .count .records + w .left; fault = w .pen .count .fault }) r
+          → Rest v8 x₀ (cut .old .place) d d₃ r
       ends-copied e {d₃} {r} F =
           let same-now = G .level (omega arith) in
           let T = G .behind .standing in
-          left-last v8 x₀ (cut .old .place) d d₂ (w .pen .count) (penState (w .pen) l₂) (record { records = left-records; verdict = Good }) (drop (w .place .at) file) d₃ (w .left) r
+          left-last v8 x₀ (cut .old .place) d d₂ (w .pen .count) (penState (w .pen) l₂) (record { records = left-records; verdict = Good })
+          (drop (w .place .at) file) d₃ (w .left) r
           (now-left .1) (now-left .0) refl
           (rw (← same-now) (sayable-any (w .pen .count .records) 0 (stateAt (w .place) b₂) left-records (T .ready .sound .sayable)))
           (T .ours ∙ ap (λ (st : State). encodeAll v8 st left-records) same-now)
@@ -284,7 +308,8 @@ module _ {file : List ℕ} {cut : Splice} {b b′ : List ℕ} (K : CutAt file cu
     pass-spliced d e r T =
         let F = take (cut .front .at) file in
         let sizes : length (encoded v8 x₀) ≡ length before-codes + length S = ap length encoded-is ∙ length-append before-codes S in
-        let size : length (fileOf v8 h (x₀ .records)) ≡ cut .old .place + length (encoded v8 x₀) = ap length file-after ∙ length-append H (encoded v8 x₀) ∙ ap (λ (n : ℕ). n + length (encoded v8 x₀)) (sym head-is) in
+        let size : length (fileOf v8 h (x₀ .records)) ≡ cut .old .place + length (encoded v8 x₀) =
+        ap length file-after ∙ length-append H (encoded v8 x₀) ∙ ap (λ (n : ℕ). n + length (encoded v8 x₀)) (sym head-is) in
         record {
           answer = T .answer ∙ rw size;
           kept = T .kept ∙ laid-length d 0 F;
@@ -298,10 +323,12 @@ module _ {file : List ℕ} {cut : Splice} {b b′ : List ℕ} (K : CutAt file cu
               T .written b n v q′ (omega (arith, same-size))
               ∙ ap (laid (laidIf d 0 F) (cut .old .place)) encoded-is
               ∙ sym (laid-next (laidIf d 0 F) before-codes S (cut .old .place) (omega (arith, same-size, front-place, front-length)))
-              ∙ ap₂ (λ (s : List ℕ) (i : ℕ). laid s i S) (stays-there (laidIf d 0 F) (front-laid d) (omega (arith, same-size, front-length)) ∙ there) (sym front-place ∙ sym front-length ∙ sym (zero-add (length F)))
+              ∙ ap₂ (λ (s : List ℕ) (i : ℕ). laid s i S) (stays-there (laidIf d 0 F) (front-laid d) (omega (arith, same-size, front-length)) ∙ there)
+              (sym front-place ∙ sym front-length ∙ sym (zero-add (length F)))
               ∙ laid-next d F S 0 (omega arith)
               ∙ laid-zero d (F ++ S)
-              ∙ ap (λ (s : List ℕ). over s d) (ap (λ (s : List ℕ). s ++ S) front-is ∙ append-assoc H before-codes S ∙ ap (λ (s : List ℕ). H ++ s) (sym encoded-is) ∙ sym file-after);
+              ∙ ap (λ (s : List ℕ). over s d)
+              (ap (λ (s : List ℕ). s ++ S) front-is ∙ append-assoc H before-codes S ∙ ap (λ (s : List ℕ). H ++ s) (sym encoded-is) ∙ sym file-after);
         }
 
 -- ---- answers

@@ -82,7 +82,9 @@ pub record WentOn (file : List ℕ) (w : Went) (b l d : List ℕ) (w′ : Went) 
   pub sum : done + w′ .left ≡ w .left
   pub behind : Behind file w′ b′ l′
   pub records : restOf file (w′ .place .at) (stateAt (w′ .place) b′) .records ≡ drop done (restOf file (w .place .at) (stateAt (w .place) b) .records)
-  pub written : Written (penState (w .pen) l) d (w .pen .count) (take done (restOf file (w .place .at) (stateAt (w .place) b) .records)) (penState (w′ .pen) l′) d′ (w′ .pen .count)
+  pub written :
+      Written (penState (w .pen) l) d (w .pen .count) (take done (restOf file (w .place .at) (stateAt (w .place) b) .records)) (penState (w′ .pen) l′) d′
+      (w′ .pen .count)
   pub kept : length d′ ≡ length d
   pub level : 0 < w′ .left → stateAt (w′ .place) b′ ≡ penState (w′ .pen) l′
 

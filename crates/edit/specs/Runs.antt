@@ -28,7 +28,8 @@ flawVerdict (At n) = Refusal 12 n
 
 -- the records of the edited sheet, of a replacement with nothing wrong in it
 abbrev pub editedAt : List ℕ → Splice → List ℕ → Result
-editedAt file cut new = record { records = edited (oldResult file (cut .old) .records) (cut .run .first) (cut .run .count) (recordsOf sheetVersion new .records); verdict = Good }
+editedAt file cut new =
+    record { records = edited (oldResult file (cut .old) .records) (cut .run .first) (cut .run .count) (recordsOf sheetVersion new .records); verdict = Good }
 
 -- a house-written file with a run of its records; the labels before the run and behind it are in b and b′
 pub record CutAt (file : List ℕ) (cut : Splice) (b b′ : List ℕ) : Type 0 where

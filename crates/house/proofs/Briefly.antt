@@ -46,7 +46,8 @@ point-back : (y : List ℕ) → Bytes y → 12 ≤ length y → pointBytes toLe3
 point-back y b h =
     let h4 : 4 ≤ length (drop 4 y) = (let z = length-drop 4 y in omega (arith, z)) in
     let h8 : 4 ≤ length (drop 8 y) = (let z = length-drop 8 y in omega (arith, z)) in
-    ap₂ _++_ (four y b (omega arith)) (ap₂ _++_ (four (drop 4 y) (bytes-drop y b 4) h4) (four (drop 8 y) (bytes-drop y b 8) h8 ∙ ap (take 4) (sym (drop-drop 4 4 y))))
+    ap₂ _++_ (four y b (omega arith))
+    (ap₂ _++_ (four (drop 4 y) (bytes-drop y b 4) h4) (four (drop 8 y) (bytes-drop y b 8) h8 ∙ ap (take 4) (sym (drop-drop 4 4 y))))
     ∙ sym (take-add 4 8 y ∙ ap (λ (x : List ℕ). take 4 y ++ x) (take-add 4 4 (drop 4 y)))
 
 pub point-good : (s : List ℕ) → Bytes s → GoodPoint (pointOf le32 s)
@@ -114,7 +115,8 @@ module _ (s l : List ℕ) (keep add : ℕ) (L : BriefLine s l keep add) (bytes :
       same-false l name
       (λ e.
       let z : length l ≡ keep + add = ap length e ∙ name-length in
-      let c : common l l ≡ length l = ap (λ (x : List ℕ). common x x) (sym (append-nil l)) ∙ common-front l [] [] ∙ (let y = common-spent [] [] refl in omega (arith, y)) in
+      let c : common l l ≡ length l =
+      ap (λ (x : List ℕ). common x x) (sym (append-nil l)) ∙ common-front l [] [] ∙ (let y = common-spent [] [] refl in omega (arith, y)) in
       let k : common l l ≡ keep = ap (common l) e ∙ common-is in
       let some = L .some in
       omega arith)
@@ -149,7 +151,12 @@ module _ (s : List ℕ) (st : State) (from : Point) (keep add : ℕ) (stands : s
   brief-codes =
       let style = st .setting .style in
       let date = st .setting .date in
-      rw (stands, pick-true [] (style ∷ []) (eq-eqb style style refl), pick-true [] (datedCodes v8Dates date) (same-date-refl date), pick-true [] (0x0f ∷ pointBytes toLe32 from) (same-point-refl from))
+      rw (
+        stands,
+        pick-true [] (style ∷ []) (eq-eqb style style refl),
+        pick-true [] (datedCodes v8Dates date) (same-date-refl date),
+        pick-true [] (0x0f ∷ pointBytes toLe32 from) (same-point-refl from),
+      )
       (line-is s (st .label) keep add L bytes)
 
 -- a style after itself is never refused
@@ -204,15 +211,24 @@ module _ (file : List ℕ) (p : Place) (b : List ℕ) (R : Ready file p b) (byte
   size = ap length codes-are ∙ length-take-le (14 + add) s (omega (arith, L .there, L .few-add))
 
   pub takes-brief : (m : ℕ) (b′ : List ℕ) → Swaps b′ (take (p .len - (p .len - keep)) b ++ take add (drop 2 s)) m
-      → Passed-on file p b (record { at = p .at + 14 + add; len = m; setting = record { style = p .setting .style; date = p .setting .date; position = Stands (pointOf le32 (drop (2 + add) s)) } }) b′
+      → Passed-on file p b
+      (record {
+        at = p .at + 14 + add;
+        len = m;
+        setting = record { style = p .setting .style; date = p .setting .date; position = Stands (pointOf le32 (drop (2 + add) s)) };
+      })
+      b′
   takes-brief m b′ K =
       let k : p .len - (p .len - keep) ≡ keep = omega (arith, brief-kept) in
       let l : take m b′ ≡ take keep (take (p .len) b) ++ take add (drop 2 s) =
-      K .label-is ∙ ap (λ (n : ℕ). take n b ++ take add (drop 2 s)) k ∙ ap (λ (x : List ℕ). x ++ take add (drop 2 s)) (sym (take-take keep (p .len) b brief-kept)) in
+      K .label-is
+      ∙ ap (λ (n : ℕ). take n b ++ take add (drop 2 s)) k
+      ∙ ap (λ (x : List ℕ). x ++ take add (drop 2 s)) (sym (take-take keep (p .len) b brief-kept)) in
       record {
         made = r;
         steps = steps file p b R r formed (again s st from keep add) (ap (λ (n : ℕ). take n s) size ∙ sym codes-are) _ b′ (omega (arith, size))
-            (ap (stateOf (record { style = p .setting .style; date = p .setting .date; position = Stands (pointOf le32 (drop (2 + add) s)) })) l) (K .label-short) (K .label-whole);
+            (ap (stateOf (record { style = p .setting .style; date = p .setting .date; position = Stands (pointOf le32 (drop (2 + add) s)) })) l)
+            (K .label-short) (K .label-whole);
       }
 
 -- ---- `point_at` and `brief_line`
@@ -220,7 +236,8 @@ module _ (file : List ℕ) (p : Place) (b : List ℕ) (R : Ready file p b) (byte
 pub point-room : (s : List ℕ) (k : ℕ) → k + 12 ≤ length s → 12 ≤ length (take (length s - k) (drop k s))
 point-room s k h = simp (part-to-end, length-drop) (omega arith)
 
-pub point-told : (s : List ℕ) {x y z : ℕ} → x ≡ le32 s → y ≡ le32 (drop 4 s) → z ≡ le32 (drop 8 s) → _≡_ {A = Point} (record { x = x; y = y; z = z }) (pointOf le32 s)
+pub point-told : (s : List ℕ) {x y z : ℕ} → x ≡ le32 s → y ≡ le32 (drop 4 s) → z ≡ le32 (drop 8 s)
+    → _≡_ {A = Point} (record { x = x; y = y; z = z }) (pointOf le32 s)
 point-told s e f g = λ i. record { x = e i; y = f i; z = g i }
 
 pub brief-line-is : (s b : List ℕ) (len part : ℕ) → len ≤ 4096 → length b ≡ 4096 → 29 ≤ length s → 0x40 ≤ getD s 0 0 → getD s 0 0 ≤ 0x47

@@ -133,8 +133,11 @@ module _ (file : List ℕ) (p : Place) (b : List ℕ) (R : Ready file p b) (name
   takes-made e size m b′ s K =
       let own : recordOf f (take m b′) ≡ r = ap (recordOf f) (K .label-is) ∙ kept-record (take (p .len) b) f name in
       let state-is : stateOf (settingAfter (p .setting) (recordOf f [])) (take m b′) ≡ after (stateAt p b) r =
-      ap (stateOf (settingAfter (p .setting) (recordOf f []))) (K .label-is) ∙ ap (λ (x : Setting). stateOf x (labelAfter (take (p .len) b) r)) (setting-at (p .setting) f name) in
-      rw own (steps file p b R r (met-formed file p b R r M) (met-sayable file p b R r M) (same-true _ _ e) _ b′ (ap (λ (n : ℕ). p .at + n) s) state-is (K .label-short) (K .label-whole))
+      ap (stateOf (settingAfter (p .setting) (recordOf f []))) (K .label-is)
+      ∙ ap (λ (x : Setting). stateOf x (labelAfter (take (p .len) b) r)) (setting-at (p .setting) f name) in
+      rw own
+      (steps file p b R r (met-formed file p b R r M) (met-sayable file p b R r M) (same-true _ _ e) _ b′ (ap (λ (n : ℕ). p .at + n) s)
+      state-is (K .label-short) (K .label-whole))
 
 -- ---- `take_record`: reading goes on from a copy of the label
 
@@ -142,16 +145,20 @@ module _ (file : List ℕ) (p : Place) (b s s′ : List ℕ) (m : ℕ) (K : Swap
   copy-reads : restOf file (p .at) (stateAt p b) ≡ leftAt 8 file (record { at = p .at; len = m; setting = p .setting }) s
   copy-reads = ap (λ (l : List ℕ). run 8 (p .at) (drop (p .at) file) (stateOf (p .setting) l)) (sym (K .label-is))
 
-  pub found-refused : {n q : ℕ} → Finds 8 file (record { at = p .at; len = m; setting = p .setting }) s (FoundRefused n q) s′ → restOf file (p .at) (stateAt p b) ≡ stop (Refusal n q)
+  pub found-refused : {n q : ℕ} → Finds 8 file (record { at = p .at; len = m; setting = p .setting }) s (FoundRefused n q) s′
+      → restOf file (p .at) (stateAt p b) ≡ stop (Refusal n q)
   found-refused F = copy-reads ∙ F .same
 
-  pub found-end : Finds 8 file (record { at = p .at; len = m; setting = p .setting }) s FoundEnd s′ → same (drop (p .at) file) (closing (p .setting .style)) ≡ true
+  pub found-end : Finds 8 file (record { at = p .at; len = m; setting = p .setting }) s FoundEnd s′
+      → same (drop (p .at) file) (closing (p .setting .style)) ≡ true
       → (restOf file (p .at) (stateAt p b) ≡ stop Good) × (drop (p .at) file ≡ closing (p .setting .style))
   found-end F e = (copy-reads ∙ F .same, same-true _ _ e)
 
-  pub found-foreign : Finds 8 file (record { at = p .at; len = m; setting = p .setting }) s FoundEnd s′ → same (drop (p .at) file) (closing (p .setting .style)) ≡ false → drop (p .at) file ≡ rulesFrom file (p .at) (stateAt p b) → ⊥
+  pub found-foreign : Finds 8 file (record { at = p .at; len = m; setting = p .setting }) s FoundEnd s′
+      → same (drop (p .at) file) (closing (p .setting .style)) ≡ false → drop (p .at) file ≡ rulesFrom file (p .at) (stateAt p b) → ⊥
   found-foreign F e q =
       differs _ _ e (q ∙ ap (λ (x : Result). encodeAll v8 (stateAt p b) (x .records)) (copy-reads ∙ F .same) ∙ encode-none v8 (stateAt p b))
 
-  pub found-met : {to : Place} {f : Fields} → Finds 8 file (record { at = p .at; len = m; setting = p .setting }) s (FoundRecord to f) s′ → Met file p b (recordOf f (labelIn to s′))
+  pub found-met : {to : Place} {f : Fields} → Finds 8 file (record { at = p .at; len = m; setting = p .setting }) s (FoundRecord to f) s′
+      → Met file p b (recordOf f (labelIn to s′))
   found-met {to} F = record { others = leftAt 8 file to s′ .records; records = ap (λ (x : Result). x .records) (copy-reads ∙ F .same) }

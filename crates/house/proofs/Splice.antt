@@ -60,7 +60,8 @@ codes-some st r h w u = goes-some (codes-go st r h w u [])
 
 module _ (h : Header) (rs : List Record) (j : ℕ) (w : AllWellFormed rs) (e : recordsVerdict v8 0 start rs ≡ Good) where
   -- reading it from there on, in the state that writing had, makes the records that are left
-  pub read-from : (at : ℕ) → run 8 at (drop (codesPlace h rs j) (fileOf v8 h rs)) (afterAll v8 start (take j rs)) ≡ record { records = drop j rs; verdict = Good }
+  pub read-from : (at : ℕ)
+      → run 8 at (drop (codesPlace h rs j) (fileOf v8 h rs)) (afterAll v8 start (take j rs)) ≡ record { records = drop j rs; verdict = Good }
   read-from at =
       rw (from-record h rs j)
       (encode-read v8-reads-back (drop j rs) 0 (afterAll v8 start (take j rs)) (after-fits j start rs (omega arith) w) (formed-drop j rs w)

@@ -22,7 +22,16 @@ use Rattle.tally.proofs.Left.{encode-none}
 pub walk-none : (file : List ℕ) (p : Place) (b : List ℕ) → Inside file p b → Walks file (p .at) (stateAt p b) 0 p b
 unfolding codesAll afterAll
 walk-none file p b i =
-    record { inside = i; there = refl; place-is = sym (add-zero (p .at)); state = refl; few = omega arith; number = omega arith; records = refl; verdict = refl }
+    record {
+      inside = i;
+      there = refl;
+      place-is = sym (add-zero (p .at));
+      state = refl;
+      few = omega arith;
+      number = omega arith;
+      records = refl;
+      verdict = refl;
+    }
 
 module _ {file : List ℕ} {at : ℕ} {st : State} {j : ℕ} {q : Place} {c : List ℕ} (W : Walks file at st j q c) where
   abbrev R : List Record
@@ -31,7 +40,11 @@ module _ {file : List ℕ} {at : ℕ} {st : State} {j : ℕ} {q : Place} {c : Li
   -- what is left is sound too
   pub walk-sound : Sound file at st → Sound file (q .at) (stateAt q c)
   walk-sound S =
-      record { good = rw (W .state) (good-all j st R (S .good) (S .formed)); formed = rw (W .records) (formed-drop j R (S .formed)); sayable = rw (W .records, W .state) (sayable-drop j 0 0 st R (S .sayable)) }
+      record {
+        good = rw (W .state) (good-all j st R (S .good) (S .formed));
+        formed = rw (W .records) (formed-drop j R (S .formed));
+        sayable = rw (W .records, W .state) (sayable-drop j 0 0 st R (S .sayable));
+      }
 
   -- the rules give what is there just where they give what is left
   rules-are : rulesFrom file at st ≡ codesAll v8 st (take j R) ++ rulesFrom file (q .at) (stateAt q c)
@@ -63,12 +76,19 @@ module _ {file : List ℕ} {at : ℕ} {st : State} {j : ℕ} {q : Place} {c : Li
       let T = restOf file (q .at) (stateAt q c) .records in
       let e : take (j + k) R ≡ take j R ++ take k T = take-add j k R ∙ ap (λ (rs : List Record). take j R ++ take k rs) (sym (W .records)) in
       let all : codesAll v8 st (take (j + k) R) ≡ codesAll v8 st (take j R) ++ codesAll v8 (stateAt q c) (take k T) =
-      ap (codesAll v8 st) e ∙ codes-append v8 (take j R) (take k T) st ∙ ap (λ (x : State). codesAll v8 st (take j R) ++ codesAll v8 x (take k T)) (sym (W .state)) in
+      ap (codesAll v8 st) e
+      ∙ codes-append v8 (take j R) (take k T) st
+      ∙ ap (λ (x : State). codesAll v8 st (take j R) ++ codesAll v8 x (take k T)) (sym (W .state)) in
       record {
         inside = Z .inside;
-        there = W .there ∙ ap (λ (x : List ℕ). codesAll v8 st (take j R) ++ x) (Z .there) ∙ sym (append-assoc (codesAll v8 st (take j R)) (codesAll v8 (stateAt q c) (take k T)) _) ∙ ap (λ (x : List ℕ). x ++ drop (to .at) file) (sym all);
+        there =
+            W .there
+            ∙ ap (λ (x : List ℕ). codesAll v8 st (take j R) ++ x) (Z .there)
+            ∙ sym (append-assoc (codesAll v8 st (take j R)) (codesAll v8 (stateAt q c) (take k T)) _)
+            ∙ ap (λ (x : List ℕ). x ++ drop (to .at) file) (sym all);
         place-is = rw (all, length-append) (omega (arith, Z .place-is, W .place-is));
-        state = Z .state ∙ ap (λ (x : State). afterAll v8 x (take k T)) (W .state) ∙ sym (after-append v8 (take j R) (take k T) st) ∙ ap (afterAll v8 st) (sym e);
+        state =
+            Z .state ∙ ap (λ (x : State). afterAll v8 x (take k T)) (W .state) ∙ sym (after-append v8 (take j R) (take k T) st) ∙ ap (afterAll v8 st) (sym e);
         few = omega (arith, W .few, Z .few);
         number = (let z = Z .number in let y : length T ≡ length R - j = ap length (W .records) ∙ length-drop j R in omega (arith, y, W .number));
         records = Z .records ∙ ap (drop k) (W .records) ∙ drop-drop k j R;

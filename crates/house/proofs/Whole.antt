@@ -55,7 +55,14 @@ module _ (p : Place) (b b′ : List ℕ) (n : ℕ) (K : Swaps b′ (take (p .len
 
 -- its codes, as the code cuts the texts out of the file
 pub header-told : (file : List ℕ) (old : Old) {t : Bool}
-    → t ≡ same (take (old .place) file) (headerCodes (record { extended = old .extended; title = take (24 + old .title - 24) (drop 24 file); time = take (24 + old .title + 1 + old .time - (24 + old .title + 1)) (drop (24 + old .title + 1) file) }))
+    → t
+    ≡ same (take (old .place) file)
+    (headerCodes
+    (record {
+      extended = old .extended;
+      title = take (24 + old .title - 24) (drop 24 file);
+      time = take (24 + old .title + 1 + old .time - (24 + old .title + 1)) (drop (24 + old .title + 1) file);
+    }))
     → t ≡ same (take (old .place) file) (headerCodes (oldHeader file old))
 header-told file old e =
     let a : 24 + old .title - 24 ≡ old .title = omega arith in
@@ -199,8 +206,16 @@ module _ {file : List ℕ} {old : Old} {j : ℕ} {p : Place} {b : List ℕ} (B :
 pub begins-first : (file : List ℕ) (old : Old) → OldOpens file old → take (old .place) file ≡ headerCodes (oldHeader file old) → (p : Place) (b : List ℕ)
     → Starts p (old .place) → length b ≡ 4096 → Begins file old 0 p b
 begins-first file old o e p b s w =
-    let i : Inside file p b = record { place-inside = omega (arith, s .place-is, o .room .inside); label-short = omega (arith, s .label-empty); label-whole = w } in
-    record { opens = o; version-is = ours-version file old o e; header-is = e; walks = subst (λ (k : ℕ). Walks file k start 0 p b) (s .place-is) (subst (λ (st : State). Walks file (p .at) st 0 p b) (starts-state p (old .place) b s) (walk-none file p b i)) }
+    let i : Inside file p b =
+    record { place-inside = omega (arith, s .place-is, o .room .inside); label-short = omega (arith, s .label-empty); label-whole = w } in
+    record {
+      opens = o;
+      version-is = ours-version file old o e;
+      header-is = e;
+      walks =
+          subst (λ (k : ℕ). Walks file k start 0 p b) (s .place-is)
+          (subst (λ (st : State). Walks file (p .at) st 0 p b) (starts-state p (old .place) b s) (walk-none file p b i));
+    }
 
 -- from the first record on
 module _ {file : List ℕ} {old : Old} {p : Place} {b : List ℕ} (B : Begins file old 0 p b) where

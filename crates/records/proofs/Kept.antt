@@ -26,7 +26,11 @@ module _ (b b′ added : List ℕ) (len off : ℕ) (short : len ≤ 4096) (whole
       let e : length (take len b) - (len - off) ≡ off = omega (arith, n) in
       let d : drop (len - off) m ≡ added = ap (λ (i : ℕ). drop i m) (sym kept-size) ∙ drop-append-seam (take (len - off) b) added in
       let sh : Shares (take len b) m (len - off) =
-      record { first = omega (arith, n); second = omega (arith, size); equal = take-take (len - off) len b (omega arith) ∙ sym (take-at (take (len - off) b) added (len - off) kept-size) } in
+      record {
+        first = omega (arith, n);
+        second = omega (arith, size);
+        equal = take-take (len - off) len b (omega arith) ∙ sym (take-at (take (len - off) b) added (len - off) kept-size);
+      } in
       rw (e, d) at (label-read (take len b) m (len - off) sh (omega (arith, size)))
 
   pub relabel-short : Tells TooShort b′ (labelStep (take len b) (Back off) added) → ⊥
@@ -36,7 +40,8 @@ module _ (b b′ added : List ℕ) (len off : ℕ) (short : len ≤ 4096) (whole
   relabel-long T = let q : tooLong ≡ labelled m = T .same ∙ stepped in let z : _≡_ {A = ℕ} 0 1 = cc in omega arith
 
   pub relabel-fits : (n kept : ℕ) → Tells (Fits n kept) b′ (labelStep (take len b) (Back off) added) → Swaps b′ m n
-  relabel-fits n kept T = let q : labelled (take n b′) ≡ labelled m = T .same ∙ stepped in record { label-is = cc; label-short = T .short; label-whole = T .whole }
+  relabel-fits n kept T =
+      let q : labelled (take n b′) ≡ labelled m = T .same ∙ stepped in record { label-is = cc; label-short = T .short; label-whole = T .whole }
 
 -- all of the old label is dropped
 pub swap-whole : (b b′ name : List ℕ) (len r : ℕ) → Swaps b′ (take (len - len) b ++ name) r → Swaps b′ name r

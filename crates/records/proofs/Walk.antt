@@ -53,7 +53,9 @@ module _ (version : ℕ) (file : List ℕ) (at : ℕ) (st : State) where
   coming-by {x} e =
       coming-eq version at (drop at file) st ∙ rw (next-there version file at st e) (item-same x)
     where
-      item-same : (y : Next) → comingItem y at (drop at file) (λ n st′. coming version (at + n) (drop n (drop at file)) st′) ≡ comingItem y at (drop at file) (λ n st′. coming version (at + n) (drop (at + n) file) st′)
+      item-same : (y : Next)
+          → comingItem y at (drop at file) (λ n st′. coming version (at + n) (drop n (drop at file)) st′)
+          ≡ comingItem y at (drop at file) (λ n st′. coming version (at + n) (drop (at + n) file) st′)
       item-same (bad k) = refl
       item-same end = refl
       item-same (on n st′) = ap (λ (s : List ℕ). coming version (at + n) s st′) (drop-drop n at file)
@@ -73,17 +75,21 @@ pub record Going (version : ℕ) (file : List ℕ) (was : Place) (b₀ : List �
   pub same : leftAt version file was b₀ ≡ run version at (drop at file) (stateIn setting len b)
   pub next-is : coming version (was .at) (drop (was .at) file) (stateAt was b₀) ≡ coming version at (drop at file) (stateIn setting len b)
 
-pub going-first : (version : ℕ) (file : List ℕ) (was : Place) (b : List ℕ) → was .at ≤ length file → was .len ≤ 4096 → length b ≡ 4096 → Going version file was b (was .at) (was .len) (was .setting) b
+pub going-first : (version : ℕ) (file : List ℕ) (was : Place) (b : List ℕ) → was .at ≤ length file → was .len ≤ 4096 → length b ≡ 4096
+    → Going version file was b (was .at) (was .len) (was .setting) b
 going-first version file was b h s w = record { inside = h; short = s; whole = w; on = omega arith; same = refl; next-is = refl }
 
-module _ (version : ℕ) (file : List ℕ) (was : Place) (b₀ : List ℕ) (at len : ℕ) (setting : Setting) (b : List ℕ) (G : Going version file was b₀ at len setting b) where
+module _ (version : ℕ) (file : List ℕ) (was : Place) (b₀ : List ℕ) (at len : ℕ) (setting : Setting) (b : List ℕ)
+    (G : Going version file was b₀ at len setting b) where
   abbrev st : State
   st = stateIn setting len b
 
   abbrev pub Tell : Step → List ℕ → Type 0
   Tell it b′ = Tells it b′ (next version (take (length file - at) (drop at file)) st)
 
-  came : (it : Step) (b′ : List ℕ) → Tell it b′ → coming version (was .at) (drop (was .at) file) (stateAt was b₀) ≡ comingItem (seen it b′) at (drop at file) (λ n st′. coming version (at + n) (drop (at + n) file) st′)
+  came : (it : Step) (b′ : List ℕ) → Tell it b′
+      → coming version (was .at) (drop (was .at) file) (stateAt was b₀)
+      ≡ comingItem (seen it b′) at (drop at file) (λ n st′. coming version (at + n) (drop (at + n) file) st′)
   came it b′ T = G .next-is ∙ coming-by version file at st (T .same)
 
   pub finds-bad : (k : ℕ) (b′ : List ℕ) → Tell (Bad k) b′ → Finds version file was b₀ (FoundRefused k at) b′
@@ -95,10 +101,12 @@ module _ (version : ℕ) (file : List ℕ) (was : Place) (b₀ : List ℕ) (at l
       less-or-not 1 (length (drop at file))
       (λ h.
       let t = lt-ltb 1 (length (drop at file)) h in
-      rw (e ∙ pick-true _ _ t) (record { next-is = sym (came End b′ T ∙ ap stops (pick-true _ _ t)); same = G .same ∙ left-after version file at st (T .same) h; further = T .whole }))
+      rw (e ∙ pick-true _ _ t)
+      (record { next-is = sym (came End b′ T ∙ ap stops (pick-true _ _ t)); same = G .same ∙ left-after version file at st (T .same) h; further = T .whole }))
       λ h.
       let t = le-ltb 1 (length (drop at file)) h in
-      rw (e ∙ pick-false _ _ t) (record { next-is = sym (came End b′ T ∙ ap stops (pick-false _ _ t)); same = G .same ∙ left-done version file at st (T .same) h; further = T .whole })
+      rw (e ∙ pick-false _ _ t)
+      (record { next-is = sym (came End b′ T ∙ ap stops (pick-false _ _ t)); same = G .same ∙ left-done version file at st (T .same) h; further = T .whole })
 
   -- the item's bytes are there; which buffer they are seen by is all one
   pub item-within : (it : Step) (b : List ℕ) → Tell it b → Within (length file) at (seen it [])
@@ -110,7 +118,14 @@ module _ (version : ℕ) (file : List ℕ) (was : Place) (b₀ : List ℕ) (at l
   pub going-on : (n m : ℕ) (st′ : Setting) (b′ : List ℕ) → Tell (On n m st′) b′ → Going version file was b₀ (at + n) m st′ b′
   going-on n m st′ b′ T =
       let z = item-within (On n m st′) b′ T in
-      record { inside = z .1; short = T .short; whole = T .whole; on = omega (arith, G .on); same = G .same ∙ left-on version file at st (T .same); next-is = came (On n m st′) b′ T }
+      record {
+        inside = z .1;
+        short = T .short;
+        whole = T .whole;
+        on = omega (arith, G .on);
+        same = G .same ∙ left-on version file at st (T .same);
+        next-is = came (On n m st′) b′ T;
+      }
 
   pub finds-record : (n m : ℕ) (st′ : Setting) (f : Fields) (kept : ℕ) (b′ : List ℕ) → Tell (Made n m st′ f kept) b′
       → Finds version file was b₀ (FoundRecord (record { at = at + n; len = m; setting = st′ }) f) b′

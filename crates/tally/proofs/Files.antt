@@ -23,7 +23,8 @@ use Rattle.tally.specs.Tallies.{encoded, restOutcome, Rest, fileOutcome,
 
 -- ---- one pass: the header, and the records behind it
 
-module _ (w : Writer) (h : Header) (x : Result) (d e f : List ℕ) (most head : ℕ) (r : Answer) (P : Puts d e (w .head h) most head) (R : Rest w x head e f r) where
+module _ (w : Writer) (h : Header) (x : Result) (d e f : List ℕ) (most head : ℕ) (r : Answer) (P : Puts d e (w .head h) most head)
+    (R : Rest w x head e f r) where
   file-is : fileOf w h (x .records) ≡ w .head h ++ encoded w x
   unfolding fileOf
   file-is = refl
@@ -81,7 +82,8 @@ module _ (w : Writer) (h : Header) (x : Result) (old : List ℕ) where
     file-bytes = outcome-bytes (writingVerdict w x (length file)) (length file) (length (x .records)) (w .version) b n v (sym e)
 
     -- the second pass is lent just the bytes that are needed
-    file-done : (l : b ≤ length old) (y : List ℕ) (r : Answer) → Passed w h x (take b old) y r → (accepted b n v ≡ due) × (y ++ drop b old ≡ bufferOf due file old)
+    file-done : (l : b ≤ length old) (y : List ℕ) (r : Answer) → Passed w h x (take b old) y r
+        → (accepted b n v ≡ due) × (y ++ drop b old ≡ bufferOf due file old)
     file-done l y r P =
         let k = length-take-le b old l in
         let q = P .written b n v (sym e) (omega arith) in

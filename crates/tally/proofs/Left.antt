@@ -96,7 +96,9 @@ module _ (d : List ℕ) (t : Tally) (setting : Setting) (last name : List ℕ) (
     (inside : from ≤ length d) (q : t .bytes ≤ length d → from ≡ t .bytes)
     (P : Puts (take (length d - from) (drop from d)) y (codes (stateOf setting last) (recordOf f name)) codesLimit n)
     (b : bytes ≡ bounded (t .bytes) n) (e : fault ≡ orElse (t .fault) (pick (unsayable (setting .style) (recordOf f [])) (Refusal 13 (t .records)) Good)) where
-  pub adds-next : Adds v8 (stateOf setting last) (recordOf f name) d (take from d ++ (y ++ drop (length d - from) (drop from d))) t (record { bytes = bytes; records = t .records + 1; fault = fault })
+  pub adds-next :
+      Adds v8 (stateOf setting last) (recordOf f name) d (take from d ++ (y ++ drop (length d - from) (drop from d))) t
+      (record { bytes = bytes; records = t .records + 1; fault = fault })
   adds-next =
       adds-one v8 d t (stateOf setting last) (recordOf f name) from y n bytes fault inside q P b
       (e ∙ ap (λ (x : Bool). orElse (t .fault) (pick x (Refusal 13 (t .records)) Good)) (unsayable-at (setting .style) f name))
@@ -105,7 +107,8 @@ module _ (d : List ℕ) (t : Tally) (setting : Setting) (last name : List ℕ) (
 
 module _ (w : Writer) where
   -- the bytes stay at most a record over what refusal 16 allows
-  pub adds-few : (st : State) (r : Record) (d d′ : List ℕ) (t t′ : Tally) → Adds w st r d d′ t t′ → t .bytes ≤ fileLimit + w .longest → t′ .bytes ≤ fileLimit + w .longest
+  pub adds-few : (st : State) (r : Record) (d d′ : List ℕ) (t t′ : Tally) → Adds w st r d d′ t t′ → t .bytes ≤ fileLimit + w .longest
+      → t′ .bytes ≤ fileLimit + w .longest
   adds-few st r d d′ t t′ A f =
       rw (A .bytes) (bounded-case (λ (n : ℕ). n ≤ fileLimit + w .longest) (t .bytes) (length (w .codes st r)) (λ x. f) λ x. omega (arith, A .most))
 
@@ -129,10 +132,12 @@ module _ (w : Writer) where
     pub styles : orElse (t .fault) (recordsVerdict w (t .records) st (x .records)) ≡ recordsVerdict w 0 start (x₀ .records)
     pub big : fileLimit < t .bytes → fileLimit < head + length (encoded w x₀)
     pub exact : t .bytes ≤ fileLimit → t .bytes + length (rest st (x .records)) ≡ head + length (encoded w x₀)
-    pub filled : head + length (encoded w x₀) ≤ length d₀ → head + length (encoded w x₀) ≤ fileLimit → laid d (t .bytes) (rest st (x .records)) ≡ laid d₀ head (encoded w x₀)
+    pub filled : head + length (encoded w x₀) ≤ length d₀ → head + length (encoded w x₀) ≤ fileLimit
+        → laid d (t .bytes) (rest st (x .records)) ≡ laid d₀ head (encoded w x₀)
 
   pub left-none : (x₀ : Result) (head : ℕ) (d : List ℕ) → head ≤ fileLimit → Left x₀ head d d (record { bytes = head; records = 0; fault = Good }) start x₀
-  left-none x₀ head d h = record { verdict = refl; records = omega arith; styles = refl; big = λ q. absurd (omega arith); exact = λ q. refl; filled = λ q s. refl }
+  left-none x₀ head d h =
+      record { verdict = refl; records = omega arith; styles = refl; big = λ q. absurd (omega arith); exact = λ q. refl; filled = λ q s. refl }
 
   -- one record more is written
   module _ (x₀ : Result) (head : ℕ) (d₀ d d′ : List ℕ) (t t′ : Tally) (st : State) (r : Record) (x : Result)
@@ -156,7 +161,14 @@ module _ (w : Writer) where
     past : (b : ℕ) → t′ .bytes ≡ b → b ≡ t .bytes → fileLimit < t .bytes → Left x₀ head d₀ d′ t′ st′ x
     past b e f h =
         let z = L .big h in
-        record { verdict = L .verdict; records = records-left; styles = styles-more; big = λ q. z; exact = λ q. absurd (omega arith); filled = λ q s. absurd (omega arith) }
+        record {
+          verdict = L .verdict;
+          records = records-left;
+          styles = styles-more;
+          big = λ q. z;
+          exact = λ q. absurd (omega arith);
+          filled = λ q s. absurd (omega arith);
+        }
 
     below : t′ .bytes ≡ t .bytes + n → t .bytes ≤ fileLimit → Left x₀ head d₀ d′ t′ st′ x
     below e h =
@@ -210,7 +222,9 @@ module _ (w : Writer) where
         bytes-are h = let z = L .exact h in let l = ap length is in omega arith
 
         -- both are over what refusal 16 allows, or they are the same
-        outcomes : (v : Verdict) (m : ℕ) → outcomeOf (orElse v (sizeVerdict bytes)) bytes m (w .version) bytes ≡ outcomeOf (orElse (orElse v Good) (sizeVerdict whole)) whole m (w .version) whole
+        outcomes : (v : Verdict) (m : ℕ)
+            → outcomeOf (orElse v (sizeVerdict bytes)) bytes m (w .version) bytes
+            ≡ outcomeOf (orElse (orElse v Good) (sizeVerdict whole)) whole m (w .version) whole
         outcomes (Refusal k p) m = refl
         outcomes Good m = less-or-not fileLimit (t .bytes) (λ h. rw (size-big bytes (omega arith), size-big whole (L .big h))) λ h. rw (bytes-are h)
 
@@ -242,7 +256,8 @@ module _ (w : Writer) where
             }
 
       -- no record is left
-      pub left-end : (d′ : List ℕ) (r : Answer) → length d ≡ length d₀ → Left x₀ head d₀ d t st (stop Good) → Finished w d d′ (w .closing st) t r → Rest w x₀ head d₀ d′ r
+      pub left-end : (d′ : List ℕ) (r : Answer) → length d ≡ length d₀ → Left x₀ head d₀ d t st (stop Good) → Finished w d d′ (w .closing st) t r
+          → Rest w x₀ head d₀ d′ r
       unfolding recordsVerdict
       left-end d′ r kept L F =
           left-last (stop Good) (w .closing st) d′ 0 r kept L refl refl (sym (encode-none st)) refl

@@ -15,7 +15,10 @@ abbrev μ-loop : tie.MeasureT-loop
 μ-loop new at₀ number₀ at number = length new - at
 
 -- the record that was found ends in the replacement
-sizes : (y : tie.After-entry Inv-loop μ-loop) → (3 ≤ y .entry .given .0 .0) × (y .before .before .before .before .before .loop .at + y .entry .given .0 .0 ≤ length (y .before .before .before .before .before .before .before .args .new .now))
+sizes : (y : tie.After-entry Inv-loop μ-loop)
+    → (3 ≤ y .entry .given .0 .0)
+    × (y .before .before .before .before .before .loop .at + y .entry .given .0 .0
+    ≤ length (y .before .before .before .before .before .before .before .args .new .now))
 sizes y =
     let T = rw (y .entry .given .1) at (y .before .before .read-entry .ensures) in
     found-size _ (y .before .before .before .before .before .before .before .args .new .now) (y .before .before .before .before .before .loop .at)
@@ -31,7 +34,12 @@ returns c =
 
 add-number : tie.Need-add-number Inv-loop μ-loop
 add-number c =
-    omega (arith, c .before .before .before .before .before .before .loop .inv .counted, c .before .before .before .before .before .before .loop .inv .inside, c .before .before .before .before .before .before .before .before .good)
+    omega (
+      arith,
+      c .before .before .before .before .before .before .loop .inv .counted,
+      c .before .before .before .before .before .before .loop .inv .inside,
+      c .before .before .before .before .before .before .before .before .good,
+    )
 
 add-at : tie.Need-add-at Inv-loop μ-loop
 add-at c =

@@ -1,6 +1,7 @@
 -- `edit::put_behind` meets its contract. Assumes nothing.
 use native.Mathlib.Omega.{arith}
 use mathlib.Core.Path.{_≡_, sym, _∙_}
+use Prim.Native.Nat.{_<_}
 use lib.ListN.{length, length-take}
 use lib.Seq.{length-take-le}
 use Rattle.edit.proofs.Behind.{Putting, putting-first, always-more, putting-fits, went-level, went-all, found-formed, putting-more}
@@ -45,6 +46,10 @@ returns-2 c =
     (c .before .before .take-record .result) _ (c .before .before .before .before .before .before .before .before .before .before .loop-test .taken)
     (c .match .keys2) (c .before .before .take-record .ensures .0))
 
+-- where a record was taken, some were left to take
+some-left : (y : tie.After-taken Inv-loop μ-loop) → 0 < y .before .before .before .before .before .before .before .before .before .before .before .before .loop .left
+some-left y = y .before .before .before .before .before .before .before .before .before .before .before .loop-test .taken
+
 slice-aggregate-put-one : tie.Need-slice-aggregate-put-one Inv-loop μ-loop
 slice-aggregate-put-one c =
     let T = rw (c .before .before .before .before .before .before .taken .given .1) at
@@ -53,29 +58,35 @@ slice-aggregate-put-one c =
 
 put-one-requires : tie.Need-put-one-requires Inv-loop μ-loop
 put-one-requires c κs =
-    let G = c .before .before .before .before .before .before .before .before .before .before .before .before .before .before .before .before .before .before .loop .inv in
+    let G =
+    c .before .before .before .before .before .before .before .before .before .before .before .before .before .before .before .before .before
+    .before .loop .inv in
     let t = c .before .before .before .before .before .before .taken .given in
     let T = rw (t .1) at (c .before .before .before .before .before .before .before .before .before .take-record .ensures) in (
       G .behind .fits,
-      putting-fits G
-          (c .before .before .before .before .before .before .before .before .before .before .before .before .before .before .before .before .before .loop-test .taken),
+      putting-fits G (some-left (c .before .before .before .before .before .before)),
       found-formed G (t .0 .0) (t .0 .1 .0) _ (T .0),
       simp length-take (omega (arith, T .0 .inside .label-short)),
     )
 
 sub-left : tie.Need-sub-left Inv-loop μ-loop
 sub-left c =
-    omega (arith, c .before .before .before .before .before .before .before .before .before .before .before .before .before .before .before .before .before .before .before .before .loop-test .taken)
+    omega (arith, some-left (c .before .before .before .before .before .before .before .before .before))
 
 loop-less : tie.Need-loop-less Inv-loop μ-loop
 loop-less c =
-    omega (arith, c .before .before .before .before .before .before .before .before .before .before .before .before .before .before .before .before .before .before .before .before .loop-test .taken)
+    omega (arith, some-left (c .before .before .before .before .before .before .before .before .before))
 
 loop-again : tie.Need-loop-again Inv-loop μ-loop
 loop-again c =
     let t = c .before .before .before .before .before .before .before .before .before .taken .given in
     let T = rw (t .1) at (c .before .before .before .before .before .before .before .before .before .before .before .before .take-record .ensures) in
-    putting-more (c .before .before .before .before .before .before .before .before .before .before .before .before .before .before .before .before .before .before .before .before .before .loop .inv) (t .0 .0) (t .0 .1 .0) _ (T .0) (c .before .before .before .before .before .before .before .before .before .before .before .before .before .before .before .before .before .before .before .before .loop-test .taken) _ _ _ _ _ (c .before .before .put-one .ensures) (T .1) (T .2)
+    putting-more
+    (c .before .before .before .before .before .before .before .before .before .before .before .before .before .before .before .before .before .before .before
+    .before .before .loop .inv)
+    (t .0 .0) (t .0 .1 .0) _ (T .0)
+    (some-left (c .before .before .before .before .before .before .before .before .before))
+    _ _ _ _ _ (c .before .before .put-one .ensures) (T .1) (T .2)
 
 returns-3 : tie.Need-returns-3 Inv-loop μ-loop
 returns-3 c = went-all (c .before .loop .inv) (c .loop-test .left)

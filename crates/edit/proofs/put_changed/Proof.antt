@@ -9,11 +9,20 @@ put-behind-requires : tie.Need-put-behind-requires
 put-behind-requires c κs =
     let a = c .before .before .before .before .before .before .before .before .before .before .before .before .before .before .before .args in
     let p = c .before .before .before .before .before .before .before .before .before .before .before .before .before .before .before .pre in
-    behind-ready (p .at) (λ i. c .before .before .before .before .before .before .before .before .before .before .before .before .before .before .shared-slice-known .given i .fits) (a .new .now) (c .before .before .before .before .before .before .put-new .ensures) (omega (arith, c .before .before .before .before .before .before .before .before .before .before .before .before .before .before .before .good))
+    behind-ready (p .at)
+    (λ i. c .before .before .before .before .before .before .before .before .before .before .before .before .before .before .shared-slice-known .given i .fits)
+    (a .new .now) (c .before .before .before .before .before .before .put-new .ensures)
+    (omega (arith, c .before .before .before .before .before .before .before .before .before .before .before .before .before .before .before .good))
 
 returns : tie.Need-returns
 returns c =
-    record { pen = c .before .before .before .before .before .before .before .before .before .put-new .result; label = _; between = _; puts = c .before .before .before .before .before .before .before .before .before .put-new .ensures; went = c .before .before .put-behind .ensures }
+    record {
+      pen = c .before .before .before .before .before .before .before .before .before .put-new .result;
+      label = _;
+      between = _;
+      puts = c .before .before .before .before .before .before .before .before .before .put-new .ensures;
+      went = c .before .before .put-behind .ensures;
+    }
 
 -- the search closes the other needs
 pub put-changed-spec : {M : Type 1} → statement M

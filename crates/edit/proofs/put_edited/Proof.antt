@@ -33,7 +33,10 @@ returns-2 c =
     let a = c .before .before .before .before .before .before .before .before .before .before .before .before .before .before .before .before .before .args in
     let p = c .before .before .before .before .before .before .before .before .before .before .before .before .before .before .before .before .before .pre in
     ends-copied (p .0 .at)
-    (λ i. c .before .before .before .before .before .before .before .before .before .before .before .before .before .before .before .before .shared-slice-known .given i .fits) (a .new .now) (a .out .now) (p .1) (c .before .before .before .before .before .before .before .before .before .before .put-changed .ensures) (c .before .before .before .before .before .before .if1 .left) (c .before .before .put-tail .ensures)
+    (λ i. c .before .before .before .before .before .before .before .before .before .before .before .before .before .before .before .before .shared-slice-known
+    .given i .fits)
+    (a .new .now) (a .out .now) (p .1) (c .before .before .before .before .before .before .before .before .before .before .put-changed .ensures)
+    (c .before .before .before .before .before .before .if1 .left) (c .before .before .put-tail .ensures)
 
 -- the search closes the other needs
 pub put-edited-spec : {M : Type 1} → statement M

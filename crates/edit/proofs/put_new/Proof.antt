@@ -15,7 +15,11 @@ abbrev μ-loop : tie.MeasureT-loop
 μ-loop new out₀ last₀ at₀ next₀ out last at next = length new - at
 
 -- the record that was found ends in the replacement, and its label starts in it
-sizes : (y : tie.After-entry Inv-loop μ-loop) → (3 ≤ y .entry .given .0 .0) × (y .before .before .before .before .before .loop .at + y .entry .given .0 .0 ≤ length (y .before .before .before .before .before .before .before .before .args .new .now)) × (y .entry .given .0 .1 .1 .0 ≤ y .entry .given .0 .0)
+sizes : (y : tie.After-entry Inv-loop μ-loop)
+    → (3 ≤ y .entry .given .0 .0)
+    × (y .before .before .before .before .before .loop .at + y .entry .given .0 .0
+    ≤ length (y .before .before .before .before .before .before .before .before .args .new .now))
+    × (y .entry .given .0 .1 .1 .0 ≤ y .entry .given .0 .0)
 sizes y =
     let T = rw (y .entry .given .1) at (y .before .before .read-entry .ensures) in
     let w = found-size _ (y .before .before .before .before .before .before .before .before .args .new .now)

@@ -25,7 +25,9 @@ returns c =
 slice-aggregate-pass-2 : tie.Need-slice-aggregate-pass-2
 slice-aggregate-pass-2 c =
     let e = length-take-le (c .before .before .before .answer2 .given .0 .0)
-    (c .before .before .before .before .before .before .before .pass .last .1 .1 .1 .0 ++ c .before .before .before .before .before .before .before .before .before .before .before .before .args .out .now) (omega (arith, c .before .if1 .left)) in
+    (c .before .before .before .before .before .before .before .pass .last .1 .1 .1 .0
+    ++ c .before .before .before .before .before .before .before .before .before .before .before .before .args .out .now)
+    (omega (arith, c .before .if1 .left)) in
     omega (arith, e)
 
 pass-requires-2 : tie.Need-pass-requires-2

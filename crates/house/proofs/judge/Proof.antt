@@ -3,12 +3,15 @@ use borrow.Author.Tests.{not-true, not-false}
 use Rattle.house.specs.Judging.{Begins}
 use native.Mathlib.Omega.{arith}
 use mathlib.Core.Path.{sym, _∙_}
-use Rattle.house.proofs.Whole.{header-ours, header-foreign, fails-judges, begins-first, begins-ready, begins-refused, begins-foreign, first-then, first-short}
+use Rattle.house.proofs.Whole.{header-ours, header-foreign, fails-judges, begins-first, begins-ready, begins-refused, begins-foreign, first-then}
+use Rattle.house.proofs.Whole.{first-short}
 use borrow.Author.Needs.{needs}
 use Rattle.house.proofs.judge.Statement.{statement}
 use Rattle.house.proofs.judge.Tie as tie
 
-begun : (y : tie.After-first-place) → Begins (y .before .before .before .before .args .file .now) (y .before .before .before .before .args .old) 0 (y .first-place .result) (y .before .before .before .before .args .before .now)
+begun : (y : tie.After-first-place)
+    → Begins (y .before .before .before .before .args .file .now) (y .before .before .before .before .args .old) 0 (y .first-place .result)
+    (y .before .before .before .before .args .before .now)
 begun y =
     let p = y .before .before .before .before .pre in
     begins-first _ _ (p .0) (header-ours _ _ (p .0) (sym (y .before .before .our-header .ensures) ∙ not-false _ (y .before .if1 .left))) _ _
@@ -37,8 +40,10 @@ foreign-requires-2 c κs =
 
 judge-run-requires : tie.Need-judge-run-requires
 judge-run-requires c κs =
-    let T = rw (c .before .before .before .one3 .given .1) at (c .before .before .before .before .before .judge-records .ensures) in
-    (first-then (begun (c .before .before .before .before .before .before .before)) T, c .before .before .before .before .before .before .before .before .before .before .before .pre .2)
+    let T = rw (c .before .before .before .one3 .given .1) at (c .before .before .before .before .before .judge-records .ensures) in (
+      first-then (begun (c .before .before .before .before .before .before .before)) T,
+      c .before .before .before .before .before .before .before .before .before .before .before .pre .2,
+    )
 
 returns-2 : tie.Need-returns-2
 returns-2 c =

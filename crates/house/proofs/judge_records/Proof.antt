@@ -3,7 +3,8 @@ use native.Mathlib.Omega.{arith}
 use Prim.Native.Nat.{_-_}
 use mathlib.Core.Path.{_≡_, sym}
 use lib.ListN.{length}
-use Rattle.house.proofs.Walk.{Judging, judging-first, judging-ready, judging-same, judging-brief, judging-refused, judging-foreign, judging-end, judging-more, judging-passed}
+use Rattle.house.proofs.Walk.{Judging, judging-first, judging-ready, judging-same, judging-brief, judging-refused, judging-foreign, judging-end}
+use Rattle.house.proofs.Walk.{judging-more, judging-passed}
 use borrow.Author.Needs.{needs}
 use Rattle.house.proofs.judge_records.Statement.{statement}
 use Rattle.house.proofs.judge_records.Tie as tie
@@ -16,7 +17,13 @@ abbrev μ-loop : tie.MeasureT-loop
 μ-loop file label₀ limit room₀ spare₀ place₀ passed₀ label room spare place passed = limit - passed
 
 -- where no such LINE stands, the label is as it was
-on : (y : tie.After-enum-told Inv-loop μ-loop) → Judging (y .before .before .before .before .before .before .before .before .before .args .file .now) (y .before .before .before .before .before .before .before .before .before .args .from) (y .before .before .before .before .before .before .before .before .before .args .label .now) (y .before .before .before .before .before .before .before .before .before .args .limit) (y .before .before .before .before .before .loop .place) (y .before .before .take-brief .last .1 .1 .0) (y .before .before .before .before .before .loop .passed) (y .before .before .before .before .before .loop .spare .bytes) (y .before .before .before .before .before .loop .room)
+on : (y : tie.After-enum-told Inv-loop μ-loop)
+    → Judging (y .before .before .before .before .before .before .before .before .before .args .file .now)
+    (y .before .before .before .before .before .before .before .before .before .args .from)
+    (y .before .before .before .before .before .before .before .before .before .args .label .now)
+    (y .before .before .before .before .before .before .before .before .before .args .limit) (y .before .before .before .before .before .loop .place)
+    (y .before .before .take-brief .last .1 .1 .0) (y .before .before .before .before .before .loop .passed)
+    (y .before .before .before .before .before .loop .spare .bytes) (y .before .before .before .before .before .loop .room)
 on y = judging-same (y .before .before .before .before .before .loop .inv) _ (rw (y .enum-told .given .1) at (y .before .before .take-brief .ensures))
 
 loop-holds : tie.Need-loop-holds Inv-loop μ-loop

@@ -12,7 +12,13 @@ use Rattle.house.proofs.take_brief.Statement.{statement}
 use Rattle.house.proofs.take_brief.Tie as tie
 
 -- the LINE that stands there
-line : (y : tie.After-brief) → BriefLine (drop (y .before .before .before .before .before .before .before .before .before .args .from .at) (y .before .before .before .before .before .before .before .before .before .args .file .now)) (take (y .before .before .before .before .before .before .before .before .before .args .from .len) (y .before .before .before .before .before .before .before .before .before .args .label .now)) (y .brief .given .0 .0) (y .brief .given .0 .1 .0)
+line : (y : tie.After-brief)
+    → BriefLine
+    (drop (y .before .before .before .before .before .before .before .before .before .args .from .at)
+    (y .before .before .before .before .before .before .before .before .before .args .file .now))
+    (take (y .before .before .before .before .before .before .before .before .before .args .from .len)
+    (y .before .before .before .before .before .before .before .before .before .args .label .now))
+    (y .brief .given .0 .0) (y .brief .given .0 .1 .0)
 line y = simp part-to-end at (rw (y .brief .given .1) at (y .before .before .brief-line .ensures))
 
 -- it keeps no more bytes than there are
@@ -22,7 +28,9 @@ kept y = let a = y .before .before .before .before .before .before .before .befo
     let n = length-take-le (a .from .len) (a .label .now) (omega (arith, p .inside .label-short, p .inside .label-whole)) in omega (arith, n, L .kept)
 
 -- its bytes are there
-room-there : (y : tie.After-brief) → 29 + y .before .before .before .before .before .before .before .before .before .args .from .at ≤ length (y .before .before .before .before .before .before .before .before .before .args .file .now)
+room-there : (y : tie.After-brief)
+    → 29 + y .before .before .before .before .before .before .before .before .before .args .from .at
+    ≤ length (y .before .before .before .before .before .before .before .before .before .args .file .now)
 room-there y = let a = y .before .before .before .before .before .before .before .before .before .args in let L = line y in
     let n = length-drop (a .from .at) (a .file .now) in omega (arith, n, L .there)
 
@@ -82,12 +90,15 @@ add-t19 c =
 returns-3 : tie.Need-returns-3
 returns-3 c =
     let a = c .before .before .before .before .before .before .before .before .before .before .before .before .before .before .before .args in
-    let e : 2 + c .before .before .before .before .before .before .brief .given .0 .1 .0 - 2 ≡ c .before .before .before .before .before .before .brief .given .0 .1 .0 = omega arith in
+    let e : 2 + c .before .before .before .before .before .before .brief .given .0 .1 .0 - 2
+    ≡ c .before .before .before .before .before .before .brief .given .0 .1 .0 = omega arith in
     let K = simp part-to-end at (c .before .before .relabel .ensures) in
     let q = simp part-to-end at (c .point-at .ensures) in
     rw q (takes-brief (a .file .now) (a .from) (a .label .now)
     (c .before .before .before .before .before .before .before .before .before .before .before .before .before .before .before .pre)
-    (λ i. c .before .before .before .before .before .before .before .before .before .before .before .before .before .before .shared-slice-known .given i .fits) _ (c .before .before .before .before .before .before .before .before .before .before .before .enum-told .given .1) _ _ (line (c .before .before .before .before .before .before)) _ _ (rw e at K))
+    (λ i. c .before .before .before .before .before .before .before .before .before .before .before .before .before .before .shared-slice-known .given i .fits)
+    _ (c .before .before .before .before .before .before .before .before .before .before .before .enum-told .given .1) _ _
+    (line (c .before .before .before .before .before .before)) _ _ (rw e at K))
 
 -- the search closes the other needs
 pub take-brief-spec : {M : Type 1} → statement M

@@ -48,7 +48,12 @@ keep-label-requires c κs =
 add-t21 : tie.Need-add-t21
 add-t21 c =
     let P = c .before .before .before .before .before .before .before .put-codes .ensures in
-    omega (arith, P .most, c .before .before .before .before .before .before .before .before .before .before .before .before .before .before .pre .0 .inside .place-inside, c .before .before .before .before .before .before .before .before .before .before .before .before .before .before .pre .0 .small)
+    omega (
+      arith,
+      P .most,
+      c .before .before .before .before .before .before .before .before .before .before .before .before .before .before .pre .0 .inside .place-inside,
+      c .before .before .before .before .before .before .before .before .before .before .before .before .before .before .pre .0 .small,
+    )
 
 returns-2 : tie.Need-returns-2
 returns-2 c =

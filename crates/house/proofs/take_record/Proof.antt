@@ -19,8 +19,10 @@ next-record-requires c κs =
     (c .before .before .before .before .before .before .before .pre .0 .inside .place-inside, K .label-short, K .label-whole)
 
 take-end-requires : tie.Need-take-end-requires
-take-end-requires c κs =
-    (c .before .before .before .before .before .before .before .before .before .before .before .pre .0 .inside .place-inside, c .before .before .before .before .before .before .before .before .before .before .before .pre .2)
+take-end-requires c κs = (
+  c .before .before .before .before .before .before .before .before .before .before .before .pre .0 .inside .place-inside,
+  c .before .before .before .before .before .before .before .before .before .before .before .pre .2,
+)
 
 returns : tie.Need-returns
 returns c =

@@ -22,7 +22,8 @@ abbrev μ-loop : tie.MeasureT-loop
 μ-loop file version bytes₀ at₀ len₀ setting₀ bytes at len setting = length file - at
 
 -- the item's bytes are there
-within-at : (y : tie.After-take-item Inv-loop μ-loop) (it : Step) → y .take-item .result ≡ it → Within (length (y .before .before .before .before .before .before .args .file .now)) (y .before .before .before .loop .at) (seen it [])
+within-at : (y : tie.After-take-item Inv-loop μ-loop) (it : Step) → y .take-item .result ≡ it
+    → Within (length (y .before .before .before .before .before .before .args .file .now)) (y .before .before .before .loop .at) (seen it [])
 within-at y it e = item-within _ _ _ _ _ _ _ _ (y .before .before .before .loop .inv) it _ (rw e at (y .take-item .ensures .0))
 
 loop-holds : tie.Need-loop-holds Inv-loop μ-loop
