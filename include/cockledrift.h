@@ -5,7 +5,7 @@
    item. docs/API.md has a program for each, docs/FORMAT.md the bytes of files and sheets and the order of refusals.
 
    Lent memory. Each pointer is followed by the number of bytes lent there, but for `stand` and `label`, whose lengths
-   stand in the declaration. No pointer is null, not even where no bytes are lent. A buffer to fill overlaps nothing
+   stand in the declaration, and `numbers`, which a count of numbers follows. No pointer is null, not even where no bytes are lent. A buffer to fill overlaps nothing
    else that is lent. What is lent as const is only read. The library allocates nothing, keeps no pointer, and touches
    no byte that is not lent.
 
@@ -69,6 +69,7 @@ extern "C" {
     X(COCKLEDRIFT_PAST_LAST_RECORD, 15, "the run ends past the last record") \
     X(COCKLEDRIFT_FILE_TOO_LONG, 16, "the file is over 16,777,216 bytes") \
     X(COCKLEDRIFT_BAD_TIME_LINE, 17, "the time line is not readable") \
+    X(COCKLEDRIFT_TOO_FAR, 20, "a leg is too far from the origin") \
     X(COCKLEDRIFT_NO_LEG, 21, "no leg of this survey") \
     X(COCKLEDRIFT_NOT_IN_V7, 23, "v7 cannot carry it")
 
@@ -166,6 +167,24 @@ struct cockledrift_reached {
    all. Refused with COCKLEDRIFT_BAD_SHEET as for writing, and with COCKLEDRIFT_NO_LEG where no leg takes part. */
 struct cockledrift_reached cockledrift_reach(const uint8_t *sheet, size_t sheet_bytes, const uint8_t *name,
                                              size_t name_bytes) COCKLEDRIFT_LENT;
+
+/* ---- Legs for the viewer */
+
+#define COCKLEDRIFT_FARTHEST 16777216 /* centimetres from the origin that each number of a leg may have */
+
+struct cockledrift_viewed {
+    uint64_t number; /* COCKLEDRIFT_DONE, or the refusal's number */
+    size_t place;    /* refused: the refusal's place; done: 0 */
+    size_t legs;     /* done: the legs of the sheet, six numbers each; refused: 0 */
+};
+
+/* Writes each leg of a sheet, of version 1 or 2, in sheet order: from x y z, then to x y z, in centimetres less the
+   origin, each exactly that number, and zero as plus zero. Done: `numbers` has them at the front, and the rest is as it
+   was. Refused with COCKLEDRIFT_BAD_SHEET as for writing, then with COCKLEDRIFT_TOO_FAR and the record number of the
+   first leg one of whose numbers would be over COCKLEDRIFT_FARTHEST, or below minus it, then with
+   COCKLEDRIFT_BUFFER_TOO_SMALL and the count of numbers needed. */
+struct cockledrift_viewed cockledrift_viewer_legs(const uint8_t *sheet, size_t sheet_bytes, int32_t x, int32_t y,
+                                                  int32_t z, float *numbers, size_t numbers_room) COCKLEDRIFT_LENT;
 
 /* ---- Stepping through a file. A reader is the file, fourteen numbers and the buffer of a label, which the caller
    keeps from one step to the next. Any numbers and any bytes there are safe; to copy them is to copy the reader. */
@@ -297,6 +316,11 @@ COCKLEDRIFT_AT(cockledrift_reached, least_z, 32, 4);
 COCKLEDRIFT_AT(cockledrift_reached, greatest_x, 36, 4);
 COCKLEDRIFT_AT(cockledrift_reached, greatest_y, 40, 4);
 COCKLEDRIFT_AT(cockledrift_reached, greatest_z, 44, 4);
+COCKLEDRIFT_LAYOUT(sizeof(struct cockledrift_viewed) == 24);
+COCKLEDRIFT_AT(cockledrift_viewed, number, 0, 8);
+COCKLEDRIFT_AT(cockledrift_viewed, place, 8, 8);
+COCKLEDRIFT_AT(cockledrift_viewed, legs, 16, 8);
+COCKLEDRIFT_LAYOUT(sizeof(float) == 4);
 COCKLEDRIFT_LAYOUT(sizeof(struct cockledrift_opened) == 24);
 COCKLEDRIFT_AT(cockledrift_opened, number, 0, 8);
 COCKLEDRIFT_AT(cockledrift_opened, place, 8, 8);

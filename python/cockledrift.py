@@ -6,6 +6,7 @@
     new = cockledrift.edit(new, 0, 1, [record]) # a run of records replaced by others
     which, line = cockledrift.compare(a, b)     # 1 or 2, the later file, with its time line; or 0 and b""
     for record, kept in cockledrift.Reader(file): ...   # an item at a time
+    numbers = cockledrift.viewer_legs(sheet, origin)    # six floats a leg, less the origin
 
 Bad bytes raise Refusal, which has a number, a place and a message. docs/API.md shows more, docs/FORMAT.md has the bytes
 of files and sheets and the order of refusals. Threads may call at once: the library keeps nothing between calls.
@@ -44,6 +45,7 @@ class _Reached(ctypes.Structure):
     _fields_ = [("number", _u64), ("place", _u64), ("legs", _u64), ("bounds", ctypes.c_int32 * 6)]
 
 
+_Viewed = _numbers("number", "place", "legs")
 _Stand, _Label = _u64 * STAND_NUMBERS, ctypes.c_char * LABEL_LIMIT
 
 _library = ctypes.CDLL(os.environ.get("COCKLEDRIFT_LIBRARY", "libcockledrift.so.0"))
@@ -64,6 +66,8 @@ _convert = _declare("convert", _Answer, _bytes, _size, _out, _size, _out, _size)
 _edit = _declare("edit", _Answer, _bytes, _size, _size, _size, _bytes, _size, _out, _size)
 _compare = _declare("compare", _Compared, _bytes, _size, _bytes, _size)
 _reach = _declare("reach", _Reached, _bytes, _size, _bytes, _size)
+_i32, _floats = ctypes.c_int32, ctypes.POINTER(ctypes.c_float)
+_viewer_legs = _declare("viewer_legs", _Viewed, _bytes, _size, _i32, _i32, _i32, _floats, _size)
 _open = _declare("open", _Opened, _bytes, _size, ctypes.POINTER(_Stand))
 _step = _declare("step", _Stepped, *_step_arguments)
 _next = _declare("next", _Stepped, *_step_arguments)
@@ -293,6 +297,22 @@ def reach(sheet: Union[Sheet, bytes], name: bytes = b"") -> Reach:
     if answer.number:
         raise Refusal(answer.number, answer.place)
     return Reach(answer.legs, tuple(answer.bounds[:3]), tuple(answer.bounds[3:]))
+
+
+def viewer_legs(sheet: Union[Sheet, bytes], origin: Point = (0, 0, 0)) -> ctypes.Array:
+    """The legs of a sheet for the viewer, in sheet order, as an array of c_float: from x y z, then to x y z, less the
+    origin, each exactly that number of centimetres. Three i32 are an origin; others raise OverflowError."""
+    if not all(-(2**31) <= number < 2**31 for number in origin):
+        raise OverflowError("an origin is three i32")
+    sheet = _sheet_bytes(sheet)
+    numbers = (ctypes.c_float * 1)()
+    answer = _viewer_legs(sheet, len(sheet), *origin, numbers, 0)
+    if answer.number == BUFFER_TOO_SMALL:
+        numbers = (ctypes.c_float * answer.place)()
+        answer = _viewer_legs(sheet, len(sheet), *origin, numbers, len(numbers))
+    if answer.number:
+        raise Refusal(answer.number, answer.place)
+    return numbers if answer.legs else (ctypes.c_float * 0)()
 
 
 def compare(first: bytes, second: bytes) -> Tuple[int, bytes]:

@@ -23,6 +23,7 @@ const ARCHIVES: [Archive; 1] = [Archive {
         "edit",
         "compare",
         "reach",
+        "viewer_legs",
         "open",
         "step",
         "next",

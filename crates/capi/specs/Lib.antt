@@ -1,3 +1,4 @@
 pub mod Compares
 pub mod Salvages
 pub mod Reaches
+pub mod Views

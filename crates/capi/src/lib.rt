@@ -9,7 +9,8 @@ ghost use Rattle.format.specs.Times.{compareOf, laterPart};
 ghost use Rattle.format.specs.Editing.{editOutcome, editBuffer};
 ghost use Rattle.format.specs.Stepping.{openStand, stepOf, stepBuffer};
 ghost use Rattle.format.specs.Reach.{reachOf};
-ghost use Rattle.format.specs.Answers.{laterOf, openOutcome, reachedOf};
+ghost use Rattle.format.specs.Viewer.{viewOf, viewBuffer, ViewExact};
+ghost use Rattle.format.specs.Answers.{laterOf, openOutcome, reachedOf, viewedOf};
 ghost use Rattle.step.specs.Standing.{Opens};
 ghost use Rattle.step.specs.Going.{nextRecord, nextBuffer};
 ghost use Rattle.held.specs.Numbers.{heldOf, stateStand};
@@ -20,11 +21,14 @@ ghost use Rattle.sha256.specs.Streams.{updated, finished, begun, runningOf, sta
 ghost use Rattle.capi.specs.Compares.{comparedOf};
 ghost use Rattle.capi.specs.Reaches.{reachNumbers};
 ghost use Rattle.capi.specs.Salvages.{salvageNumbers};
+ghost use Rattle.capi.specs.Views.{originOf, viewNumbers};
 use format::Handed;
 use format::LABEL_LIMIT;
 use format::Later;
+use format::Origin;
 use format::Reached;
 use format::Stepped;
+use format::Viewed;
 use held::Brief;
 use held::STAND_NUMBERS;
 use read::Salvaged;
@@ -60,6 +64,15 @@ pub struct ReachNumbers {
     pub greatest_x: i32,
     pub greatest_y: i32,
     pub greatest_z: i32,
+}
+
+// Legs for the viewer. Number 0 is success, with how many legs came; any other is the
+// refusal's number, with its place.
+#[repr(C)]
+pub struct ViewNumbers {
+    pub number: u64,
+    pub place: usize,
+    pub legs: usize,
 }
 
 // Reads a file into the lent sheet.
@@ -394,4 +407,39 @@ pub extern "C" fn cockledrift_reach(sheet: &[u8], name: &[u8]) -> ReachNumbers
 {
     let r = reach::reach(sheet, name);
     tell_reach(r)
+}
+
+fn tell_viewed(r: Viewed) -> ViewNumbers
+    ensures { λ n. ⌜ n ≡ viewNumbers (viewedOf r) ⌝ }
+{
+    match r {
+        Viewed::Legs { legs } => ViewNumbers {
+            number: 0,
+            place: 0,
+            legs,
+        },
+        Viewed::Refused { number, place } => ViewNumbers {
+            number: told::long(number),
+            place,
+            legs: 0,
+        },
+    }
+}
+
+// The legs of a sheet for the viewer, six numbers each, less the origin x y z.
+#[no_mangle]
+pub extern "C" fn cockledrift_viewer_legs(
+    sheet: &[u8],
+    x: i32,
+    y: i32,
+    z: i32,
+    out: &mut [f32],
+) -> ViewNumbers
+    ensures answer { λ r. ⌜ r ≡ viewNumbers (viewOf (now (sheet .entry)) (originOf x y z) (length (now (out .entry)))) ⌝ }
+    ensures numbers { λ _. ⌜ now (out .exit) ≡ viewBuffer (now (sheet .entry)) (originOf x y z) (now (out .entry)) ⌝ }
+    ensures exact { λ _. ⌜ ViewExact (now (sheet .entry)) (originOf x y z) (length (now (out .entry))) (now (out .exit)) ⌝ }
+{
+    let origin = Origin { x, y, z };
+    let r = viewer::viewer_legs(sheet, origin, out);
+    tell_viewed(r)
 }

@@ -32,6 +32,8 @@ pub mod TwoEdits
 pub mod V7Cases
 pub mod V7Laws
 pub mod Versions
+pub mod ViewerCases
+pub mod ViewerLaws
 pub mod WritingLaws
 pub mod WrittenItems
 pub mod WrittenBytes

@@ -146,11 +146,11 @@ module _ (k : ℕ) where
   entry-not h flawed n go f = h
   entry-not h (entry a r) n go f = f a (n + 1)
 
-  records-not : (12 ≡ k → ⊥) → (s : List ℕ) → IsNot k (recordsOf sheetVersion s .verdict)
+  pub records-not : (12 ≡ k → ⊥) → (version : ℕ) (s : List ℕ) → IsNot k (recordsOf version s .verdict)
   unfolding recordsOf recordsFrom recordsStep
-  records-not h s =
-      iter-ind (recordsStep sheetVersion) (λ p. stop Good) (λ u m x. IsNot k (x .verdict)) (λ p u m. tt)
-      (λ p u m go f. pick-case (λ (x : Result). IsNot k (x .verdict)) _ _ _ (λ e. tt) (λ e. entry-not h (entryOf sheetVersion u) m go (λ a j. f a j))) 0 s 0
+  records-not h version s =
+      iter-ind (recordsStep version) (λ p. stop Good) (λ u m x. IsNot k (x .verdict)) (λ p u m. tt)
+      (λ p u m go f. pick-case (λ (x : Result). IsNot k (x .verdict)) _ _ _ (λ e. tt) (λ e. entry-not h (entryOf version u) m go (λ a j. f a j))) 0 s 0
 
   unable-not : (w : Writer) → (w .number ≡ k → ⊥) → (n : ℕ) (st : State) (rs : List Record) → IsNot k (recordsVerdict w n st rs)
   unfolding recordsVerdict
@@ -191,7 +191,7 @@ unfolding toWrite
 never-14 {h = h} {rs} ours first count new room p e =
     written-not v8 (λ q. omega arith) h (toWrite rs first count new) room p
     (or-else-not 14 (runVerdict rs first count) (recordsOf sheetVersion new .verdict) (run-not 14 (λ q. omega arith) rs first count)
-    (records-not 14 (λ q. omega arith) new))
+    (records-not 14 (λ q. omega arith) sheetVersion new))
     (sym (ours-edit ours first count new room) ∙ e)
 
 pub written-never-14 : (sheet : List ℕ) → Bytes sheet → (old : List ℕ) (b n v : ℕ) → writeOutcome v8 sheet (length old) ≡ accepted b n v

@@ -28,17 +28,17 @@ dues [] = []
 dues (r ∷ rs) = r .due ∷ dues rs
 
 -- a leg between two places, and one along the origin
-abbrev between : Point → Point → List ℕ → Record
+abbrev pub between : Point → Point → List ℕ → Record
 between p q label = leg (record { flags = 0; style = 5; date = Undated; from = p; to = q }) label
 
 abbrev along-origin : List ℕ → Record
 along-origin = between origin origin
 
-abbrev point : ℕ → ℕ → ℕ → Point
+abbrev pub point : ℕ → ℕ → ℕ → Point
 point x y z = record { x = x; y = y; z = z }
 
 -- a sheet with the title `A` and the time line `@0`
-abbrev sheetIn : ℕ → List Record → List ℕ
+abbrev pub sheetIn : ℕ → List Record → List ℕ
 sheetIn version rs = sheetOf version (record { extended = 0; title = 65 ∷ []; time = 64 ∷ 48 ∷ [] }) rs
 
 abbrev reaching : List Record → List ℕ → ReachOutcome

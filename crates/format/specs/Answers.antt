@@ -7,6 +7,7 @@ use Rattle.format.specs.Refusals.{Outcome, accepted, refused}
 use Rattle.format.specs.Stepping.{StepOutcome, wrote, nothing, ends, refuses}
 use Rattle.format.specs.Times.{Comparison, first, second, equal, firstRefused, secondRefused}
 use Rattle.format.specs.Reach.{ReachOutcome, spans, unspanned}
+use Rattle.format.specs.Viewer.{ViewOutcome, viewed, unviewed}
 use Rattle.format.specs.declared.Answer.{Answer}
 use Rattle.format.specs.declared.Answer.the-variants.{Done, Refused}
 use Rattle.format.specs.declared.Opened.{Opened}
@@ -18,6 +19,8 @@ use Rattle.format.specs.declared.Later.the-variants.{First, Second, Same
 use Rattle.format.specs.declared.Corner.{Corner}
 use Rattle.format.specs.declared.Reached.{Reached}
 use Rattle.format.specs.declared.Reached.the-variants.{Box, Refused as Unreached}
+use Rattle.format.specs.declared.Viewed.{Viewed}
+use Rattle.format.specs.declared.Viewed.the-variants.{Legs, Refused as Unviewed}
 
 -- "answers bytes, records and file version"; a refusal has a number and a place
 abbrev pub answerOf : Answer → Outcome
@@ -59,3 +62,8 @@ rowOf c = c .x ∷ c .y ∷ c .z ∷ []
 abbrev pub reachedOf : Reached → ReachOutcome
 reachedOf (Box legs least greatest) = spans (rowOf least ∷ rowOf greatest ∷ []) legs
 reachedOf (Unreached number place) = unspanned number place
+
+-- #104: "the answer is their count"
+abbrev pub viewedOf : Viewed → ViewOutcome
+viewedOf (Legs legs) = viewed legs
+viewedOf (Unviewed number place) = unviewed number place

@@ -18,5 +18,6 @@ pub mod Outline
 pub mod Stepping
 pub mod Times
 pub mod Reach
+pub mod Viewer
 pub mod Answers
 pub mod Fields

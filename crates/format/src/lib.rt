@@ -254,3 +254,16 @@ pub enum Reached {
         place: usize,
     },
 }
+
+// What the viewer counts from: x, y and z in centimetres, as numbers.
+pub struct Origin {
+    pub x: i32,
+    pub y: i32,
+    pub z: i32,
+}
+
+// The answer of legs for the viewer: how many came, or a refusal.
+pub enum Viewed {
+    Legs { legs: usize },
+    Refused { number: u8, place: usize },
+}

@@ -68,7 +68,7 @@ leg-there version s n r e k = go (framed s) refl
     go false f = absurd (let q : flawed ≡ entry n r = unframed version s f ∙ e in let z : _≡_ {A = ℕ} 0 1 = cc in omega arith)
 
 -- no leg
-other-there : (version : ℕ) (s : List ℕ) → Bytes s → (n : ℕ) (r : Record) → entryOf version s ≡ entry n r → (getD s 2 0 ≡ 1 → ⊥)
+pub other-there : (version : ℕ) (s : List ℕ) → Bytes s → (n : ℕ) (r : Record) → entryOf version s ≡ entry n r → (getD s 2 0 ≡ 1 → ⊥)
     → (name : List ℕ) (rs : List Record) → legsOf name (r ∷ rs) ≡ legsOf name rs
 unfolding legsOf layout toBe16
 other-there version s b n (leg g l) e k name rs =
@@ -78,6 +78,13 @@ other-there version s b n (leg g l) e k name rs =
 other-there version s b n (station g l) e k name rs = refl
 other-there version s b n (section g l) e k name rs = refl
 other-there version s b n (error t) e k name rs = refl
+
+-- the records from a place of the sheet on: the one there, and those behind it
+pub turned : (v place : ℕ) (sheet : List ℕ) (at number : ℕ) {n : ℕ} {r : Record} → entryOf v (drop at sheet) ≡ entry n r
+    → recordsFrom v place (drop at sheet) number ≡ also r (recordsFrom v (place + n) (drop (at + n) sheet) (number + 1))
+turned v place sheet at number {n} e =
+    let z = entry-sized v (drop at sheet) e in
+    rw (← drop-drop n at sheet) (records-more v place (drop at sheet) number (omega (arith, z .least, z .inside)) ∙ rw e refl)
 
 -- ---- what is left
 
@@ -128,11 +135,6 @@ module _ {v : ℕ} {sheet name : List ℕ} {begin at number legs : ℕ} {b : Lis
     pub turn-size : (3 ≤ n) × (at + n ≤ length sheet)
     turn-size = let z = entry-sized v (drop at sheet) e in let l = length-drop at sheet in (z .least, omega (arith, z .inside, R .inside))
 
-    turned : recordsFrom v (R .place) (drop at sheet) number ≡ also r (recordsFrom v (R .place + n) (drop (at + n) sheet) (number + 1))
-    turned =
-        let z = entry-sized v (drop at sheet) e in
-        rw (← drop-drop n at sheet) (records-more v (R .place) (drop at sheet) number (omega (arith, z .least, z .inside)) ∙ rw e refl)
-
     -- a record that takes no part
     turn-out : ((rs : List Record) → legsOf name (r ∷ rs) ≡ legsOf name rs) → Reaching v sheet name begin (at + n) (number + 1) legs b
     turn-out q =
@@ -142,7 +144,10 @@ module _ {v : ℕ} {sheet name : List ℕ} {begin at number legs : ℕ} {b : Lis
           inside = turn-size .1;
           few = omega (arith, R .few, turn-size .0);
           fewer = omega (arith, R .fewer);
-          same = ap (reachLeft legs b (X .verdict)) (sym (q (X .records))) ∙ ap (resultLeft name legs b) (sym turned) ∙ R .same;
+          same =
+              ap (reachLeft legs b (X .verdict)) (sym (q (X .records)))
+              ∙ ap (resultLeft name legs b) (sym (turned v (R .place) sheet at number e))
+              ∙ R .same;
         }
 
     -- a leg that does
@@ -161,7 +166,7 @@ module _ {v : ℕ} {sheet name : List ℕ} {begin at number legs : ℕ} {b : Lis
               ap (λ (c : List (List ℤ)). reachLeft (legs + 1) c (X .verdict) (legsOf name (X .records))) f
               ∙ sym (left-in legs b (X .verdict) g (legsOf name (X .records)))
               ∙ ap (reachLeft legs b (X .verdict)) (sym q)
-              ∙ ap (resultLeft name legs b) (sym turned)
+              ∙ ap (resultLeft name legs b) (sym (turned v (R .place) sheet at number e))
               ∙ R .same;
         }
 

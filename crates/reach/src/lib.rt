@@ -17,7 +17,7 @@ ghost use Rattle.reach.specs.Reaching.{rowFrom, boundsFrom, sizeOf, ends
 // ---- the box
 
 // The i32 of a bit pattern.
-fn signed_of(n: u32) -> i32
+pub fn signed_of(n: u32) -> i32
     ensures { λ r. ⌜ r ≡ signed n ⌝ }
 {
     if n < 0x80000000 {

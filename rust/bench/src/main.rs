@@ -29,6 +29,49 @@ fn main() {
     older(repeats);
     edits(repeats);
     reaches(repeats);
+    views(repeats);
+}
+
+/// The legs of a sheet for the viewer, in room for just their numbers.
+fn views(repeats: usize) {
+    for (what, sheet) in [("legs", read_sheet(&legs(8))), ("records in turn", read_sheet(&mixed()))]
+    {
+        println!("viewer: sheet {} bytes of {what}", sheet.len());
+        let length = needed(view::second, &sheet);
+        let pair = Pair { proved: view::proved, other: view::second, against: "second" };
+        report("viewer legs", &sheet, length, pair, repeats);
+    }
+}
+
+mod view {
+    use super::{proved, Answer};
+    use ::second::Viewed;
+
+    const ORIGIN: [i32; 3] = [100, -200, 300];
+
+    pub fn proved(sheet: &[u8], lent: &mut [u8]) -> Answer {
+        answered(proved::viewer_legs(sheet, ORIGIN, numbers(lent)))
+    }
+
+    pub fn second(sheet: &[u8], lent: &mut [u8]) -> Answer {
+        answered(::second::viewer_legs(sheet, ORIGIN, numbers(lent)))
+    }
+
+    /// What is lent, as numbers.
+    fn numbers(lent: &mut [u8]) -> &mut [f32] {
+        // SAFETY: any four bytes are a number.
+        let (before, numbers, behind) = unsafe { lent.align_to_mut() };
+        assert!(before.is_empty() && behind.is_empty(), "bytes of whole numbers");
+        numbers
+    }
+
+    /// The bytes of the numbers, or that are needed.
+    fn answered(viewed: Viewed) -> Answer {
+        match viewed {
+            Viewed::Done { legs } => Answer::Done { bytes: 24 * legs, records: legs, version: 0 },
+            Viewed::Refused { number, place } => Answer::Refused { number, place: 4 * place },
+        }
+    }
 }
 
 /// How far the legs of a sheet reach: of all of them, of a survey that all are in, and of one that

@@ -17,9 +17,11 @@ pub fn told(file: &[u8], refusal: &Refusal) -> String {
 /// What the place counts.
 pub fn unit(refusal: &Refusal) -> &'static str {
     match refusal.number {
-        number::BAD_SHEET | number::STYLE_UNSAID | number::PAST_LAST_RECORD | number::NOT_IN_V7 => {
-            "record"
-        }
+        number::BAD_SHEET
+        | number::STYLE_UNSAID
+        | number::PAST_LAST_RECORD
+        | number::TOO_FAR
+        | number::NOT_IN_V7 => "record",
         _ => "byte",
     }
 }

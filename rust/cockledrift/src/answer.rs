@@ -34,7 +34,7 @@ pub struct Refusal {
     /// What is wrong: one of [`number`], and `docs/FORMAT.md` has the table.
     pub number: u8,
     /// Where it applies. For most numbers that is a place in the file; 11 has
-    /// the length needed, 12 and 13 a record's number and 15 the record count.
+    /// the length needed, 12, 13 and 20 a record's number and 15 the record count.
     pub place: usize,
 }
 

@@ -53,6 +53,16 @@ fn reaches() {
 }
 
 #[test]
+fn views() {
+    let fields = [
+        offset_of!(ViewNumbers, number),
+        offset_of!(ViewNumbers, place),
+        offset_of!(ViewNumbers, legs),
+    ];
+    assert_eq!((fields, size_of::<ViewNumbers>()), ([0, 8, 16], 24));
+}
+
+#[test]
 fn openings() {
     let fields = [
         offset_of!(OpenNumbers, number),

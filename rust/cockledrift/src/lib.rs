@@ -5,9 +5,9 @@
 //! one what can be saved; a sheet is written as a v8 file, or as a v7 file for older
 //! programs; a v8 file that was written here can be edited without its sheet; two
 //! files are compared by their time lines; a [`Reader`] goes through a file item by
-//! item; [`reach`] says how far a survey of a sheet reaches, and [`sha256`] tells a
-//! file's digest. What the bytes of files and sheets mean, and what each refusal
-//! says, is in `docs/FORMAT.md`.
+//! item; [`reach`] says how far a survey of a sheet reaches, [`viewer_legs`] gives its
+//! legs as numbers for a viewer, and [`sha256`] tells a file's digest. What the bytes
+//! of files and sheets mean, and what each refusal says, is in `docs/FORMAT.md`.
 //!
 //! [`Sheet`] and [`Record`] have these as values:
 //!
@@ -68,6 +68,7 @@ mod salvage;
 mod sha256;
 mod sheet;
 mod step;
+mod viewer;
 mod write;
 
 pub use answer::{number, Answer, Done, Refusal};
@@ -81,4 +82,5 @@ pub use salvage::{salvage, salvage_vec, Saved};
 pub use sha256::{sha256, Sha256};
 pub use sheet::{Header, Sheet};
 pub use step::{Found, Opened, Reader, Step, RECORD_LIMIT};
+pub use viewer::{viewer_legs, viewer_legs_vec, NUMBERS_EACH};
 pub use write::{write, write_v7, write_v7_vec, write_vec};

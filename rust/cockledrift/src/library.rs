@@ -53,6 +53,14 @@ pub struct ReachNumbers {
     pub greatest: [i32; 3],
 }
 
+/// Legs for the viewer: number 0 and how many came; or the refusal's number and place.
+#[repr(C)]
+pub struct ViewNumbers {
+    pub number: u64,
+    pub place: usize,
+    pub legs: usize,
+}
+
 /// How many numbers say where a step reader stands.
 pub const STAND_NUMBERS: usize = 14;
 
@@ -112,6 +120,15 @@ extern "C" {
     ) -> AnswerNumbers;
     fn cockledrift_compare(a: *const u8, n: usize, b: *const u8, m: usize) -> ComparedNumbers;
     fn cockledrift_reach(sheet: *const u8, n: usize, name: *const u8, m: usize) -> ReachNumbers;
+    fn cockledrift_viewer_legs(
+        sheet: *const u8,
+        n: usize,
+        x: i32,
+        y: i32,
+        z: i32,
+        out: *mut f32,
+        m: usize,
+    ) -> ViewNumbers;
     fn cockledrift_open(file: *const u8, n: usize, stand: *mut Stand) -> OpenNumbers;
     fn cockledrift_step(
         file: *const u8,
@@ -201,6 +218,12 @@ pub fn compare(first: &[u8], second: &[u8]) -> ComparedNumbers {
 pub fn reach(sheet: &[u8], name: &[u8]) -> ReachNumbers {
     // SAFETY: each pointer goes with the length of its own slice, which outlives the call.
     unsafe { cockledrift_reach(sheet.as_ptr(), sheet.len(), name.as_ptr(), name.len()) }
+}
+
+pub fn viewer_legs(sheet: &[u8], [x, y, z]: [i32; 3], out: &mut [f32]) -> ViewNumbers {
+    let (s, n) = (sheet.as_ptr(), sheet.len());
+    // SAFETY: each pointer goes with the length of its own slice, which outlives the call.
+    unsafe { cockledrift_viewer_legs(s, n, x, y, z, out.as_mut_ptr(), out.len()) }
 }
 
 pub fn open(file: &[u8], stand: &mut Stand) -> OpenNumbers {

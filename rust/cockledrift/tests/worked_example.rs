@@ -69,7 +69,7 @@ fn comparing() {
 #[test]
 fn reasons() {
     let none = refused(255, 0).reason();
-    let numbers = (1..=17).chain([21, 23]);
+    let numbers = (1..=17).chain([20, 21, 23]);
     let mut reasons: Vec<_> = numbers.map(|number| refused(number, 0).reason()).collect();
     assert!(!reasons.contains(&none));
     let count = reasons.len();

@@ -9,7 +9,7 @@ pub use lent::{disagree, hex, same, Call, Difference, Fills};
 pub use run::{edits_wanted, files_wanted, seed, sheets_wanted, Tally};
 
 use generate::Edit;
-use second::{Answer, Later, Reach, Salvaged};
+use second::{Answer, Later, Reach, Salvaged, Viewed};
 use std::cell::RefCell;
 
 /// Reading, at several buffer lengths. Answers what an ample buffer gives.
@@ -180,4 +180,67 @@ pub fn reach_by(proved: Reach, second: Reach) -> Result<Reach, String> {
         return Ok(second);
     }
     Err(format!("proved {proved:?}\nsecond {second:?}"))
+}
+
+/// Legs for the viewer, at several buffer lengths. Answers what an ample buffer gives, and the
+/// bits of its numbers.
+pub fn viewer_legs(sheet: &[u8], origin: [i32; 3]) -> Result<(Viewed, Vec<u32>), String> {
+    viewer_legs_by(sheet, origin, &proved::viewer_legs, &second::viewer_legs)
+}
+
+pub type Viewer<'v> = dyn Fn(&[u8], [i32; 3], &mut [f32]) -> Viewed + 'v;
+
+pub fn viewer_legs_by(
+    sheet: &[u8],
+    origin: [i32; 3],
+    proved: &Viewer,
+    second: &Viewer,
+) -> Result<(Viewed, Vec<u32>), String> {
+    let needed = match second(sheet, origin, &mut []) {
+        Viewed::Refused { number: 11, place } => place,
+        _ => 0,
+    };
+    let mut ample = Err("nothing was asked".to_string());
+    for room in [0, needed.saturating_sub(1), needed, needed + 5] {
+        let [(one, bits), (other, due)] =
+            [proved, second].map(|viewer| viewed(sheet, origin, room, viewer));
+        if one != other || bits != due {
+            let place = bits.iter().zip(&due).position(|(bits, due)| bits != due);
+            return Err(format!(
+                "room {room}, origin {origin:?}, number {place:?}\nproved {one:?}\nsecond {other:?}"
+            ));
+        }
+        untouched(one, &bits, room)?;
+        ample = Ok((one, bits[AROUND..AROUND + needed.min(room)].to_vec()));
+    }
+    ample
+}
+
+/// Numbers before and behind the lent ones, which nobody may touch.
+const AROUND: usize = 4;
+
+/// What is lent, by its bits: they depend on their place, and no difference has them.
+fn lent(room: usize) -> Vec<u32> {
+    (0..room + 2 * AROUND).map(|place| 0x3380_0000 + place as u32 * 151).collect()
+}
+
+/// The answer and all bits, those around the lent numbers too.
+fn viewed(sheet: &[u8], origin: [i32; 3], room: usize, viewer: &Viewer) -> (Viewed, Vec<u32>) {
+    let mut numbers: Vec<f32> = lent(room).into_iter().map(f32::from_bits).collect();
+    let answer = viewer(sheet, origin, &mut numbers[AROUND..AROUND + room]);
+    (answer, numbers.into_iter().map(f32::to_bits).collect())
+}
+
+/// Whatever the second implementation does: only the numbers of the legs may be written.
+fn untouched(answer: Viewed, bits: &[u32], room: usize) -> Result<(), String> {
+    let written = match answer {
+        Viewed::Done { legs } => 6 * legs,
+        Viewed::Refused { .. } => 0,
+    };
+    let clean = lent(room);
+    let behind = AROUND + written;
+    if bits[..AROUND] != clean[..AROUND] || bits[behind..] != clean[behind..] {
+        return Err(format!("{answer:?} with a number touched, room {room}"));
+    }
+    Ok(())
 }

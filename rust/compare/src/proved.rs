@@ -1,7 +1,7 @@
 //! The proved library with the second implementation's types: the one place
 //! where the two sets of types meet.
 
-use second::{Answer, Later, Opened, Reach, Salvaged, Step};
+use second::{Answer, Later, Opened, Reach, Salvaged, Step, Viewed};
 
 /// An answer of the proved library.
 fn answer(answer: cockledrift::Answer) -> Answer {
@@ -70,6 +70,13 @@ pub fn reach(sheet: &[u8], name: &[u8]) -> Reach {
             Reach::Reached { least, greatest, legs }
         }
         Err(cockledrift::Refusal { number, place }) => Reach::Refused { number, place },
+    }
+}
+
+pub fn viewer_legs(sheet: &[u8], origin: [i32; 3], out: &mut [f32]) -> Viewed {
+    match cockledrift::viewer_legs(sheet, origin, out) {
+        Ok(legs) => Viewed::Done { legs },
+        Err(cockledrift::Refusal { number, place }) => Viewed::Refused { number, place },
     }
 }
 

@@ -7,6 +7,7 @@ pub mod edges;
 pub mod edits;
 pub mod files;
 pub mod heads;
+pub mod origins;
 pub mod record;
 pub mod rng;
 pub mod sheet_edges;

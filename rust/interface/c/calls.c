@@ -190,6 +190,20 @@ static void say_reached(char *line, struct cockledrift_reached c)
     snprintf(line + said, LINE - said, " %d %d %d", c.greatest_x, c.greatest_y, c.greatest_z);
 }
 
+/* The legs of a sheet, less the origin that three numbers of four bytes say. */
+static void say_viewed(char *line, const uint8_t *sheet, size_t bytes, const uint8_t *at, size_t at_bytes)
+{
+    int32_t origin[3];
+    if (at_bytes != sizeof origin)
+        stop("no origin");
+    memcpy(origin, at, sizeof origin);
+    float *to = (float *)(void *)out.start;
+    struct cockledrift_viewed v =
+        cockledrift_viewer_legs(sheet, bytes, origin[0], origin[1], origin[2], to, out.bytes / sizeof *to);
+    snprintf(line, LINE, "%" PRIu64 " %zu %zu %016" PRIx64, v.number, v.place, v.legs,
+             hash(START, out.start, out.bytes));
+}
+
 /* Makes the call with `a` and `b` to read, and `out` and `second` to fill. */
 static void call(char *line, const struct request *r, const uint8_t *a, const uint8_t *b)
 {
@@ -204,6 +218,7 @@ static void call(char *line, const struct request *r, const uint8_t *a, const ui
     case 'e': say_answer(line, cockledrift_edit(a, n, r->first, r->count, b, m, to, room)); break;
     case 'l': say_compared(line, cockledrift_compare(a, n, b, m)); break;
     case 'x': say_reached(line, cockledrift_reach(a, n, b, m)); break;
+    case 'g': say_viewed(line, a, n, b, m); break;
     case 's': say_steps(line, cockledrift_step, a, n); break;
     case 'n': say_steps(line, cockledrift_next, a, n); break;
     case 'a': say_anywhere(line, a, n, b, m); break;

@@ -54,6 +54,7 @@ CALLS = {
     "e": lambda a, b, first, count: cockledrift.edit(a, first, count, b).hex(),
     "l": lambda a, b, first, count: compared(a, b),
     "x": lambda a, b, first, count: reached(a, b),
+    "g": lambda a, b, first, count: bytes(cockledrift.viewer_legs(a, struct.unpack("<3i", b))).hex(),
     "s": lambda a, b, first, count: steps(a),
     "n": lambda a, b, first, count: records(cockledrift.Reader(a)),
     "p": lambda a, b, first, count: "\n".join(example.lines(a)).encode().hex(),

@@ -1,6 +1,6 @@
 //! Calls as `c/calls.c` takes them, and what the crate for Rust answers them.
 
-use crate::guard::{pattern, Guarded, Side};
+use crate::guard::{as_numbers, pattern, Guarded, Side};
 use crate::list::list;
 use cockledrift::{Answer, Done, Later, Reader, Refusal, RefusedFile, Step, Which};
 
@@ -66,6 +66,7 @@ impl Memory {
             b'e' => answered(cockledrift::edit(a, *first, *count, b, out), out, second),
             b'l' => compared(a, b),
             b'x' => reached(a, b),
+            b'g' => viewed(a, b, out),
             b's' => stepped(a, out, |reader, out| reader.step(out)),
             b'n' => {
                 stepped(a, out, |reader, out| Ok(reader.next(out)?.map_or(Step::End, Step::Record)))
@@ -145,6 +146,21 @@ fn reached(sheet: &[u8], name: &[u8]) -> String {
     };
     let told = format!("{number} {place} {legs}");
     bounds.iter().fold(told, |told, bound| format!("{told} {bound}"))
+}
+
+/// The legs of a sheet, less the origin that three numbers of four bytes say.
+fn viewed(sheet: &[u8], at: &[u8], out: &mut [u8]) -> String {
+    let (number, place, legs) = match cockledrift::viewer_legs(sheet, origin(at), as_numbers(out)) {
+        Ok(legs) => (0, 0, legs),
+        Err(Refusal { number, place }) => (number, place, 0),
+    };
+    format!("{number} {place} {legs} {:016x}", hash(START, out))
+}
+
+/// Three numbers of four bytes each.
+pub fn origin(bytes: &[u8]) -> [i32; 3] {
+    let number = |at: usize| i32::from_le_bytes([0, 1, 2, 3].map(|byte| bytes[4 * at + byte]));
+    [0, 1, 2].map(number)
 }
 
 type Stepper = fn(&mut Reader, &mut [u8]) -> Result<Step, Refusal>;

@@ -26,6 +26,15 @@ pub fn pattern(place: usize) -> u8 {
     (place * 151 + place / 256 + 77) as u8
 }
 
+/// The numbers of four bytes that are in a lent buffer: a buffer touches a page's start or end, so
+/// all of its bytes are, where they are a multiple of four.
+pub fn as_numbers(bytes: &mut [u8]) -> &mut [f32] {
+    // SAFETY: any four bytes are a number.
+    let (before, numbers, behind) = unsafe { bytes.align_to_mut::<f32>() };
+    assert!(before.is_empty() && behind.is_empty(), "bytes of whole numbers");
+    numbers
+}
+
 /// Which guard page a lent buffer touches.
 #[derive(Clone, Copy, PartialEq, Eq, Debug)]
 pub enum Side {

@@ -150,9 +150,19 @@ fn of_sheet(sheet: &[u8]) -> Vec<Request> {
         [&b""[..], b"a", b"abc"]
             .map(|name| Request { b: name.to_vec(), ..Request::new(b'x', sheet, 0) }),
     );
+    requests.extend([[0; 3], [-5, i32::MAX, i32::MIN]].iter().flat_map(|at| viewed(sheet, *at)));
     requests.extend(v8.map(|bytes| Request::new(b'w', sheet, bytes - 1)));
     requests.extend(v7.map(|bytes| Request::new(b'7', sheet, bytes - 1)));
     requests
+}
+
+/// Legs for the viewer: with room just enough, one number short, and more.
+fn viewed(sheet: &[u8], origin: [i32; 3]) -> Vec<Request> {
+    let needed = cockledrift::viewer_legs(sheet, origin, &mut []).err().and_then(|no| no.needed());
+    let rooms = needed.map_or(vec![7], |numbers| vec![numbers, numbers - 1, numbers + 3]);
+    let b: Vec<u8> = origin.iter().flat_map(|number| number.to_le_bytes()).collect();
+    let request = |room| Request { b: b.clone(), ..Request::new(b'g', sheet, 4 * room) };
+    rooms.into_iter().map(request).collect()
 }
 
 fn of_edit(file: &[u8], edit: edits::Edit) -> Vec<Request> {
@@ -205,6 +215,7 @@ fn damaged_files_are_answered_alike() {
     must_have_seen(&seen, 'n', &[0, 5, 10, 11]);
     must_have_seen(&seen, 'c', &[0, 5, 11]);
     must_have_seen(&seen, 'x', &[0, 12, 21]);
+    must_have_seen(&seen, 'g', &[0, 11, 12, 20]);
     must_have_seen(&seen, 'w', &[0, 11, 12, 13]);
     must_have_seen(&seen, '7', &[0, 11, 12, 23]);
     must_have_seen(&seen, 'e', &[0, 11, 12, 14, 15]);

@@ -3,6 +3,7 @@
 
 use cockledrift::{Found, Later, Reader, Record, Refusal, Sheet, Step, RECORD_LIMIT};
 use generate::{edits, files, sheets, Rng, SheetKind};
+use interface::calls::origin;
 use interface::tools::{folder, make, printed, root};
 use interface::wanted::seed;
 use std::fmt::Display;
@@ -55,6 +56,9 @@ impl Call {
                 let (legs, bounds) =
                     (reach.legs.to_string(), [reach.least, reach.greatest].concat());
                 bounds.iter().fold(legs, |told, bound| format!("{told} {bound}"))
+            })),
+            b'g' => said(cockledrift::viewer_legs_vec(a, origin(b)).map(|numbers| {
+                hex(&numbers.into_iter().flat_map(f32::to_le_bytes).collect::<Vec<_>>())
             })),
             b's' => said(steps(a, |reader, out| reader.step(out))),
             b'n' => {
@@ -158,6 +162,10 @@ fn sheets_and_edits_are_answered_alike() {
         calls.extend(
             [&b""[..], b"a"].map(|name| Call { b: name.to_vec(), ..Call::new(b'x', &sheet) }),
         );
+        calls.extend([[0; 3], [-700, 9, i32::MIN]].map(|origin: [i32; 3]| {
+            let b = origin.into_iter().flat_map(i32::to_le_bytes).collect();
+            Call { b, ..Call::new(b'g', &sheet) }
+        }));
         calls.extend(b"tw7".map(|letter| Call::new(letter, &sheet)));
         let Some(file) = cockledrift::write_vec(&sheet).ok().filter(|_| kind == SheetKind::Good)
         else {

@@ -1,10 +1,10 @@
 //! Survex 3d files, v3 to v8: reading to a sheet, salvaging, stepping, writing
 //! v8 and v7, editing v8 and comparing time lines; how far a sheet's surveys
-//! reach.
+//! reach, and its legs for the viewer.
 //!
 //! An independent second implementation of document 01 and of requests #101,
-//! #102, #106, #107, #110, #111 and #113 of document 02, written from these documents and
-//! the two published format pages. It allocates only in `edit`.
+//! #102, #104, #106, #107, #110, #111 and #113 of document 02, written from these
+//! documents and the two published format pages. It allocates only in `edit`.
 
 mod codes;
 mod edit;
@@ -20,6 +20,7 @@ mod state;
 mod step;
 mod v7;
 mod v8;
+mod viewer;
 mod write;
 
 pub use edit::edit;
@@ -28,6 +29,7 @@ pub use reach::{reach, Reach};
 pub use read::read;
 pub use salvage::{salvage, Salvaged};
 pub use step::{open, Opened, Step, Stepper};
+pub use viewer::{viewer_legs, Viewed};
 pub use write::{write, write_v7};
 
 use write::write_made;

@@ -1,0 +1,4 @@
+pub mod Differences
+pub mod Numbers
+pub mod Walk
+pub mod Whole
