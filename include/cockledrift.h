@@ -4,10 +4,10 @@
    written here can be edited; two files are compared by their time lines; a step reader goes through a file item by
    item. docs/API.md has a program for each, docs/FORMAT.md the bytes of files and sheets and the order of refusals.
 
-   Lent memory. Each pointer is followed by the number of bytes lent there, but for `stand` and `label`, whose lengths
-   stand in the declaration, and `numbers`, which a count of numbers follows. No pointer is null, not even where no bytes are lent. A buffer to fill overlaps nothing
-   else that is lent. What is lent as const is only read. The library allocates nothing, keeps no pointer, and touches
-   no byte that is not lent.
+   Lent memory. Each pointer is followed by the number of bytes lent there, that to `words` by the number of 64-bit
+   words, but for `stand` and `label`, whose lengths stand in the declaration, and `numbers`, which a count of numbers follows. No pointer is null, not even where no
+   bytes are lent. A buffer to fill overlaps nothing else that is lent. What is lent as const is only read. The library
+   allocates nothing, keeps no pointer, and touches no byte that is not lent.
 
    After a call. A refusal leaves every buffer as it was (cockledrift_convert has one exception, told there). Success
    writes from the front of a buffer and leaves the rest as it was. Where nothing but the room is wrong, the refusal is
@@ -186,6 +186,46 @@ struct cockledrift_viewed {
 struct cockledrift_viewed cockledrift_viewer_legs(const uint8_t *sheet, size_t sheet_bytes, int32_t x, int32_t y,
                                                   int32_t z, float *numbers, size_t numbers_room) COCKLEDRIFT_LENT;
 
+/* ---- Entrances at a glance. A summary is kept beside a sheet: a mark for each record, 64 to a word, lowest bit first
+   and spare bits 0, then as many words with a running total at each word's start. COCKLEDRIFT_SUMMARY_WORDS says how
+   many words so many records take. */
+
+#define COCKLEDRIFT_SUMMARY_WORDS(records) (((records) / 64 + ((records) % 64 != 0)) * 2)
+
+struct cockledrift_summed {
+    uint64_t number; /* COCKLEDRIFT_DONE, or the refusal's number */
+    size_t place;    /* refused: the refusal's place, of COCKLEDRIFT_BUFFER_TOO_SMALL the words needed; done: 0 */
+    size_t words;    /* done: the words that the summary takes; refused: 0 */
+};
+
+struct cockledrift_stretch {
+    uint64_t number; /* COCKLEDRIFT_DONE, or the refusal's number */
+    size_t place;    /* refused: the refusal's place; done: 0 */
+    uint64_t count;  /* done: the entrances of the stretch; refused: 0, as all below */
+    uint64_t found;  /* 1 where an entrance stands at or after `from`, even past `to`; else 0 */
+    size_t next;     /* the first such record; 0 where there is none */
+};
+
+/* Makes the summary of a sheet. Refused with COCKLEDRIFT_BAD_SHEET as for writing, then with
+   COCKLEDRIFT_BUFFER_TOO_SMALL. */
+struct cockledrift_summed cockledrift_summary(const uint8_t *sheet, size_t sheet_bytes, uint64_t *words,
+                                              size_t words_lent) COCKLEDRIFT_LENT;
+
+/* How many entrances (stations with flag 0x04) so many records hold from `from` up to but not including `to`, and which
+   is the next at or after `from`. Refused with COCKLEDRIFT_BUFFER_TOO_SMALL where the summary is too short for the
+   records, then with COCKLEDRIFT_PAST_LAST_RECORD, at the record count, where from is above to or either is above
+   the record count. Of words that are no summary of the sheet the next entrance is that of the marks they hold, and the
+   count is what their totals say. */
+struct cockledrift_stretch cockledrift_entrances(const uint64_t *words, size_t words_lent, uint32_t records,
+                                                 size_t from, size_t to) COCKLEDRIFT_LENT;
+
+/* Brings the summary up to date, in its place, after cockledrift_edit was accepted with this run and replacement;
+   `records` were in the old file. Refused with COCKLEDRIFT_PAST_LAST_RECORD and COCKLEDRIFT_BAD_SHEET as an edit is,
+   then with COCKLEDRIFT_BUFFER_TOO_SMALL where the longer of the old and the new summary does not fit. */
+struct cockledrift_summed cockledrift_summary_update(uint64_t *words, size_t words_lent, uint32_t records, size_t first,
+                                                     size_t count, const uint8_t *replacement,
+                                                     size_t replacement_bytes) COCKLEDRIFT_LENT;
+
 /* ---- Stepping through a file. A reader is the file, fourteen numbers and the buffer of a label, which the caller
    keeps from one step to the next. Any numbers and any bytes there are safe; to copy them is to copy the reader. */
 
@@ -321,6 +361,16 @@ COCKLEDRIFT_AT(cockledrift_viewed, number, 0, 8);
 COCKLEDRIFT_AT(cockledrift_viewed, place, 8, 8);
 COCKLEDRIFT_AT(cockledrift_viewed, legs, 16, 8);
 COCKLEDRIFT_LAYOUT(sizeof(float) == 4);
+COCKLEDRIFT_LAYOUT(sizeof(struct cockledrift_summed) == 24);
+COCKLEDRIFT_AT(cockledrift_summed, number, 0, 8);
+COCKLEDRIFT_AT(cockledrift_summed, place, 8, 8);
+COCKLEDRIFT_AT(cockledrift_summed, words, 16, 8);
+COCKLEDRIFT_LAYOUT(sizeof(struct cockledrift_stretch) == 40);
+COCKLEDRIFT_AT(cockledrift_stretch, number, 0, 8);
+COCKLEDRIFT_AT(cockledrift_stretch, place, 8, 8);
+COCKLEDRIFT_AT(cockledrift_stretch, count, 16, 8);
+COCKLEDRIFT_AT(cockledrift_stretch, found, 24, 8);
+COCKLEDRIFT_AT(cockledrift_stretch, next, 32, 8);
 COCKLEDRIFT_LAYOUT(sizeof(struct cockledrift_opened) == 24);
 COCKLEDRIFT_AT(cockledrift_opened, number, 0, 8);
 COCKLEDRIFT_AT(cockledrift_opened, place, 8, 8);

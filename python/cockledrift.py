@@ -5,6 +5,7 @@
     new = cockledrift.convert(file)             # any version -> the bytes of a v8 file
     new = cockledrift.edit(new, 0, 1, [record]) # a run of records replaced by others
     which, line = cockledrift.compare(a, b)     # 1 or 2, the later file, with its time line; or 0 and b""
+    count, first = cockledrift.Summary(sheet).entrances()   # its entrances, and the record of the next one or None
     for record, kept in cockledrift.Reader(file): ...   # an item at a time
     numbers = cockledrift.viewer_legs(sheet, origin)    # six floats a leg, less the origin
 
@@ -46,6 +47,8 @@ class _Reached(ctypes.Structure):
 
 
 _Viewed = _numbers("number", "place", "legs")
+_Summed = _numbers("number", "place", "words")
+_Stretch = _numbers("number", "place", "count", "found", "next")
 _Stand, _Label = _u64 * STAND_NUMBERS, ctypes.c_char * LABEL_LIMIT
 
 _library = ctypes.CDLL(os.environ.get("COCKLEDRIFT_LIBRARY", "libcockledrift.so.0"))
@@ -68,6 +71,10 @@ _compare = _declare("compare", _Compared, _bytes, _size, _bytes, _size)
 _reach = _declare("reach", _Reached, _bytes, _size, _bytes, _size)
 _i32, _floats = ctypes.c_int32, ctypes.POINTER(ctypes.c_float)
 _viewer_legs = _declare("viewer_legs", _Viewed, _bytes, _size, _i32, _i32, _i32, _floats, _size)
+_words, _u32 = ctypes.POINTER(_u64), ctypes.c_uint32
+_summary = _declare("summary", _Summed, _bytes, _size, _words, _size)
+_entrances = _declare("entrances", _Stretch, _words, _size, _u32, _size, _size)
+_summary_update = _declare("summary_update", _Summed, _words, _size, _u32, _size, _size, _bytes, _size)
 _open = _declare("open", _Opened, _bytes, _size, ctypes.POINTER(_Stand))
 _step = _declare("step", _Stepped, *_step_arguments)
 _next = _declare("next", _Stepped, *_step_arguments)
@@ -277,10 +284,14 @@ def convert(file: bytes) -> bytes:
     return _filled(lambda out, length: _convert(file, len(file), sheet, room, out, length))[0]
 
 
+def _records_bytes(records) -> bytes:
+    return records if isinstance(records, bytes) else b"".join(record.lay() for record in records)
+
+
 def edit(file: bytes, first: int, count: int, new=()) -> bytes:
     """A v8 file with `count` records, from record `first` on, replaced by `new`: records, or their bytes. The file has
     to be what `write` gives for its sheet: `convert` makes it so."""
-    laid = new if isinstance(new, bytes) else b"".join(record.lay() for record in new)
+    laid = _records_bytes(new)
     return _filled(lambda out, room: _edit(file, len(file), first, count, laid, len(laid), out, room))[0]
 
 
@@ -313,6 +324,50 @@ def viewer_legs(sheet: Union[Sheet, bytes], origin: Point = (0, 0, 0)) -> ctypes
     if answer.number:
         raise Refusal(answer.number, answer.place)
     return numbers if answer.legs else (ctypes.c_float * 0)()
+
+
+class Entrances(NamedTuple):
+    count: int  # the entrances of the stretch: stations with flag 0x04
+    next: Optional[int]  # the first one at or after its start, even past its end
+
+
+class Summary:
+    """A summary of a sheet's entrances: `words`, a mark for each record and then running totals, and `records`."""
+
+    def __init__(self, sheet: Union[Sheet, bytes]):
+        sheet = sheet if isinstance(sheet, Sheet) else Sheet(sheet)
+        self.records = sum(1 for _ in sheet.records())
+        self.words = [0] * (2 * ((self.records + 63) // 64))
+        self._fill(lambda words, room: _summary(sheet.bytes, len(sheet.bytes), words, room))
+
+    def entrances(self, start: int = 0, end: Optional[int] = None) -> Entrances:
+        """How many entrances the records hold from `start` up to but not including `end`, and which is the next."""
+        end = self.records if end is None else end
+        words = (_u64 * len(self.words))(*self.words)
+        answer = _entrances(words, len(words), self.records, start, end)
+        if answer.number:
+            raise Refusal(answer.number, answer.place)
+        return Entrances(answer.count, answer.next if answer.found else None)
+
+    def update(self, first: int, count: int, new=()) -> None:
+        """The summary after an accepted edit with this run and replacement."""
+        laid = _records_bytes(new)
+        self._fill(lambda words, room: _summary_update(words, room, self.records, first, count, laid, len(laid)))
+        place, added = 0, 0
+        while place < len(laid):
+            place, added = place + 2 + int.from_bytes(laid[place : place + 2], "big"), added + 1
+        self.records += added - count
+
+    def _fill(self, call) -> None:
+        """Has a call change the words, with as many behind them as it needs; a refusal changes nothing."""
+        words = (_u64 * len(self.words))(*self.words)
+        answer = call(words, len(words))
+        if answer.number == BUFFER_TOO_SMALL:
+            words = (_u64 * answer.place)(*self.words)
+            answer = call(words, len(words))
+        if answer.number:
+            raise Refusal(answer.number, answer.place)
+        self.words = list(words[: answer.words])
 
 
 def compare(first: bytes, second: bytes) -> Tuple[int, bytes]:

@@ -2,3 +2,4 @@ pub mod Compares
 pub mod Salvages
 pub mod Reaches
 pub mod Views
+pub mod Summaries

@@ -10,7 +10,8 @@ ghost use Rattle.format.specs.Editing.{editOutcome, editBuffer};
 ghost use Rattle.format.specs.Stepping.{openStand, stepOf, stepBuffer};
 ghost use Rattle.format.specs.Reach.{reachOf};
 ghost use Rattle.format.specs.Viewer.{viewOf, viewBuffer, ViewExact};
-ghost use Rattle.format.specs.Answers.{laterOf, openOutcome, reachedOf, viewedOf};
+ghost use Rattle.format.specs.Summary.{summaryOutcome, summaryWords, holds, entrancesOutcome, updateOutcome, updateWords};
+ghost use Rattle.format.specs.Answers.{laterOf, openOutcome, reachedOf, viewedOf, entrancesOf, summedOf};
 ghost use Rattle.step.specs.Standing.{Opens};
 ghost use Rattle.step.specs.Going.{nextRecord, nextBuffer};
 ghost use Rattle.held.specs.Numbers.{heldOf, stateStand};
@@ -22,13 +23,17 @@ ghost use Rattle.capi.specs.Compares.{comparedOf};
 ghost use Rattle.capi.specs.Reaches.{reachNumbers};
 ghost use Rattle.capi.specs.Salvages.{salvageNumbers};
 ghost use Rattle.capi.specs.Views.{originOf, viewNumbers};
+ghost use Rattle.capi.specs.Summaries.{summaryNumbers, entranceNumbers};
+use format::Entrances;
 use format::Handed;
 use format::LABEL_LIMIT;
 use format::Later;
 use format::Origin;
+use format::NextEntrance;
 use format::Reached;
 use format::Stepped;
 use format::Viewed;
+use format::Summed;
 use held::Brief;
 use held::STAND_NUMBERS;
 use read::Salvaged;
@@ -442,4 +447,120 @@ pub extern "C" fn cockledrift_viewer_legs(
     let origin = Origin { x, y, z };
     let r = viewer::viewer_legs(sheet, origin, out);
     tell_viewed(r)
+}
+
+// What a summary takes. Number 0 is success, with the words; any other is the refusal's
+// number, with its place.
+#[repr(C)]
+pub struct SummaryNumbers {
+    pub number: u64,
+    pub place: usize,
+    pub words: usize,
+}
+
+// How many entrances a stretch of records holds. Number 0 is success, with the count, and
+// found 1 with the next entrance's record, or 0 where there is none; any other is the
+// refusal's number, with its place.
+#[repr(C)]
+pub struct EntranceNumbers {
+    pub number: u64,
+    pub place: usize,
+    pub count: u64,
+    pub found: u64,
+    pub next: usize,
+}
+
+fn tell_summed(s: Summed) -> SummaryNumbers
+    ensures { λ r. ⌜ r ≡ summaryNumbers (summedOf s) ⌝ }
+{
+    match s {
+        Summed::Takes { words } => SummaryNumbers {
+            number: 0,
+            place: 0,
+            words,
+        },
+        Summed::Refused { number, place } => SummaryNumbers {
+            number: told::long(number),
+            place,
+            words: 0,
+        },
+    }
+}
+
+fn tell_next(count: u64, next: NextEntrance) -> EntranceNumbers
+    ensures { λ r. ⌜ r ≡ entranceNumbers (holds count next) ⌝ }
+{
+    match next {
+        NextEntrance::At { record } => EntranceNumbers {
+            number: 0,
+            place: 0,
+            count,
+            found: 1,
+            next: record,
+        },
+        NextEntrance::Nowhere => EntranceNumbers {
+            number: 0,
+            place: 0,
+            count,
+            found: 0,
+            next: 0,
+        },
+    }
+}
+
+fn tell_entrances(e: Entrances) -> EntranceNumbers
+    ensures { λ r. ⌜ r ≡ entranceNumbers (entrancesOf e) ⌝ }
+{
+    match e {
+        Entrances::Hold { count, next } => tell_next(count, next),
+        Entrances::Refused { number, place } => EntranceNumbers {
+            number: told::long(number),
+            place,
+            count: 0,
+            found: 0,
+            next: 0,
+        },
+    }
+}
+
+// Makes the summary of a sheet's entrances in the lent words.
+#[no_mangle]
+pub extern "C" fn cockledrift_summary(sheet: &[u8], words: &mut [u64]) -> SummaryNumbers
+    ensures answer { λ r. ⌜ r ≡ summaryNumbers (summaryOutcome (now (sheet .entry)) (length (now (words .entry)))) ⌝ }
+    ensures words { λ _. ⌜ now (words .exit) ≡ summaryWords (now (sheet .entry)) (now (words .entry)) ⌝ }
+{
+    let s = summary::summarize(sheet, words);
+    tell_summed(s)
+}
+
+// How many entrances a summary of so many records holds from one record up to but not
+// including another, and where the next one is.
+#[no_mangle]
+pub extern "C" fn cockledrift_entrances(
+    words: &[u64],
+    records: u32,
+    from: usize,
+    to: usize,
+) -> EntranceNumbers
+    ensures { λ r. ⌜ r ≡ entranceNumbers (entrancesOutcome (now (words .entry)) records from to) ⌝ }
+{
+    let e = summary::entrances(words, records, from, to);
+    tell_entrances(e)
+}
+
+// Brings a summary up to date after an edit of so many records: the run of `count` from
+// `first` on is now the records of `new`.
+#[no_mangle]
+pub extern "C" fn cockledrift_summary_update(
+    words: &mut [u64],
+    records: u32,
+    first: usize,
+    count: usize,
+    new: &[u8],
+) -> SummaryNumbers
+    ensures answer { λ r. ⌜ r ≡ summaryNumbers (updateOutcome records first count (now (new .entry)) (length (now (words .entry)))) ⌝ }
+    ensures words { λ _. ⌜ now (words .exit) ≡ updateWords records first count (now (new .entry)) (now (words .entry)) ⌝ }
+{
+    let s = summary::update(words, records, first, count, new);
+    tell_summed(s)
 }

@@ -29,6 +29,9 @@ pub mod ShortestRun
 pub mod Squeezing
 pub mod SteppingLaws
 pub mod TwoEdits
+pub mod SummaryWords
+pub mod SummaryLaws
+pub mod SummaryCases
 pub mod V7Cases
 pub mod V7Laws
 pub mod Versions

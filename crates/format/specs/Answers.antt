@@ -8,6 +8,7 @@ use Rattle.format.specs.Stepping.{StepOutcome, wrote, nothing, ends, ref
 use Rattle.format.specs.Times.{Comparison, first, second, equal, firstRefused, secondRefused}
 use Rattle.format.specs.Reach.{ReachOutcome, spans, unspanned}
 use Rattle.format.specs.Viewer.{ViewOutcome, viewed, unviewed}
+use Rattle.format.specs.Summary.{SummaryOutcome, takes, untaken, EntrancesOutcome, holds, unheld}
 use Rattle.format.specs.declared.Answer.{Answer}
 use Rattle.format.specs.declared.Answer.the-variants.{Done, Refused}
 use Rattle.format.specs.declared.Opened.{Opened}
@@ -21,6 +22,10 @@ use Rattle.format.specs.declared.Reached.{Reached}
 use Rattle.format.specs.declared.Reached.the-variants.{Box, Refused as Unreached}
 use Rattle.format.specs.declared.Viewed.{Viewed}
 use Rattle.format.specs.declared.Viewed.the-variants.{Legs, Refused as Unviewed}
+use Rattle.format.specs.declared.Entrances.{Entrances}
+use Rattle.format.specs.declared.Entrances.the-variants.{Hold, Refused as Unheld}
+use Rattle.format.specs.declared.Summed.{Summed}
+use Rattle.format.specs.declared.Summed.the-variants.{Takes, Refused as Untaken}
 
 -- "answers bytes, records and file version"; a refusal has a number and a place
 abbrev pub answerOf : Answer → Outcome
@@ -67,3 +72,13 @@ reachedOf (Unreached number place) = unspanned number place
 abbrev pub viewedOf : Viewed → ViewOutcome
 viewedOf (Legs legs) = viewed legs
 viewedOf (Unviewed number place) = unviewed number place
+
+-- #109: "how many entrances .. a stretch of records holds and where the next one is"
+abbrev pub entrancesOf : Entrances → EntrancesOutcome
+entrancesOf (Hold count next) = holds count next
+entrancesOf (Unheld number place) = unheld number place
+
+-- "Making it and bringing it up to date both answer the words it then takes"
+abbrev pub summedOf : Summed → SummaryOutcome
+summedOf (Takes words) = takes words
+summedOf (Untaken number place) = untaken number place

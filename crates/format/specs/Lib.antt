@@ -19,5 +19,6 @@ pub mod Stepping
 pub mod Times
 pub mod Reach
 pub mod Viewer
+pub mod Summary
 pub mod Answers
 pub mod Fields

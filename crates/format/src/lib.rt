@@ -267,3 +267,23 @@ pub enum Viewed {
     Legs { legs: usize },
     Refused { number: u8, place: usize },
 }
+
+// The next entrance: the least marked record at or after another, or none.
+pub enum NextEntrance {
+    At { record: usize },
+    Nowhere,
+}
+
+// The answer of a question over a stretch of records: how many entrances it holds and
+// where the next one is; or a refusal.
+pub enum Entrances {
+    Hold { count: u64, next: NextEntrance },
+    Refused { number: u8, place: usize },
+}
+
+// The answer of making a summary and of bringing it up to date: the words that it takes;
+// or a refusal.
+pub enum Summed {
+    Takes { words: usize },
+    Refused { number: u8, place: usize },
+}

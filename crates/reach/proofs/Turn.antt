@@ -26,7 +26,7 @@ use Rattle.reach.specs.Reaching.{rowFrom, boundsFrom, sizeOf, endsAt, ta
 
 -- ---- the record at the front of s, by its size
 
-none-there : (version : ℕ) (s : List ℕ) (n : ℕ) → n ≡ sizeOf (entryOf version s) → n ≡ 0 → entryOf version s ≡ flawed
+pub none-there : (version : ℕ) (s : List ℕ) (n : ℕ) → n ≡ sizeOf (entryOf version s) → n ≡ 0 → entryOf version s ≡ flawed
 none-there version s n e z = go (entryOf version s) refl (sym e ∙ z)
   where
     go : (x : Entry) → entryOf version s ≡ x → sizeOf x ≡ 0 → x ≡ flawed

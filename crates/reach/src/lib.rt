@@ -188,7 +188,7 @@ fn leg_size(s: &[u8], n: usize) -> usize
 }
 
 // The size of the record at the front of s, whatever it is; 0 where none is well-formed.
-fn other_size(s: &[u8], version: u8) -> usize
+pub fn other_size(s: &[u8], version: u8) -> usize
     ensures { λ r. ⌜ r ≡ sizeOf (entryOf version (now (s .entry))) ⌝ }
 {
     let entry = sheet::read_entry(s, version);

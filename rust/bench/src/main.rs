@@ -11,6 +11,8 @@ use second::{Answer, Reach};
 use std::hint::black_box;
 use std::time::{Duration, Instant};
 
+mod summaries;
+
 const TEN_MIB: usize = 10 * 1024 * 1024;
 const REPEATS: usize = 21;
 
@@ -72,6 +74,7 @@ mod view {
             Viewed::Refused { number, place } => Answer::Refused { number, place: 4 * place },
         }
     }
+    summaries::report(repeats);
 }
 
 /// How far the legs of a sheet reach: of all of them, of a survey that all are in, and of one that

@@ -3,7 +3,7 @@ _cockledrift()
 {
     local word=${COMP_WORDS[COMP_CWORD]} words=
     if [ "$COMP_CWORD" -eq 1 ]; then
-        words='info list check later convert salvage measure catalogue verify restore diff edit help --help --version'
+        words='info list check later convert salvage measure entrances catalogue verify restore diff edit help --help --version'
     elif [[ $word == -* ]]; then
         case ${COMP_WORDS[1]} in
             info) words='--json --quiet --color --help' ;;
@@ -13,6 +13,7 @@ _cockledrift()
             convert) words='--to --output --force --json --quiet --color --help' ;;
             salvage) words='--output --force --json --quiet --color --help' ;;
             measure) words='--survey --json --quiet --color --help' ;;
+            entrances) words='--from --to --json --quiet --color --help' ;;
             catalogue) words='--sums --output --force --json --quiet --color --help' ;;
             verify) words='--folder --json --quiet --color --help' ;;
             restore) words='--even-if-older --even-if-unknown --dry-run --json --quiet --color --help' ;;

@@ -3,7 +3,8 @@
 
 use crate::args::Given;
 use crate::commands::{
-    catalogue, check, convert, diff, edit, info, later, list, measure, restore, salvage, verify,
+    catalogue, check, convert, diff, edit, entrances, info, later, list, measure, restore, salvage,
+    verify,
 };
 use crate::desk::{Desk, Outcome};
 
@@ -151,6 +152,20 @@ pub const COMMANDS: &[Command] = &[
         example: "cockledrift measure cave.3d --survey cave.upper",
         flags: &[valued("--survey", "NAME", "the legs of this survey and of those in it; else all")],
         run: measure::run,
+    },
+    Command {
+        name: "entrances",
+        operands: "FILE",
+        count: (1, 1),
+        words: "says how many entrances a stretch of records holds and where the next one is",
+        more: "Each entrance of the stretch with its record's number, name and place, and the next one at or\n\
+               after --from, even past --to. Record numbers are those of list.",
+        example: "cockledrift entrances cave.3d --from 100 --to 200",
+        flags: &[
+            valued("--from", "A", "the first record of the stretch; 0 where it is not given"),
+            valued("--to", "B", "the record behind the stretch; else the count of all"),
+        ],
+        run: entrances::run,
     },
     Command {
         name: "catalogue",

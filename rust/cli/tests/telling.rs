@@ -1,4 +1,4 @@
-//! `info`, `list`, `check` and `later`.
+//! `info`, `list`, `check`, `later` and `entrances`.
 
 mod common;
 use common::{
@@ -166,4 +166,41 @@ fn later() {
         &data_bytes("loops.v6.3d"),
     );
     assert_eq!(ran.code, 0, "{}", ran.err);
+}
+
+#[test]
+fn entrances() {
+    let folder = desk("entrances");
+    let ran = run_in(&folder, &["entrances", "good.3d"]);
+    let station = "21 station river.in: (0.00 0.00 0.00) m, underground, entrance, fixed";
+    let due = format!(
+        "1 entrance from record 0 up to 34, of 34 records\n{station}\n\
+         the next at or after 0: {station}\n"
+    );
+    assert_eq!((ran.code, &ran.out[..], &ran.err[..]), (0, &due[..], ""));
+    // Of all records the same ones as the list says.
+    let listed = run_in(&folder, &["list", "good.3d"]).out;
+    let said: Vec<_> = listed.lines().filter(|line| line.contains(", entrance")).collect();
+    assert_eq!(said, [station]);
+    // The next one even past the stretch, and none.
+    let ran = run_in(&folder, &["entrances", "good.3d", "--from", "3", "--to", "9"]);
+    let due = format!(
+        "0 entrances from record 3 up to 9, of 34 records\nthe next at or after 3: {station}\n"
+    );
+    assert_eq!((ran.code, &ran.out[..], &ran.err[..]), (0, &due[..], ""));
+    let ran = run_in(&folder, &["entrances", "good.3d", "--from=22"]);
+    has(&ran.out, "0 entrances from record 22 up to 34, of 34 records\n");
+    has(&ran.out, "the next at or after 22: none\n");
+    let ran = run_in(&folder, &["entrances", "--json", "good.3d", "--to", "5"]);
+    let due = "{\"schema\": 1, \"file\": \"good.3d\", \"records\": 34, \"from\": 0, \"to\": 5, \
+        \"count\": 0, \"next\": 21}\n\
+        {\"schema\": 1, \"record\": 21, \"label\": \"river.in\", \"at\": [0, 0, 0]}\n";
+    assert_eq!((ran.code, &ran.out[..], &ran.err[..]), (0, due, ""));
+    for words in [["--from", "9", "--to", "3"], ["--from", "35", "--to", "35"]] {
+        let ran = run_in(&folder, &[&["entrances", "good.3d"], &words[..]].concat());
+        let due = "good.3d: refused 15 at record 34: the run ends past the last record\n";
+        assert_eq!((ran.code, &ran.out[..], &ran.err[..]), (1, "", due));
+    }
+    assert_eq!(run_in(&folder, &["entrances", "good.3d", "--from", "x"]).code, 2);
+    bad_inputs(&folder, &["entrances"], &[]);
 }

@@ -63,6 +63,28 @@ fn views() {
 }
 
 #[test]
+fn summaries() {
+    let fields = [
+        offset_of!(SummaryNumbers, number),
+        offset_of!(SummaryNumbers, place),
+        offset_of!(SummaryNumbers, words),
+    ];
+    assert_eq!((fields, size_of::<SummaryNumbers>()), ([0, 8, 16], 24));
+}
+
+#[test]
+fn entrances() {
+    let fields = [
+        offset_of!(EntranceNumbers, number),
+        offset_of!(EntranceNumbers, place),
+        offset_of!(EntranceNumbers, count),
+        offset_of!(EntranceNumbers, found),
+        offset_of!(EntranceNumbers, next),
+    ];
+    assert_eq!((fields, size_of::<EntranceNumbers>()), ([0, 8, 16, 24, 32], 40));
+}
+
+#[test]
 fn openings() {
     let fields = [
         offset_of!(OpenNumbers, number),

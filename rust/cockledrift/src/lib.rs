@@ -6,8 +6,11 @@
 //! programs; a v8 file that was written here can be edited without its sheet; two
 //! files are compared by their time lines; a [`Reader`] goes through a file item by
 //! item; [`reach`] says how far a survey of a sheet reaches, [`viewer_legs`] gives its
-//! legs as numbers for a viewer, and [`sha256`] tells a file's digest. What the bytes
-//! of files and sheets mean, and what each refusal says, is in `docs/FORMAT.md`.
+//! legs as numbers for a viewer, a [`Summary`] how many
+//! entrances a stretch of its records holds, and [`sha256`] tells a file's digest.
+//! What the bytes
+//! of files and sheets mean, and what each refusal says, is in
+//! `docs/FORMAT.md`.
 //!
 //! [`Sheet`] and [`Record`] have these as values:
 //!
@@ -69,6 +72,7 @@ mod sha256;
 mod sheet;
 mod step;
 mod viewer;
+mod summary;
 mod write;
 
 pub use answer::{number, Answer, Done, Refusal};
@@ -83,4 +87,5 @@ pub use sha256::{sha256, Sha256};
 pub use sheet::{Header, Sheet};
 pub use step::{Found, Opened, Reader, Step, RECORD_LIMIT};
 pub use viewer::{viewer_legs, viewer_legs_vec, NUMBERS_EACH};
+pub use summary::{entrances, summarize, summary_words, update_summary, Entrances, Summary};
 pub use write::{write, write_v7, write_v7_vec, write_vec};

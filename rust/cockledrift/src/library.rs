@@ -61,6 +61,25 @@ pub struct ViewNumbers {
     pub legs: usize,
 }
 
+/// A summary: number 0 and the words that it takes; or the refusal's number and place.
+#[repr(C)]
+pub struct SummaryNumbers {
+    pub number: u64,
+    pub place: usize,
+    pub words: usize,
+}
+
+/// The entrances of a stretch: number 0, how many they are, and 1 with the next one or 0
+/// where there is none; or the refusal's number and place.
+#[repr(C)]
+pub struct EntranceNumbers {
+    pub number: u64,
+    pub place: usize,
+    pub count: u64,
+    pub found: u64,
+    pub next: usize,
+}
+
 /// How many numbers say where a step reader stands.
 pub const STAND_NUMBERS: usize = 14;
 
@@ -129,6 +148,24 @@ extern "C" {
         out: *mut f32,
         m: usize,
     ) -> ViewNumbers;
+    fn cockledrift_summary(sheet: *const u8, n: usize, words: *mut u64, m: usize)
+        -> SummaryNumbers;
+    fn cockledrift_entrances(
+        words: *const u64,
+        n: usize,
+        records: u32,
+        from: usize,
+        to: usize,
+    ) -> EntranceNumbers;
+    fn cockledrift_summary_update(
+        words: *mut u64,
+        n: usize,
+        records: u32,
+        first: usize,
+        count: usize,
+        new: *const u8,
+        m: usize,
+    ) -> SummaryNumbers;
     fn cockledrift_open(file: *const u8, n: usize, stand: *mut Stand) -> OpenNumbers;
     fn cockledrift_step(
         file: *const u8,
@@ -224,6 +261,28 @@ pub fn viewer_legs(sheet: &[u8], [x, y, z]: [i32; 3], out: &mut [f32]) -> ViewNu
     let (s, n) = (sheet.as_ptr(), sheet.len());
     // SAFETY: each pointer goes with the length of its own slice, which outlives the call.
     unsafe { cockledrift_viewer_legs(s, n, x, y, z, out.as_mut_ptr(), out.len()) }
+}
+
+pub fn summary(sheet: &[u8], words: &mut [u64]) -> SummaryNumbers {
+    // SAFETY: each pointer goes with the length of its own slice, which outlives the call.
+    unsafe { cockledrift_summary(sheet.as_ptr(), sheet.len(), words.as_mut_ptr(), words.len()) }
+}
+
+pub fn entrances(words: &[u64], records: u32, from: usize, to: usize) -> EntranceNumbers {
+    // SAFETY: the pointer goes with the length of its slice, which outlives the call.
+    unsafe { cockledrift_entrances(words.as_ptr(), words.len(), records, from, to) }
+}
+
+pub fn summary_update(
+    words: &mut [u64],
+    records: u32,
+    first: usize,
+    count: usize,
+    new: &[u8],
+) -> SummaryNumbers {
+    let (to, lent) = (words.as_mut_ptr(), words.len());
+    // SAFETY: each pointer goes with the length of its own slice, which outlives the call.
+    unsafe { cockledrift_summary_update(to, lent, records, first, count, new.as_ptr(), new.len()) }
 }
 
 pub fn open(file: &[u8], stand: &mut Stand) -> OpenNumbers {

@@ -9,7 +9,7 @@ pub use lent::{disagree, hex, same, Call, Difference, Fills};
 pub use run::{edits_wanted, files_wanted, seed, sheets_wanted, Tally};
 
 use generate::Edit;
-use second::{Answer, Later, Reach, Salvaged, Viewed};
+use second::{Answer, Entrances, Later, Reach, Salvaged, Viewed, Summary};
 use std::cell::RefCell;
 
 /// Reading, at several buffer lengths. Answers what an ample buffer gives.
@@ -243,4 +243,46 @@ fn untouched(answer: Viewed, bits: &[u32], room: usize) -> Result<(), String> {
         return Err(format!("{answer:?} with a number touched, room {room}"));
     }
     Ok(())
+}
+
+/// What a call that makes a summary, or brings one up to date, answers and leaves.
+pub type Summed = (Summary, Vec<u64>);
+
+/// The summary of a sheet, in words that are all lent.
+pub fn summarize(sheet: &[u8], words: &[u64]) -> Result<Summed, String> {
+    let by = |made: fn(&[u8], &mut [u64]) -> Summary| lent(words, |words| made(sheet, words));
+    alike(by(proved::summarize), by(second::summarize))
+}
+
+/// A summary brought up to date by an edit of so many records.
+pub fn update_summary(words: &[u64], records: usize, edit: &Edit) -> Result<Summed, String> {
+    let Edit { first, count, new } = edit;
+    let by = |made: fn(&mut [u64], usize, usize, usize, &[u8]) -> Summary| {
+        lent(words, |words| made(words, records, *first, *count, new))
+    };
+    alike(by(proved::update_summary), by(second::update_summary))
+}
+
+fn lent(words: &[u64], call: impl Fn(&mut [u64]) -> Summary) -> Summed {
+    let mut words = words.to_vec();
+    (call(&mut words), words)
+}
+
+/// A question over a stretch, to a summary of the records.
+pub fn entrances(
+    words: &[u64],
+    records: usize,
+    from: usize,
+    to: usize,
+) -> Result<Entrances, String> {
+    let proved = proved::entrances(words, records, from, to);
+    alike(proved, second::entrances(words, records, from, to))
+}
+
+/// The two have to be the same.
+pub fn alike<T: PartialEq + std::fmt::Debug>(proved: T, second: T) -> Result<T, String> {
+    if proved == second {
+        return Ok(second);
+    }
+    Err(format!("proved {proved:?}\nsecond {second:?}"))
 }

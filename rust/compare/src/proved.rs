@@ -1,7 +1,7 @@
 //! The proved library with the second implementation's types: the one place
 //! where the two sets of types meet.
 
-use second::{Answer, Later, Opened, Reach, Salvaged, Step, Viewed};
+use second::{Answer, Entrances, Later, Opened, Reach, Salvaged, Step, Viewed, Summary};
 
 /// An answer of the proved library.
 fn answer(answer: cockledrift::Answer) -> Answer {
@@ -78,6 +78,37 @@ pub fn viewer_legs(sheet: &[u8], origin: [i32; 3], out: &mut [f32]) -> Viewed {
         Ok(legs) => Viewed::Done { legs },
         Err(cockledrift::Refusal { number, place }) => Viewed::Refused { number, place },
     }
+}
+
+fn summary(taken: Result<usize, cockledrift::Refusal>) -> Summary {
+    match taken {
+        Ok(words) => Summary::Takes { words },
+        Err(cockledrift::Refusal { number, place }) => Summary::Refused { number, place },
+    }
+}
+
+pub fn summarize(sheet: &[u8], words: &mut [u64]) -> Summary {
+    summary(cockledrift::summarize(sheet, words))
+}
+
+/// The record count is a u32 there: one that is not is none that a file has.
+pub fn entrances(words: &[u64], records: usize, from: usize, to: usize) -> Entrances {
+    let records = u32::try_from(records).expect("a record count of a file");
+    match cockledrift::entrances(words, records, from..to) {
+        Ok(cockledrift::Entrances { count, next }) => Entrances::Counted { count, next },
+        Err(cockledrift::Refusal { number, place }) => Entrances::Refused { number, place },
+    }
+}
+
+pub fn update_summary(
+    words: &mut [u64],
+    records: usize,
+    first: usize,
+    count: usize,
+    new: &[u8],
+) -> Summary {
+    let records = u32::try_from(records).expect("a record count of a file");
+    summary(cockledrift::update_summary(words, records, first, count, new))
 }
 
 /// The proved step reader.

@@ -1,7 +1,7 @@
 /* Makes the calls of the header that standard input asks for, and prints what they answer.
 
    A request is eight numbers of eight bytes (the call's letter, the bytes of two inputs, the room of two buffers, first
-   and count of an edit, one spare) and the inputs' bytes. The answer is a line: the letter, the numbers answered, and a
+   and count of an edit, the records of a summary) and the inputs' bytes. The answer is a line: the letter, the numbers answered, and a
    hash of each buffer as it then is. Each call is made twice, with all that is lent to it against the guard page behind
    and against the one before; both have to come to the same. */
 #define _DEFAULT_SOURCE
@@ -92,7 +92,7 @@ static uint64_t hash(uint64_t h, const void *bytes, size_t count)
 static const uint64_t START = 0xcbf29ce484222325u;
 
 struct request {
-    uint64_t letter, a_bytes, b_bytes, room, second_room, first, count, spare;
+    uint64_t letter, a_bytes, b_bytes, room, second_room, first, count, records;
 };
 
 static struct lent in_a, in_b, out, second, numbers, label;
@@ -204,6 +204,26 @@ static void say_viewed(char *line, const uint8_t *sheet, size_t bytes, const uin
              hash(START, out.start, out.bytes));
 }
 
+static void say_summed(char *line, struct cockledrift_summed s)
+{
+    snprintf(line, LINE, "%" PRIu64 " %zu %zu %016" PRIx64, s.number, s.place, s.words,
+             hash(START, out.start, out.bytes));
+}
+
+static void say_stretch(char *line, struct cockledrift_stretch s)
+{
+    snprintf(line, LINE, "%" PRIu64 " %zu %" PRIu64 " %" PRIu64 " %zu", s.number, s.place, s.count, s.found, s.next);
+}
+
+/* Brings the words of `a` up to date, with room for more behind them. */
+static void say_update(char *line, const struct request *r, const uint8_t *a, const uint8_t *b)
+{
+    uint64_t *words = (uint64_t *)(void *)out.start;
+    memcpy(words, a, r->a_bytes < out.bytes ? r->a_bytes : out.bytes);
+    say_summed(line, cockledrift_summary_update(words, out.bytes / 8, (uint32_t)r->records, r->first, r->count, b,
+                                                r->b_bytes));
+}
+
 /* Makes the call with `a` and `b` to read, and `out` and `second` to fill. */
 static void call(char *line, const struct request *r, const uint8_t *a, const uint8_t *b)
 {
@@ -219,6 +239,12 @@ static void call(char *line, const struct request *r, const uint8_t *a, const ui
     case 'l': say_compared(line, cockledrift_compare(a, n, b, m)); break;
     case 'x': say_reached(line, cockledrift_reach(a, n, b, m)); break;
     case 'g': say_viewed(line, a, n, b, m); break;
+    case 'y': say_summed(line, cockledrift_summary(a, n, (uint64_t *)(void *)to, room / 8)); break;
+    case 'q':
+        say_stretch(line, cockledrift_entrances((const uint64_t *)(const void *)a, n / 8, (uint32_t)r->records,
+                                                r->first, r->count));
+        break;
+    case 'u': say_update(line, r, a, b); break;
     case 's': say_steps(line, cockledrift_step, a, n); break;
     case 'n': say_steps(line, cockledrift_next, a, n); break;
     case 'a': say_anywhere(line, a, n, b, m); break;

@@ -31,6 +31,20 @@ def reached(sheet, name):
     return " ".join(map(str, (legs, *least, *greatest)))
 
 
+def told(summary, first, count):
+    """The words of a summary, and what a stretch holds."""
+    words = b"".join(struct.pack("<Q", word) for word in summary.words)
+    found, following = summary.entrances(first, count)
+    return f"{summary.records} {words.hex()} {found} {'-' if following is None else following}"
+
+
+def updated(sheet, first, count, new):
+    """The same after an edit: all of it."""
+    summary = cockledrift.Summary(sheet)
+    summary.update(first, count, new)
+    return told(summary, 0, summary.records)
+
+
 def compared(a, b):
     which, line = cockledrift.compare(a, b)
     return f"{which} {line.hex()}"
@@ -55,6 +69,8 @@ CALLS = {
     "l": lambda a, b, first, count: compared(a, b),
     "x": lambda a, b, first, count: reached(a, b),
     "g": lambda a, b, first, count: bytes(cockledrift.viewer_legs(a, struct.unpack("<3i", b))).hex(),
+    "y": lambda a, b, first, count: told(cockledrift.Summary(a), first, count),
+    "u": lambda a, b, first, count: updated(a, first, count, b),
     "s": lambda a, b, first, count: steps(a),
     "n": lambda a, b, first, count: records(cockledrift.Reader(a)),
     "p": lambda a, b, first, count: "\n".join(example.lines(a)).encode().hex(),

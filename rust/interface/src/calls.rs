@@ -1,11 +1,11 @@
 //! Calls as `c/calls.c` takes them, and what the crate for Rust answers them.
 
-use crate::guard::{as_numbers, pattern, Guarded, Side};
+use crate::guard::{as_numbers, pattern, words, words_mut, Guarded, Side};
 use crate::list::list;
 use cockledrift::{Answer, Done, Later, Reader, Refusal, RefusedFile, Step, Which};
 
-/// One call: its letter, two inputs, the room of two buffers, and the numbers
-/// of an edit.
+/// One call: its letter, two inputs, the room of two buffers, the numbers of an
+/// edit, and the records of a summary.
 #[derive(Clone, Default)]
 pub struct Request {
     pub letter: u8,
@@ -15,6 +15,7 @@ pub struct Request {
     pub second_room: usize,
     pub first: usize,
     pub count: usize,
+    pub records: u32,
 }
 
 impl Request {
@@ -25,8 +26,9 @@ impl Request {
 
     /// The bytes for the program in C.
     pub fn bytes(&self) -> Vec<u8> {
-        let Request { letter, a, b, room, second_room, first, count } = self;
-        let numbers = [*letter as usize, a.len(), b.len(), *room, *second_room, *first, *count, 0];
+        let Request { letter, a, b, room, second_room, first, count, records } = self;
+        let lent = [*letter as usize, a.len(), b.len(), *room, *second_room];
+        let numbers = [&lent[..], &[*first, *count, *records as usize]].concat();
         let numbers = numbers.iter().flat_map(|number| number.to_le_bytes());
         numbers.chain(a.iter().copied()).chain(b.iter().copied()).collect()
     }
@@ -54,7 +56,8 @@ impl Memory {
     }
 
     fn on(&mut self, request: &Request, side: Side) -> String {
-        let Request { letter, a: file, b: other, room, second_room, first, count } = request;
+        let Request { letter, a: file, b: other, room, second_room, first, count, records } =
+            request;
         let (a, b) = (self.a.hold(file, side), self.b.hold(other, side));
         let (out, second) = (self.out.lend(*room, side), self.second.lend(*second_room, side));
         let line = match letter {
@@ -67,6 +70,14 @@ impl Memory {
             b'l' => compared(a, b),
             b'x' => reached(a, b),
             b'g' => viewed(a, b, out),
+            b'y' => summed(cockledrift::summarize(a, words_mut(out)), out),
+            b'q' => stretch(cockledrift::entrances(words(a), *records, *first..*count)),
+            b'u' => {
+                let most = a.len().min(out.len());
+                out[..most].copy_from_slice(&a[..most]);
+                let words = words_mut(out);
+                summed(cockledrift::update_summary(words, *records, *first, *count, b), out)
+            }
             b's' => stepped(a, out, |reader, out| reader.step(out)),
             b'n' => {
                 stepped(a, out, |reader, out| Ok(reader.next(out)?.map_or(Step::End, Step::Record)))
@@ -161,6 +172,22 @@ fn viewed(sheet: &[u8], at: &[u8], out: &mut [u8]) -> String {
 pub fn origin(bytes: &[u8]) -> [i32; 3] {
     let number = |at: usize| i32::from_le_bytes([0, 1, 2, 3].map(|byte| bytes[4 * at + byte]));
     [0, 1, 2].map(number)
+}
+
+fn summed(answer: Result<usize, Refusal>, out: &[u8]) -> String {
+    let (number, place, words) = match answer {
+        Ok(words) => (0, 0, words),
+        Err(Refusal { number, place }) => (number, place, 0),
+    };
+    format!("{number} {place} {words} {:016x}", hash(START, out))
+}
+
+fn stretch(answer: Result<cockledrift::Entrances, Refusal>) -> String {
+    let (number, place, count, next) = match answer {
+        Ok(cockledrift::Entrances { count, next }) => (0, 0, count, next),
+        Err(Refusal { number, place }) => (number, place, 0, None),
+    };
+    format!("{number} {place} {count} {} {}", u8::from(next.is_some()), next.unwrap_or(0))
 }
 
 type Stepper = fn(&mut Reader, &mut [u8]) -> Result<Step, Refusal>;

@@ -35,6 +35,22 @@ pub fn as_numbers(bytes: &mut [u8]) -> &mut [f32] {
     numbers
 }
 
+/// Lent bytes as words: whole ones, from an aligned place.
+pub fn words(bytes: &[u8]) -> &[u64] {
+    // SAFETY: any bytes are words.
+    let (before, words, behind) = unsafe { bytes.align_to() };
+    assert!(before.is_empty() && behind.is_empty(), "whole words are lent");
+    words
+}
+
+/// The same, to be written.
+pub fn words_mut(bytes: &mut [u8]) -> &mut [u64] {
+    // SAFETY: any bytes are words, and any words are bytes.
+    let (before, words, behind) = unsafe { bytes.align_to_mut() };
+    assert!(before.is_empty() && behind.is_empty(), "whole words are lent");
+    words
+}
+
 /// Which guard page a lent buffer touches.
 #[derive(Clone, Copy, PartialEq, Eq, Debug)]
 pub enum Side {

@@ -153,6 +153,7 @@ fn of_sheet(sheet: &[u8]) -> Vec<Request> {
     requests.extend([[0; 3], [-5, i32::MAX, i32::MIN]].iter().flat_map(|at| viewed(sheet, *at)));
     requests.extend(v8.map(|bytes| Request::new(b'w', sheet, bytes - 1)));
     requests.extend(v7.map(|bytes| Request::new(b'7', sheet, bytes - 1)));
+    requests.extend(of_summary(sheet));
     requests
 }
 
@@ -163,6 +164,47 @@ fn viewed(sheet: &[u8], origin: [i32; 3]) -> Vec<Request> {
     let b: Vec<u8> = origin.iter().flat_map(|number| number.to_le_bytes()).collect();
     let request = |room| Request { b: b.clone(), ..Request::new(b'g', sheet, 4 * room) };
     rooms.into_iter().map(request).collect()
+}
+
+/// Summaries of a sheet, and questions to one and to any words.
+fn of_summary(sheet: &[u8]) -> Vec<Request> {
+    let words = cockledrift::summarize(sheet, &mut []).err().and_then(|refusal| refusal.needed());
+    let bytes = 8 * words.unwrap_or(2);
+    let rooms = [Some(bytes), Some(bytes + 16), bytes.checked_sub(8)];
+    let mut requests: Vec<_> =
+        rooms.into_iter().flatten().map(|room| Request::new(b'y', sheet, room)).collect();
+    let Ok(sheet) = cockledrift::Sheet::of(sheet.to_vec()) else { return requests };
+    let summary = cockledrift::Summary::of(&sheet).expect("a good sheet");
+    let records = summary.records();
+    let held: Vec<u8> = summary.words().iter().flat_map(|word| word.to_le_bytes()).collect();
+    let any: Vec<u8> = held.iter().map(|byte| byte ^ 0xa5).collect();
+    let ranges =
+        [(0, records), (records / 2, records), (records, records), (1, 0), (0, records + 1)];
+    for (first, count) in ranges {
+        let records = records as u32;
+        let question =
+            |words: &[u8]| Request { first, count, records, ..Request::new(b'q', words, 0) };
+        requests.extend([question(&held), question(&any)]);
+        requests.extend(bytes.checked_sub(8).map(|less| question(&held[..less.min(held.len())])));
+    }
+    requests
+}
+
+/// A summary brought up to date by an edit: with room enough, a word short, and
+/// of words that are no summary.
+fn of_update(sheet: &cockledrift::Sheet, edit: &edits::Edit) -> Vec<Request> {
+    let summary = cockledrift::Summary::of(sheet).expect("a good sheet");
+    let held: Vec<u8> = summary.words().iter().flat_map(|word| word.to_le_bytes()).collect();
+    let any: Vec<u8> = held.iter().map(|byte| byte ^ 0x5a).collect();
+    let edits::Edit { first, count, new } = edit.clone();
+    let records = summary.records() as u32;
+    let update = |words: &[u8], room| {
+        let request = Request { b: new.clone(), records, ..Request::new(b'u', words, room) };
+        Request { first, count, ..request }
+    };
+    let room = held.len() + 64;
+    let short = held.len().saturating_sub(8);
+    vec![update(&held, room), update(&any, room), update(&held, short)]
 }
 
 fn of_edit(file: &[u8], edit: edits::Edit) -> Vec<Request> {
@@ -187,8 +229,10 @@ fn of_round(round: u64) -> (usize, Vec<Request>) {
     requests.extend(sheets.iter().step_by(3).flat_map(|(_, sheet)| of_sheet(sheet)));
     let good = sheets.iter().find(|(kind, _)| *kind == SheetKind::Good).expect("a good sheet");
     if let Ok(file) = cockledrift::write_vec(&good.1) {
-        let records = cockledrift::Sheet::read(&file).expect("what was written").records().count();
+        let sheet = cockledrift::Sheet::read(&file).expect("what was written");
+        let records = sheet.records().count();
         for (_, edit) in edits::round(&mut rng, records).into_iter().step_by(3) {
+            requests.extend(of_update(&sheet, &edit));
             requests.extend(of_edit(&file, edit));
         }
     }
@@ -216,6 +260,9 @@ fn damaged_files_are_answered_alike() {
     must_have_seen(&seen, 'c', &[0, 5, 11]);
     must_have_seen(&seen, 'x', &[0, 12, 21]);
     must_have_seen(&seen, 'g', &[0, 11, 12, 20]);
+    must_have_seen(&seen, 'y', &[0, 11, 12]);
+    must_have_seen(&seen, 'q', &[0, 11, 15]);
+    must_have_seen(&seen, 'u', &[0, 11, 12, 15]);
     must_have_seen(&seen, 'w', &[0, 11, 12, 13]);
     must_have_seen(&seen, '7', &[0, 11, 12, 23]);
     must_have_seen(&seen, 'e', &[0, 11, 12, 14, 15]);

@@ -1,13 +1,16 @@
 //! The Python module answers as the crate for Rust does: records, bytes, and
 //! the words of refusals.
 
-use cockledrift::{Found, Later, Reader, Record, Refusal, Sheet, Step, RECORD_LIMIT};
+use cockledrift::{
+    Entrances, Found, Later, Reader, Record, Refusal, Sheet, Step, Summary, RECORD_LIMIT,
+};
 use generate::{edits, files, sheets, Rng, SheetKind};
 use interface::calls::origin;
 use interface::tools::{folder, make, printed, root};
 use interface::wanted::seed;
 use std::fmt::Display;
 use std::io::Write;
+use std::ops::Range;
 use std::process::{Command, Stdio};
 use std::thread;
 
@@ -60,6 +63,11 @@ impl Call {
             b'g' => said(cockledrift::viewer_legs_vec(a, origin(b)).map(|numbers| {
                 hex(&numbers.into_iter().flat_map(f32::to_le_bytes).collect::<Vec<_>>())
             })),
+            b'y' => said(summary(a).and_then(|summary| told(&summary, *first..*count))),
+            b'u' => said(summary(a).and_then(|mut summary| {
+                summary.update(*first, *count, b)?;
+                told(&summary, 0..summary.records())
+            })),
             b's' => said(steps(a, |reader, out| reader.step(out))),
             b'n' => {
                 said(steps(a, |reader, out| Ok(reader.next(out)?.map_or(Step::End, Step::Record))))
@@ -70,6 +78,18 @@ impl Call {
             _ => panic!("no such call"),
         }
     }
+}
+
+fn summary(sheet: &[u8]) -> Result<Summary, Refusal> {
+    Summary::of(&Sheet::of(sheet.to_vec())?)
+}
+
+/// The words of a summary, and what a stretch holds.
+fn told(summary: &Summary, range: Range<usize>) -> Result<String, Refusal> {
+    let words: Vec<u8> = summary.words().iter().flat_map(|word| word.to_le_bytes()).collect();
+    let Entrances { count, next } = summary.entrances(range)?;
+    let next = next.map_or("-".to_string(), |next| next.to_string());
+    Ok(format!("{} {} {count} {next}", summary.records(), hex(&words)))
 }
 
 fn said(answer: Result<String, impl Display>) -> String {
@@ -167,13 +187,19 @@ fn sheets_and_edits_are_answered_alike() {
             Call { b, ..Call::new(b'g', &sheet) }
         }));
         calls.extend(b"tw7".map(|letter| Call::new(letter, &sheet)));
+        calls.extend([(0, 0), (0, 1), (1, 3), (2, 1)].map(|(first, count)| Call {
+            first,
+            count,
+            ..Call::new(b'y', &sheet)
+        }));
         let Some(file) = cockledrift::write_vec(&sheet).ok().filter(|_| kind == SheetKind::Good)
         else {
             continue;
         };
-        let records = Sheet::of(sheet).expect("a good sheet").records().count();
+        let records = Sheet::of(sheet.clone()).expect("a good sheet").records().count();
         for (_, edits::Edit { first, count, new }) in edits::round(&mut rng, records) {
             if first.max(count) <= u32::MAX as usize {
+                calls.push(Call { b: new.clone(), first, count, ..Call::new(b'u', &sheet) });
                 calls.push(Call { b: new, first, count, ..Call::new(b'e', &file) });
             }
         }

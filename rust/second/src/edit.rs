@@ -1,6 +1,6 @@
 //! Editing a v8 file: its sheet with a run of records replaced, written anew.
 
-use crate::sheet::{self, Layout};
+use crate::sheet::{self, Layout, Record};
 use crate::{no, read, write, Answer, Refusal};
 
 /// Replaces the `count` records from `first` on by the version 2 records in
@@ -28,8 +28,8 @@ fn edited_sheet(
     if !is_ours(file, &old) {
         return Err(no(14, 0));
     }
-    let end = first.checked_add(count).filter(|&end| end <= records).ok_or(no(15, records))?;
-    judge_replacement(replacement)?;
+    let end = judge_run(records, first, count)?;
+    judge_replacement(replacement, |_| {})?;
     let mut new = old[..record_place(&old, first)].to_vec();
     new.extend_from_slice(replacement);
     new.extend_from_slice(&old[record_place(&old, end)..]);
@@ -57,9 +57,17 @@ fn is_ours(file: &[u8], sheet: &[u8]) -> bool {
     }
 }
 
-/// 12: "records only, no header; place within it".
-fn judge_replacement(replacement: &[u8]) -> Result<(), Refusal> {
-    sheet::each(Layout::Version2, replacement, |_, _| {}).map(|_| ())
+/// Where the run ends, or 15: "first record plus count above the record count".
+pub(crate) fn judge_run(records: usize, first: usize, count: usize) -> Result<usize, Refusal> {
+    first.checked_add(count).filter(|&end| end <= records).ok_or(no(15, records))
+}
+
+/// Shows each record, or gives 12: "records only, no header; place within it".
+pub(crate) fn judge_replacement(
+    replacement: &[u8],
+    mut show: impl FnMut(&Record),
+) -> Result<(), Refusal> {
+    sheet::each(Layout::Version2, replacement, |_, record| show(record)).map(|_| ())
 }
 
 /// Where record `number` begins in a good sheet, or the sheet's end.

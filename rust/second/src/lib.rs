@@ -1,10 +1,11 @@
-//! Survex 3d files, v3 to v8: reading to a sheet, salvaging, stepping, writing
-//! v8 and v7, editing v8 and comparing time lines; how far a sheet's surveys
-//! reach, and its legs for the viewer.
+//! Survex 3d files, v3 to v8: reading to a sheet, strictly or not, salvaging,
+//! stepping, writing v8 and v7, editing v8 and comparing time lines; how far a
+//! sheet's surveys reach, and its legs for the viewer, and where its entrances are.
 //!
 //! An independent second implementation of document 01 and of requests #101,
-//! #102, #104, #106, #107, #110, #111 and #113 of document 02, written from these
-//! documents and the two published format pages. It allocates only in `edit`.
+//! #102, #104, #106 to #111 and #113 of document 02, written from these
+//! documents and the two published format pages. It allocates only in `edit`, for the index
+//! of `read_strict`, and in making and updating a summary.
 
 mod codes;
 mod edit;
@@ -18,6 +19,8 @@ mod salvage;
 mod sheet;
 mod state;
 mod step;
+mod strict;
+mod summary;
 mod v7;
 mod v8;
 mod viewer;
@@ -30,6 +33,8 @@ pub use read::read;
 pub use salvage::{salvage, Salvaged};
 pub use step::{open, Opened, Step, Stepper};
 pub use viewer::{viewer_legs, Viewed};
+pub use strict::read_strict;
+pub use summary::{entrances, summarize, update_summary, Entrances, Summary};
 pub use write::{write, write_v7};
 
 use write::write_made;

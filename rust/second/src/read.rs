@@ -6,14 +6,19 @@ use crate::item::{next, Item};
 use crate::record;
 use crate::sheet::Layout;
 use crate::state::State;
-use crate::{no, Answer, Refusal};
+use crate::{no, Answer, Number, Refusal};
 
 /// Reads `file` (v3 to v8) to the front of `sheet`, as a version 2 sheet.
 ///
 /// Refusals come as "16, 1, 2, 3, the v8 byte, then items in order; in an item
 /// 4, 5, 6, 7, 9, 8; then 10, then 11" and leave `sheet` untouched.
 pub fn read(file: &[u8], sheet: &mut [u8]) -> Answer {
-    match pass(file, sheet, Wanted::WholeFile) {
+    answer(pass::<false>(file, sheet, Wanted::WholeFile, |_, _| Ok(())))
+}
+
+/// What reading answers after both passes.
+pub(crate) fn answer(passed: Result<Passed, Refusal>) -> Answer {
+    match passed {
         Ok(Passed { bytes, records, version, .. }) => Answer::Done { bytes, records, version },
         Err(refusal) => refusal.into(),
     }
@@ -35,26 +40,35 @@ pub(crate) struct Passed {
     pub end: Result<(), Refusal>,
 }
 
-pub(crate) fn pass(file: &[u8], sheet: &mut [u8], wanted: Wanted) -> Result<Passed, Refusal> {
+/// Both passes. In the first `judge` sees each item that nothing else refuses,
+/// with the label it leaves, and may refuse it; its bytes only with `LABELS`.
+#[inline(always)]
+pub(crate) fn pass<'a, const LABELS: bool>(
+    file: &'a [u8],
+    sheet: &mut [u8],
+    wanted: Wanted,
+    judge: impl FnMut(&Item<'a>, &[u8]) -> Result<(), Number>,
+) -> Result<Passed, Refusal> {
     let head = header(file)?;
     // v8 and the older versions have loops of their own. Only the older ones
     // look for dots, and so must know the label's bytes while measuring.
     if head.version == 8 {
-        two_passes::<false>(8, file, &head, sheet, wanted)
+        two_passes::<LABELS>(8, file, &head, sheet, wanted, judge)
     } else {
-        two_passes::<true>(head.version, file, &head, sheet, wanted)
+        two_passes::<true>(head.version, file, &head, sheet, wanted, judge)
     }
 }
 
 #[inline(always)]
-fn two_passes<const DOTS: bool>(
+fn two_passes<'a, const KEEP: bool>(
     version: u8,
-    file: &[u8],
+    file: &'a [u8],
     head: &Header,
     sheet: &mut [u8],
     wanted: Wanted,
+    judge: impl FnMut(&Item<'a>, &[u8]) -> Result<(), Number>,
 ) -> Result<Passed, Refusal> {
-    let passed = measure::<DOTS>(version, file, head);
+    let passed = measure::<KEEP>(version, file, head, judge);
     let Passed { bytes, end, .. } = passed;
     if wanted == Wanted::WholeFile {
         end?;
@@ -70,14 +84,21 @@ fn two_passes<const DOTS: bool>(
 
 /// The first pass: the sheet's bytes and records.
 #[inline(always)]
-fn measure<const DOTS: bool>(version: u8, file: &[u8], head: &Header) -> Passed {
+fn measure<'a, const KEEP: bool>(
+    version: u8,
+    file: &'a [u8],
+    head: &Header,
+    mut judge: impl FnMut(&Item<'a>, &[u8]) -> Result<(), Number>,
+) -> Passed {
     let mut bytes = header_size(head);
     let mut records = 0;
-    let end = walk::<DOTS>(version, file, head.items, |item, state| {
+    let end = walk::<KEEP>(version, file, head.items, |item, state| {
+        judge(item, state.label())?;
         if let Some(size) = record::size(item, state.label().len()) {
             bytes += size;
             records += 1;
         }
+        Ok(())
     });
     Passed { bytes, records, version, end }
 }
@@ -88,18 +109,19 @@ fn fill(version: u8, file: &[u8], items: usize, part: &mut [u8]) -> Result<(), R
     let mut at = 0;
     walk::<true>(version, file, items, |item, state| {
         at += record::put(item, state, &mut part[at..]);
+        Ok(())
     })
 }
 
 /// Goes through all items up to the end or the first refused one, the first at
 /// `items`, and shows each with the state it finds, its own label already in
-/// place.
+/// place. `each` may refuse it, after all that is refused here.
 #[inline(always)]
 fn walk<'a, const KEEP: bool>(
     version: u8,
     file: &'a [u8],
     items: usize,
-    mut each: impl FnMut(&Item<'a>, &State<'a>),
+    mut each: impl FnMut(&Item<'a>, &State<'a>) -> Result<(), Number>,
 ) -> Result<(), Refusal> {
     let mut state = State::new();
     let mut rest = &file[items..];
@@ -113,7 +135,7 @@ fn walk<'a, const KEEP: bool>(
         }
         let length = state.judge(&item).map_err(|number| no(number, place))?;
         state.relabel::<KEEP>(&item, length);
-        each(&item, &state);
+        each(&item, &state).map_err(|number| no(number, place))?;
         state.apply(&item);
     }
 }

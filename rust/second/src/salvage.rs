@@ -18,7 +18,7 @@ pub enum Salvaged {
 /// Refusals come as "16, 1, 2, 3, and 4 for the v8 byte as in reading; 11 last"
 /// and leave `sheet` untouched.
 pub fn salvage(file: &[u8], sheet: &mut [u8]) -> Salvaged {
-    match pass(file, sheet, Wanted::RecordsBefore) {
+    match pass::<false>(file, sheet, Wanted::RecordsBefore, |_, _| Ok(())) {
         Ok(passed) => {
             let whole = no(0, file.len());
             let Refusal { number, place } = passed.end.err().unwrap_or(whole);

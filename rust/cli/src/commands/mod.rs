@@ -5,6 +5,7 @@ pub mod check;
 pub mod convert;
 pub mod diff;
 pub mod edit;
+pub mod entrances;
 pub mod info;
 pub mod later;
 pub mod list;

@@ -110,6 +110,8 @@ struct Coder<'r> {
     least: usize,
     /// The number kept of each record so far.
     kept: Vec<usize>,
+    /// Where the item of each record so far begins.
+    begins: Vec<usize>,
     date: Date,
     style: u8,
     place: Option<[i32; 3]>,
@@ -128,7 +130,7 @@ impl Coder<'_> {
                     self.place = Some(*from);
                 }
                 if !legacy && *label == self.label && self.rng.chance(2) {
-                    self.items.push(0x60 | flags);
+                    self.code(0x60 | flags);
                     self.named(label);
                 } else {
                     self.label(if legacy { 0x80 } else { 0x40 } | flags, label);
@@ -155,7 +157,7 @@ impl Coder<'_> {
             let keep = self.rng.below(self.label.len() + 1);
             self.shorten(keep);
         }
-        self.items.push(if legacy { 0x22 } else { 0x1f });
+        self.code(if legacy { 0x22 } else { 0x1f });
         self.items.extend(le(five));
         self.kept.push(0);
     }
@@ -238,16 +240,22 @@ impl Coder<'_> {
         let same = self.label.iter().zip(label).take_while(|(a, b)| a == b).count();
         let keep = if self.rng.chance(3) { self.rng.below(same + 1) } else { same };
         if self.version == 8 {
-            self.items.push(code);
+            self.code(code);
             self.change(self.label.len() - keep, label.len() - keep);
             self.cut(keep);
         } else {
             self.shorten(keep);
-            self.items.push(code);
+            self.code(code);
             self.length(label.len() - keep);
         }
         self.items.extend(&label[keep..]);
         self.named(label);
+    }
+
+    /// The code of an item that makes a record.
+    fn code(&mut self, code: u8) {
+        self.begins.push(self.items.len());
+        self.items.push(code);
     }
 
     /// All that shortens the label comes here, so that no length is missed.
@@ -336,6 +344,17 @@ pub fn items(rng: &mut Rng, version: u8, records: &[Rec]) -> Vec<u8> {
 
 /// The items and the number kept of each record.
 pub fn coded(rng: &mut Rng, version: u8, records: &[Rec]) -> (Vec<u8>, Vec<usize>) {
+    let coder = closed(rng, version, records);
+    (coder.items, coder.kept)
+}
+
+/// The items and where among them each record's own item begins.
+pub fn placed(rng: &mut Rng, version: u8, records: &[Rec]) -> (Vec<u8>, Vec<usize>) {
+    let coder = closed(rng, version, records);
+    (coder.items, coder.begins)
+}
+
+fn closed<'r>(rng: &'r mut Rng, version: u8, records: &[Rec]) -> Coder<'r> {
     let mut coder = Coder {
         rng,
         version,
@@ -343,6 +362,7 @@ pub fn coded(rng: &mut Rng, version: u8, records: &[Rec]) -> (Vec<u8>, Vec<usize
         label: Vec::new(),
         least: 0,
         kept: Vec::new(),
+        begins: Vec::new(),
         date: Date::None,
         style: 5,
         place: None,
@@ -351,7 +371,7 @@ pub fn coded(rng: &mut Rng, version: u8, records: &[Rec]) -> (Vec<u8>, Vec<usize
         coder.record(record);
     }
     coder.close();
-    (coder.items, coder.kept)
+    coder
 }
 
 /// For each record how many bytes its name shares with the name before; 0 for

@@ -1,0 +1,79 @@
+-- `summary::move_up` meets its contract. Assumes nothing.
+use Rattle.summary.proofs.Words.{put-from, put-none, moved-up}
+use borrow.Author.Needs.{needs}
+use Prim.Native.Nat.{_+_, _-_, _≤_}
+use mathlib.Core.Path.{_≡_, refl, _∙_}
+use native.Mathlib.Omega.{arith}
+use lib.ListN.{length}
+use Rattle.format.specs.Summary.{bitAt}
+use Rattle.summary.specs.Bits.{Put}
+use Rattle.summary.proofs.Words.{put-none, moved-up}
+use Rattle.summary.proofs.move_up.Statement.{statement}
+use Rattle.summary.proofs.move_up.Tie as tie
+
+abbrev Inv-loop : tie.InvT-loop
+Inv-loop words₀ from to size left₀ words left = (left ≤ size) × (length words ≡ length words₀) × Put words₀ words to left size (λ i. bitAt words₀ (from + i))
+
+abbrev μ-loop : tie.MeasureT-loop
+μ-loop words₀ from to size left₀ words left = left
+
+loop-holds : tie.Need-loop-holds Inv-loop μ-loop
+loop-holds c =
+    let a = c .before .args in (omega arith, refl, put-none (a .words .now) (a .to) (a .size) (λ i. bitAt (a .words .now) (a .from + i)))
+
+part-of-requires : tie.Need-part-of-requires Inv-loop μ-loop
+part-of-requires c κs = search needs
+
+sub-left : tie.Need-sub-left Inv-loop μ-loop
+sub-left c = search needs
+
+add-read-bits : tie.Need-add-read-bits Inv-loop μ-loop
+add-read-bits c = search needs
+
+read-bits-requires : tie.Need-read-bits-requires Inv-loop μ-loop
+read-bits-requires c κs = search needs
+
+add-write-bits : tie.Need-add-write-bits Inv-loop μ-loop
+add-write-bits c = search needs
+
+write-bits-requires : tie.Need-write-bits-requires Inv-loop μ-loop
+write-bits-requires c κs = search needs
+
+loop-less : tie.Need-loop-less Inv-loop μ-loop
+loop-less c = search needs
+
+loop-again : tie.Need-loop-again Inv-loop μ-loop
+loop-again c =
+    let left = c .before .before .before .before .before .before .before .before .loop .left in
+    let part = c .before .before .before .before .before .before .part-of .result in
+    let h : left - part + part ≡ left = omega (arith, c .before .before .before .before .before .before) in (
+      omega (arith, c .before .before .before .before .before .before),
+      c .before .before .write-bits .kept .0 ∙ c .before .before .before .before .before .before .before .before .loop .inv .1,
+      moved-up (left - part) left part (c .before .before .before .before .read-bits .result) (c .before .before .before .before .before .before .before .before .before .before .pre .0) h (c .before .before .before .before .before .before .before .before .loop .inv .0) (c .before .before .before .before .before .before .before .before .loop .inv .2)
+          (c .before .before .before .before .read-bits .ensures) (c .before .before .write-bits .ensures),
+    )
+
+same-length : tie.Need-same-length Inv-loop μ-loop
+same-length c = search needs
+
+returns : tie.Need-returns Inv-loop μ-loop
+returns c =
+    let e : c .before .loop .left ≡ 0 = omega (arith, c .loop-test .left) in put-from e (c .before .loop .inv .2)
+
+pub move-up-spec : {M : Type 1} → statement M
+move-up-spec =
+    tie.close
+    (tie.spec
+    Inv-loop
+    μ-loop
+    loop-holds
+    part-of-requires
+    sub-left
+    add-read-bits
+    read-bits-requires
+    add-write-bits
+    write-bits-requires
+    loop-less
+    loop-again
+    same-length
+    returns)
