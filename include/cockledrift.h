@@ -9,7 +9,8 @@
    bytes are lent. A buffer to fill overlaps nothing else that is lent. What is lent as const is only read. The library
    allocates nothing, keeps no pointer, and touches no byte that is not lent.
 
-   After a call. A refusal leaves every buffer as it was (cockledrift_convert has one exception, told there). Success
+   After a call. A refusal leaves every buffer as it was (cockledrift_convert has one exception, told there, and
+   cockledrift_read_strict the room for names). Success
    writes from the front of a buffer and leaves the rest as it was. Where nothing but the room is wrong, the refusal is
    COCKLEDRIFT_BUFFER_TOO_SMALL and its place is the length needed: lend no bytes to learn it.
 
@@ -70,7 +71,10 @@ extern "C" {
     X(COCKLEDRIFT_FILE_TOO_LONG, 16, "the file is over 16,777,216 bytes") \
     X(COCKLEDRIFT_BAD_TIME_LINE, 17, "the time line is not readable") \
     X(COCKLEDRIFT_TOO_FAR, 20, "a leg is too far from the origin") \
+    X(COCKLEDRIFT_UNKNOWN_STATION, 18, "a cross-section of a name that no earlier station has") \
+    X(COCKLEDRIFT_MOVED_STATION, 19, "a station whose name came earlier at another place") \
     X(COCKLEDRIFT_NO_LEG, 21, "no leg of this survey") \
+    X(COCKLEDRIFT_INDEX_FULL, 22, "the room for names is too small") \
     X(COCKLEDRIFT_NOT_IN_V7, 23, "v7 cannot carry it")
 
 #define COCKLEDRIFT_NUMBER(name, number, words) name = number,
@@ -92,6 +96,16 @@ struct cockledrift_answer {
 
 /* Reads a file, v3 to v8. Done: `sheet` has its sheet, of version 2, at the front. */
 struct cockledrift_answer cockledrift_read(const uint8_t *file, size_t file_bytes, uint8_t *sheet, size_t sheet_room)
+    COCKLEDRIFT_LENT;
+
+/* Reads a file as cockledrift_read does, strictly: a cross-section is refused whose name no earlier station has
+   (COCKLEDRIFT_UNKNOWN_STATION), and a station whose name came earlier at another place (COCKLEDRIFT_MOVED_STATION); the
+   place is the item's. The names are kept in `room`, of any content: each different name takes its own bytes and 32 more,
+   and where the next one does not fit what is left, that is COCKLEDRIFT_INDEX_FULL, at the item's place. However the
+   call ends, all of `room` then holds zeros. No answer hangs on `seed`: it keeps a file from being made so that the call
+   takes long, and is best drawn at random for files of strangers. */
+struct cockledrift_answer cockledrift_read_strict(const uint8_t *file, size_t file_bytes, uint8_t *sheet,
+                                                  size_t sheet_room, uint8_t *room, size_t room_bytes, uint64_t seed)
     COCKLEDRIFT_LENT;
 
 /* What salvaging answers: as reading, and a report. */

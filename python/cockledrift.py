@@ -63,6 +63,7 @@ def _declare(name, answer, *arguments):
 _step_arguments = (_bytes, _size, ctypes.POINTER(_Stand), ctypes.POINTER(_Label), _out, _size)
 _read = _declare("read", _Answer, _bytes, _size, _out, _size)
 _salvage = _declare("salvage", _Salvaged, _bytes, _size, _out, _size)
+_read_strict = _declare("read_strict", _Answer, _bytes, _size, _out, _size, _out, _size, ctypes.c_uint64)
 _write = _declare("write", _Answer, _bytes, _size, _out, _size)
 _write_v7 = _declare("write_v7", _Answer, _bytes, _size, _out, _size)
 _convert = _declare("convert", _Answer, _bytes, _size, _out, _size, _out, _size)
@@ -240,6 +241,18 @@ class Sheet:
 def read(file: bytes) -> Sheet:
     """The sheet of a file, v3 to v8."""
     return Sheet(*_filled(lambda out, room: _read(file, len(file), out, room)))
+
+
+def read_strict(file: bytes, seed: Optional[int] = None) -> Sheet:
+    """The sheet of a file, v3 to v8, read strictly: cross-sections at known stations, stations at one place each.
+
+    No answer hangs on the seed, which is drawn at random where none is given."""
+    if seed is None:
+        seed = int.from_bytes(os.urandom(8), "little")
+    found = salvage(file).sheet.records()
+    names = sum(32 + len(record.label) for record in found if isinstance(record, Station))
+    room = ctypes.create_string_buffer(names + 1)
+    return Sheet(*_filled(lambda out, size: _read_strict(file, len(file), out, size, room, names, seed)))
 
 
 class Salvaged(NamedTuple):

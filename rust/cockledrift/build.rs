@@ -17,6 +17,7 @@ const ARCHIVES: [Archive; 1] = [Archive {
     functions: &[
         "read",
         "salvage",
+        "read_strict",
         "write",
         "write_v7",
         "convert",

@@ -1,6 +1,6 @@
 // The library for C and Rust: each answer as numbers.
 ghost use mathlib.Core.Path.{_≡_};
-ghost use lib.ListN.{length};
+ghost use lib.ListN.{length, replicate};
 ghost use Rattle.format.specs.Header.{openingOf};
 ghost use Rattle.format.specs.Reading.{readOutcome, readBuffer};
 ghost use Rattle.format.specs.Writing.{v8, v7, writeOutcome, writeBuffer};
@@ -17,6 +17,7 @@ ghost use Rattle.step.specs.Going.{nextRecord, nextBuffer};
 ghost use Rattle.held.specs.Numbers.{heldOf, stateStand};
 ghost use Rattle.told.specs.Numbers.{outcomeNumbers, openNumbers, stepNumbers};
 ghost use Rattle.read.specs.Salvage.{salvageOutcome, salvageBuffer, salvagedOf};
+ghost use Rattle.strict.specs.Strict.{strictOutcome, strictBuffer};
 ghost use Rattle.sha256.specs.Digest.{sha256Of};
 ghost use Rattle.sha256.specs.Streams.{updated, finished, begun, runningOf, stateStream};
 ghost use Rattle.capi.specs.Compares.{comparedOf};
@@ -146,6 +147,23 @@ pub extern "C" fn cockledrift_salvage(file: &[u8], sheet: &mut [u8]) -> SalvageN
 {
     let s = read::salvage(file, sheet);
     tell_saved(s)
+}
+
+// Reads a file into the lent sheet and refuses unknown and moved stations, with lent room
+// for an index of names and a seed for its hash. The room then holds zeros.
+#[no_mangle]
+pub extern "C" fn cockledrift_read_strict(
+    file: &[u8],
+    sheet: &mut [u8],
+    room: &mut [u8],
+    seed: u64,
+) -> AnswerNumbers
+    ensures answer { λ r. ⌜ r ≡ outcomeNumbers (strictOutcome (now (file .entry)) (length (now (room .entry))) (length (now (sheet .entry)))) ⌝ }
+    ensures sheet { λ _. ⌜ now (sheet .exit) ≡ strictBuffer (now (file .entry)) (length (now (room .entry))) (now (sheet .entry)) ⌝ }
+    ensures room { λ _. ⌜ now (room .exit) ≡ replicate (length (now (room .entry))) 0 ⌝ }
+{
+    let a = strict::read_strict(file, sheet, room, seed);
+    told::tell(a)
 }
 
 // Writes a sheet as a v8 file into the lent buffer.

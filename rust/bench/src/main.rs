@@ -75,7 +75,10 @@ mod view {
         }
     }
     summaries::report(repeats);
+    strict::report(repeats);
 }
+
+mod strict;
 
 /// How far the legs of a sheet reach: of all of them, of a survey that all are in, and of one that
 /// a leg in 28 is in. Nothing is lent but the sheet.

@@ -8,7 +8,7 @@ _cockledrift()
         case ${COMP_WORDS[1]} in
             info) words='--json --quiet --color --help' ;;
             list) words='--raw --records --csv --json --quiet --color --help' ;;
-            check) words='--json --quiet --color --help' ;;
+            check) words='--strict --json --quiet --color --help' ;;
             later) words='--json --quiet --color --help' ;;
             convert) words='--to --output --force --json --quiet --color --help' ;;
             salvage) words='--output --force --json --quiet --color --help' ;;

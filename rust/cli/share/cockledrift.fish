@@ -23,6 +23,7 @@ complete -c cockledrift -n '__fish_seen_subcommand_from list' -l json -d 'result
 complete -c cockledrift -n '__fish_seen_subcommand_from list' -l quiet -s q -d 'no results and no warnings: errors and the exit status alone'
 complete -c cockledrift -n '__fish_seen_subcommand_from list' -l color -r -d 'auto, always or never; NO_COLOR is heeded too'
 complete -c cockledrift -n '__fish_seen_subcommand_from list' -l help -s h -d 'this text'
+complete -c cockledrift -n '__fish_seen_subcommand_from check' -l strict -d 'each cross-section at a known station, each station at one place'
 complete -c cockledrift -n '__fish_seen_subcommand_from check' -l json -d 'results as one JSON object a line'
 complete -c cockledrift -n '__fish_seen_subcommand_from check' -l quiet -s q -d 'no results and no warnings: errors and the exit status alone'
 complete -c cockledrift -n '__fish_seen_subcommand_from check' -l color -r -d 'auto, always or never; NO_COLOR is heeded too'

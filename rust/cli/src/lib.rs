@@ -17,6 +17,7 @@ pub mod man;
 pub mod output;
 pub mod refusals;
 pub mod script;
+pub mod strict;
 pub mod table;
 pub mod text;
 pub mod time;

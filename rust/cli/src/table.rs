@@ -106,7 +106,7 @@ pub const COMMANDS: &[Command] = &[
         words: "says which files are good and where others are broken",
         more: "A line a file, and a closing count. Of a folder all files are looked at whose names end in .3d.",
         example: "cockledrift check archive",
-        flags: &[],
+        flags: &[flag("--strict", "each cross-section at a known station, each station at one place")],
         run: check::run,
     },
     Command {

@@ -136,6 +136,45 @@ fn check() {
 }
 
 #[test]
+fn check_strictly() {
+    let folder = folder("strict");
+    let station = |file: &mut Vec<u8>, label: &[u8], x: u8| {
+        file.extend([0x80]);
+        file.extend(label);
+        file.extend([x, 0, 0, 0, 0, 0, 0, 0, 0, 0, 0, 0]);
+    };
+    let head = b"Survex 3D Image File\nv8\nA\n@0\n\0";
+    let mut moved = head.to_vec();
+    station(&mut moved, b"\x03a.1", 0);
+    station(&mut moved, b"\x01\x32", 0);
+    station(&mut moved, b"\x11\x31", 150); // a.12 to a.11
+    station(&mut moved, b"\x10", 150); // a.1 again, at another place
+    moved.extend([0, 0]);
+    fs::write(folder.join("moved.3d"), &moved).expect("a file");
+    let mut early = head.to_vec();
+    early.extend(b"\x30\x03a.1\0\0\0\0\0\0\0\0");
+    station(&mut early, b"\0\0\0", 7);
+    early.extend([0, 0]);
+    fs::write(folder.join("early.3d"), &early).expect("a file");
+    fs::write(folder.join("good.3d"), data_bytes("passage.v8.3d")).expect("a file");
+    let ran = run_in(&folder, &["check", "."]);
+    assert_eq!((ran.code, ran.out.ends_with("3 files: 3 good, 0 refused\n")), (0, true));
+    let ran = run_in(&folder, &["check", "--strict", "."]);
+    let due = "./early.3d: refused 18 at byte 30: a cross-section of a name that no earlier station has \
+        (record 0, section a.1: left 0.00 right 0.00 up 0.00 down 0.00 m, no date; \
+        behind it record 1, station a.1: (0.07 0.00 0.00) m)\n\
+        ./good.3d: good, v8\n\
+        ./moved.3d: refused 19 at byte 77: a station whose name came earlier at another place \
+        (record 3, station a.1: (1.50 0.00 0.00) m; before it record 0, station a.1: (0.00 0.00 0.00) m)\n\
+        3 files: 1 good, 2 refused\n";
+    assert_eq!((ran.code, &ran.out[..], &ran.err[..]), (1, due, ""));
+    let ran = run_in(&folder, &["check", "--strict", "--json", "moved.3d"]);
+    has(&ran.out, "\"refused\": 19, \"place\": 77, \"place_counts\": \"byte\"");
+    has(&ran.out, "\"record\": 3, \"record_is\": \"station a.1: (1.50 0.00 0.00) m\"");
+    has(&ran.out, "\"station\": 0, \"station_is\": \"station a.1: (0.00 0.00 0.00) m\"}");
+}
+
+#[test]
 fn later() {
     let folder = desk("later");
     fs::write(folder.join("a.3d"), small("A", "@1016373666")).expect("a file");

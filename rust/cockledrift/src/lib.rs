@@ -49,7 +49,8 @@
 //! # Lent buffers
 //!
 //! A refusal leaves every lent buffer as it was; success writes from the front
-//! and leaves the rest. Only [`convert`] has a third case, which it tells. To
+//! and leaves the rest. Only [`convert`] has a third case, which it tells, and the
+//! room for names that [`read_strict`] is lent always ends as zeros. To
 //! learn how long a buffer has to be, lend an empty one: the refusal that comes
 //! back has [`Refusal::needed`].
 
@@ -73,6 +74,7 @@ mod sheet;
 mod step;
 mod viewer;
 mod summary;
+mod strict;
 mod write;
 
 pub use answer::{number, Answer, Done, Refusal};
@@ -88,4 +90,5 @@ pub use sheet::{Header, Sheet};
 pub use step::{Found, Opened, Reader, Step, RECORD_LIMIT};
 pub use viewer::{viewer_legs, viewer_legs_vec, NUMBERS_EACH};
 pub use summary::{entrances, summarize, summary_words, update_summary, Entrances, Summary};
+pub use strict::{names_room, read_strict, read_strict_vec};
 pub use write::{write, write_v7, write_v7_vec, write_vec};

@@ -117,6 +117,15 @@ pub const DIGEST: usize = 32;
 extern "C" {
     fn cockledrift_read(file: *const u8, n: usize, sheet: *mut u8, m: usize) -> AnswerNumbers;
     fn cockledrift_salvage(file: *const u8, n: usize, sheet: *mut u8, m: usize) -> SalvageNumbers;
+    fn cockledrift_read_strict(
+        file: *const u8,
+        n: usize,
+        sheet: *mut u8,
+        m: usize,
+        room: *mut u8,
+        k: usize,
+        seed: u64,
+    ) -> AnswerNumbers;
     fn cockledrift_write(sheet: *const u8, n: usize, out: *mut u8, m: usize) -> AnswerNumbers;
     fn cockledrift_write_v7(sheet: *const u8, n: usize, out: *mut u8, m: usize) -> AnswerNumbers;
     fn cockledrift_convert(
@@ -219,6 +228,12 @@ pub fn salvage(file: &[u8], sheet: &mut [u8]) -> SalvageNumbers {
     let (sheet, room) = lend(sheet);
     // SAFETY: each pointer goes with the length of its own slice, which outlives the call.
     unsafe { cockledrift_salvage(file.as_ptr(), file.len(), sheet, room) }
+}
+
+pub fn read_strict(file: &[u8], sheet: &mut [u8], names: &mut [u8], seed: u64) -> AnswerNumbers {
+    let ((sheet, m), (names, k)) = (lend(sheet), lend(names));
+    // SAFETY: each pointer goes with the length of its own slice, which outlives the call.
+    unsafe { cockledrift_read_strict(file.as_ptr(), file.len(), sheet, m, names, k, seed) }
 }
 
 pub fn write(sheet: &[u8], out: &mut [u8]) -> AnswerNumbers {

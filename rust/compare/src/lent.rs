@@ -57,6 +57,9 @@ pub enum Fills {
     First,
     /// The first, and then the second: converting.
     Both,
+    /// The first; the second may hold anything between, and is compared: reading
+    /// strictly.
+    Cleared,
 }
 
 /// Calls both with buffers of these lengths. Both must answer the same and
@@ -102,6 +105,8 @@ fn filled(fills: Fills, answer: Answer, lengths: (usize, usize)) -> [usize; 2] {
         // A reader's refusal, or one that may be a writer's.
         (Fills::Both, Answer::Refused { number: 0..=10, .. }) => [0, 0],
         (Fills::Both, Answer::Refused { .. }) => [lengths.0, 0],
+        (Fills::Cleared, Answer::Done { bytes, .. }) => [bytes.min(lengths.0), lengths.1],
+        (Fills::Cleared, Answer::Refused { .. }) => [0, lengths.1],
     }
 }
 

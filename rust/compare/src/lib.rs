@@ -51,6 +51,28 @@ pub fn salvage(file: &[u8]) -> Result<Salvaged, Difference> {
     Ok(last)
 }
 
+/// Reading strictly, with room of so many bytes for names, at several lengths of
+/// the sheet: however it ends, the room holds zeros.
+pub fn read_strict(file: &[u8], names: usize, seed: u64) -> Result<Answer, Difference> {
+    let cleared = |answer: Answer, room: &[u8]| {
+        assert!(room.iter().all(|byte| *byte == 0), "the room of {}", hex(file));
+        answer
+    };
+    let proved = |sheet: &mut [u8], room: &mut [u8]| {
+        cleared(proved::read_strict(file, sheet, room, seed), room)
+    };
+    let second = |sheet: &mut [u8], room: &mut [u8]| second::read_strict(file, sheet, room);
+    let same = |length| same(Fills::Cleared, &proved, &second, (length, names));
+    let Some(exact) = need(second(&mut [], &mut vec![0; names])) else {
+        same(0)?;
+        return same(3 * file.len() + 100);
+    };
+    for length in [0, exact - 1, exact] {
+        same(length)?;
+    }
+    same(exact + 1 + exact % 40)
+}
+
 /// What salvaging answers but for its report.
 fn plain(saved: Salvaged) -> Answer {
     match saved {

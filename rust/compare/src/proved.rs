@@ -31,6 +31,10 @@ pub fn salvage(file: &[u8], sheet: &mut [u8]) -> Salvaged {
     }
 }
 
+pub fn read_strict(file: &[u8], sheet: &mut [u8], names: &mut [u8], seed: u64) -> Answer {
+    answer(cockledrift::read_strict(file, sheet, names, seed))
+}
+
 pub fn write(sheet: &[u8], out: &mut [u8]) -> Answer {
     answer(cockledrift::write(sheet, out))
 }

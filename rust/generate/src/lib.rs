@@ -12,6 +12,7 @@ pub mod record;
 pub mod rng;
 pub mod sheet_edges;
 pub mod sheets;
+pub mod stations;
 pub mod surveys;
 pub mod times;
 pub mod valid;

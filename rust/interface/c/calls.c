@@ -232,6 +232,9 @@ static void call(char *line, const struct request *r, const uint8_t *a, const ui
     switch (r->letter) {
     case 'r': say_answer(line, cockledrift_read(a, n, to, room)); break;
     case 'v': say_salvaged(line, cockledrift_salvage(a, n, to, room)); break;
+    case 'i':
+        say_answer(line, cockledrift_read_strict(a, n, to, room, second.start, second.bytes, r->first));
+        break;
     case 'w': say_answer(line, cockledrift_write(a, n, to, room)); break;
     case '7': say_answer(line, cockledrift_write_v7(a, n, to, room)); break;
     case 'c': say_answer(line, cockledrift_convert(a, n, to, room, second.start, second.bytes)); break;

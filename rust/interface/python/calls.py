@@ -61,6 +61,7 @@ def parts(data, first):
 CALLS = {
     "r": lambda a, b, first, count: cockledrift.read(a).bytes.hex(),
     "v": lambda a, b, first, count: salvaged(a),
+    "i": lambda a, b, first, count: cockledrift.read_strict(a, first or None).bytes.hex(),
     "t": lambda a, b, first, count: b"".join(r.lay() for r in cockledrift.Sheet(a).records()).hex(),
     "w": lambda a, b, first, count: cockledrift.write(a).hex(),
     "7": lambda a, b, first, count: cockledrift.write_v7(a).hex(),

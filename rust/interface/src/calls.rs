@@ -63,6 +63,11 @@ impl Memory {
         let line = match letter {
             b'r' => answered(cockledrift::read(a, out), out, second),
             b'v' => salvaged(cockledrift::salvage(a, out), out),
+            b'i' => {
+                let answer = cockledrift::read_strict(a, out, second, *first as u64);
+                assert!(second.iter().all(|byte| *byte == 0), "the room for names ends as zeros");
+                answered(answer, out, second)
+            }
             b'w' => answered(cockledrift::write(a, out), out, second),
             b'7' => answered(cockledrift::write_v7(a, out), out, second),
             b'c' => answered(cockledrift::convert(a, out, second), out, second),

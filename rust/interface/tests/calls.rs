@@ -104,6 +104,12 @@ fn of_file(file: &[u8], before: &[u8]) -> Vec<Request> {
         Request::new(b'r', file, room),
         Request::new(b'v', file, 0),
         Request::new(b'v', file, room + 5000),
+        Request { second_room: 31, ..Request::new(b'i', file, room) },
+        Request {
+            second_room: cockledrift::names_room(file).min(ROOM - 100),
+            first: file.len(),
+            ..Request::new(b'i', file, room)
+        },
         Request::new(b'p', file, room),
         Request::new(b's', file, cockledrift::RECORD_LIMIT),
         Request::new(b'n', file, 40),
@@ -255,6 +261,7 @@ fn damaged_files_are_answered_alike() {
     println!("{} calls, by letter and number: {seen:?}", seen.values().sum::<usize>());
     must_have_seen(&seen, 'r', &[0, 1, 2, 3, 4, 5, 6, 7, 8, 9, 10, 11]);
     must_have_seen(&seen, 'v', &[0, 1, 2, 3, 11]);
+    must_have_seen(&seen, 'i', &[0, 1, 2, 3, 4, 5, 6, 7, 8, 9, 10, 18, 22]);
     must_have_seen(&seen, 's', &[0, 1, 2, 3, 4, 5, 6, 7, 8, 9, 10]);
     must_have_seen(&seen, 'n', &[0, 5, 10, 11]);
     must_have_seen(&seen, 'c', &[0, 5, 11]);

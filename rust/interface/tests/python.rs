@@ -45,6 +45,7 @@ impl Call {
                 let number = saved.refusal.map_or(0, |refusal| refusal.number);
                 format!("{number} {} {} {}", saved.place, saved.left, hex(&sheet))
             })),
+            b'i' => said(cockledrift::read_strict_vec(a, *first as u64).map(|sheet| hex(&sheet))),
             b't' => said(Sheet::of(a.clone()).map(|sheet| hex(&laid(sheet.records())))),
             b'w' => said(cockledrift::write_vec(a).map(|file| hex(&file))),
             b'7' => said(cockledrift::write_v7_vec(a).map(|file| hex(&file))),
@@ -164,6 +165,7 @@ fn files_are_answered_alike() {
     let mut calls = Vec::new();
     for (place, (_, file)) in files.iter().enumerate().step_by(2) {
         calls.push(Call::new(b'v', file));
+        calls.push(Call { first: place, ..Call::new(b'i', file) });
         calls.extend(b"rpcsn".map(|letter| Call::new(letter, file)));
         calls.push(Call::new(b'd', file));
         calls.push(Call { first: file.len() / 3, ..Call::new(b'D', file) });

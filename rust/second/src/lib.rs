@@ -21,6 +21,7 @@ mod state;
 mod step;
 mod strict;
 mod summary;
+mod strict;
 mod v7;
 mod v8;
 mod viewer;
@@ -35,6 +36,7 @@ pub use step::{open, Opened, Step, Stepper};
 pub use viewer::{viewer_legs, Viewed};
 pub use strict::read_strict;
 pub use summary::{entrances, summarize, update_summary, Entrances, Summary};
+pub use strict::read_strict;
 pub use write::{write, write_v7};
 
 use write::write_made;

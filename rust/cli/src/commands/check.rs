@@ -4,7 +4,7 @@ use crate::args::Given;
 use crate::desk::{Color, Desk, Outcome, Status, Stop};
 use crate::json::Object;
 use crate::text::{many, shown};
-use crate::{file, refusals, walk};
+use crate::{file, refusals, strict, walk};
 use cockledrift::{Opened, Refusal};
 use std::ffi::{OsStr, OsString};
 use std::os::unix::ffi::OsStrExt;
@@ -15,7 +15,7 @@ pub fn run(given: &Given, desk: &mut Desk) -> Outcome {
     let (mut good, mut refused, mut unread) = (0, 0, 0);
     for (number, name) in names.iter().enumerate() {
         desk.progress(number, names.len());
-        match one(name, desk) {
+        match one(name, given.has("--strict"), desk) {
             Ok(true) => good += 1,
             Ok(false) => refused += 1,
             Err(Stop::Said(_, words)) => {
@@ -52,11 +52,14 @@ fn found(given: &Given, desk: &mut Desk) -> (Vec<OsString>, Status) {
     (names, status)
 }
 
-fn one(name: &OsStr, desk: &mut Desk) -> Result<bool, Stop> {
+fn one(name: &OsStr, strictly: bool, desk: &mut Desk) -> Result<bool, Stop> {
     let bytes = file::load(name)?;
-    let judged = file::judge(&bytes);
+    let judged = match strictly {
+        true => strict::judge(name, &bytes)?,
+        false => file::judge(&bytes),
+    };
     let line = match desk.json {
-        true => object(name, &judged),
+        true => object(name, &bytes, &judged),
         false => text(name, &bytes, &judged, desk),
     };
     desk.line(&line)?;
@@ -68,16 +71,16 @@ fn text(name: &OsStr, bytes: &[u8], judged: &Result<Opened, Refusal>, desk: &Des
     match judged {
         Ok(opened) => format!("{name}: {}, v{}", desk.paint("good", Color::Green), opened.version),
         Err(refusal) => {
-            let told = refusals::told(bytes, refusal);
+            let told = refusals::told(bytes, refusal) + &strict::told(bytes, refusal);
             format!("{name}: {}", told.replacen("refused", &desk.paint("refused", Color::Red), 1))
         }
     }
 }
 
-fn object(name: &OsStr, judged: &Result<Opened, Refusal>) -> String {
+fn object(name: &OsStr, bytes: &[u8], judged: &Result<Opened, Refusal>) -> String {
     let object = Object::new().bytes("file", name.as_bytes()).raw("good", judged.is_ok());
     match judged {
         Ok(opened) => object.raw("version", opened.version).end(),
-        Err(refusal) => refusals::object(object, refusal).end(),
+        Err(refusal) => strict::object(refusals::object(object, refusal), bytes, refusal).end(),
     }
 }

@@ -1,0 +1,5 @@
+pub mod StrictLaws
+pub mod PromiseLaws
+mod Judging
+mod Turn
+mod Whole

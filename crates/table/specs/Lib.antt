@@ -1,0 +1,5 @@
+pub mod Hash
+pub mod Room
+pub mod Entries
+pub mod Good
+pub mod Told
