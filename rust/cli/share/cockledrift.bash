@@ -1,9 +1,13 @@
 # Completion of cockledrift for bash.
 _cockledrift()
 {
-    local word=${COMP_WORDS[COMP_CWORD]} words=
+    local word=${COMP_WORDS[COMP_CWORD]} before=${COMP_WORDS[COMP_CWORD-1]} words=
     if [ "$COMP_CWORD" -eq 1 ]; then
         words='info list check later convert salvage measure entrances catalogue verify restore diff edit help --help --version'
+    elif [ "$before" = --to ]; then
+        words='8 7'
+    elif [ "$before" = --color ]; then
+        words='auto always never'
     elif [[ $word == -* ]]; then
         case ${COMP_WORDS[1]} in
             info) words='--json --quiet --color --help' ;;

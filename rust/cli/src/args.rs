@@ -34,7 +34,7 @@ impl Given {
 
     /// The value of an option that is a word.
     pub fn text(&self, long: &str) -> Result<Option<&str>, Stop> {
-        let words = || Stop::trouble(format!("cockledrift: {long} takes a word"));
+        let words = || self.usage(&format!("{long} takes a word"));
         self.value(long).map(|value| value.to_str().ok_or_else(words)).transpose()
     }
 

@@ -2,22 +2,59 @@
 
 use crate::table::{Command, Flag, COMMANDS, COMMON};
 
+/// What stands for a value.
+enum Value {
+    Words(&'static str),
+    Folder,
+    File,
+    /// A name or a number, which no shell knows.
+    Other,
+}
+
+fn value(name: &str) -> Value {
+    match name {
+        "WHEN" => Value::Words("auto always never"),
+        "VERSION" => Value::Words("8 7"),
+        "DIR" => Value::Folder,
+        "FILE" | "RECORDS" => Value::File,
+        _ => Value::Other,
+    }
+}
+
+/// What may stand in the place of a command.
+const OTHERS: [(&str, &str); 3] = [
+    ("help", "says what a command does"),
+    ("--help", "names all commands"),
+    ("--version", "says what this is"),
+];
+
 fn flags(command: &Command) -> impl Iterator<Item = &Flag> {
     command.flags.iter().chain(COMMON)
 }
 
-fn names() -> String {
-    COMMANDS.iter().map(|command| command.name).collect::<Vec<_>>().join(" ")
+/// The commands with their words, then the others.
+fn first() -> impl Iterator<Item = (&'static str, &'static str)> {
+    COMMANDS.iter().map(|command| (command.name, command.words)).chain(OTHERS)
 }
 
 /// For bash.
 pub fn bash() -> String {
     let mut text = String::from("# Completion of cockledrift for bash.\n_cockledrift()\n{\n");
-    text += "    local word=${COMP_WORDS[COMP_CWORD]} words=\n";
-    text += &format!(
-        "    if [ \"$COMP_CWORD\" -eq 1 ]; then\n        words='{} help --help --version'\n",
-        names()
-    );
+    text += "    local word=${COMP_WORDS[COMP_CWORD]} before=${COMP_WORDS[COMP_CWORD-1]} words=\n";
+    let names: Vec<_> = first().map(|(name, _)| name).collect();
+    text +=
+        &format!("    if [ \"$COMP_CWORD\" -eq 1 ]; then\n        words='{}'\n", names.join(" "));
+    let all = COMMANDS.iter().flat_map(|command| command.flags).chain(COMMON);
+    let mut seen = Vec::new();
+    for flag in all {
+        if let Some(Value::Words(words)) = flag.value.map(value) {
+            if !seen.contains(&flag.long) {
+                seen.push(flag.long);
+                text += &format!("    elif [ \"$before\" = {} ]; then\n", flag.long);
+                text += &format!("        words='{words}'\n");
+            }
+        }
+    }
     text += "    elif [[ $word == -* ]]; then\n        case ${COMP_WORDS[1]} in\n";
     for command in COMMANDS {
         let words: Vec<_> = flags(command).map(|flag| flag.long).collect();
@@ -33,8 +70,8 @@ pub fn bash() -> String {
 pub fn zsh() -> String {
     let mut text = String::from("#compdef cockledrift\n# Completion of cockledrift for zsh.\n");
     text += "if (( CURRENT == 2 )); then\n    local -a commands=(\n";
-    for command in COMMANDS {
-        text += &format!("        '{}:{}'\n", command.name, zsh_plain(command.words));
+    for (name, words) in first() {
+        text += &format!("        '{name}:{}'\n", zsh_plain(words));
     }
     text += "    )\n    _describe command commands\n    return\nfi\ncase ${words[2]} in\n";
     for command in COMMANDS {
@@ -48,15 +85,20 @@ pub fn zsh() -> String {
 }
 
 fn zsh_plain(words: &str) -> String {
-    words.replace('\'', "'\\''").replace(['[', ']', ':'], "")
+    words.replace('\'', "'\\''").replace('[', "\\[").replace(']', "\\]").replace(':', "\\:")
 }
 
 fn zsh_flag(flag: &Flag) -> String {
-    let value = flag.value.map(|value| format!(":{value}:_files")).unwrap_or_default();
-    let words = zsh_plain(flag.words);
-    let mut text = format!("            '{}[{words}]{value}' \\\n", flag.long);
+    let action = |name: &str| match value(name) {
+        Value::Words(words) => format!(":{name}:({words})"),
+        Value::Folder => format!(":{name}:_files -/"),
+        Value::File => format!(":{name}:_files"),
+        Value::Other => format!(":{name}:"),
+    };
+    let (action, words) = (flag.value.map(action).unwrap_or_default(), zsh_plain(flag.words));
+    let mut text = format!("            '{}[{words}]{action}' \\\n", flag.long);
     if let Some(letter) = flag.short {
-        text += &format!("            '-{letter}[{words}]{value}' \\\n");
+        text += &format!("            '-{letter}[{words}]{action}' \\\n");
     }
     text
 }
@@ -64,24 +106,34 @@ fn zsh_flag(flag: &Flag) -> String {
 /// For fish.
 pub fn fish() -> String {
     let mut text = String::from("# Completion of cockledrift for fish.\n");
-    for command in COMMANDS {
-        let (name, words) = (command.name, fish_plain(command.words));
+    text += "complete -c cockledrift -n __fish_use_subcommand -f\n";
+    for (name, words) in first() {
+        let words = fish_plain(words);
         text +=
             &format!("complete -c cockledrift -n __fish_use_subcommand -a {name} -d '{words}'\n");
     }
     for command in COMMANDS {
         for flag in flags(command) {
-            let under = format!("-n '__fish_seen_subcommand_from {}'", command.name);
-            let short = flag.short.map(|letter| format!(" -s {letter}")).unwrap_or_default();
-            let value = if flag.value.is_some() { " -r" } else { "" };
-            let (long, words) = (flag.long.trim_start_matches('-'), fish_plain(flag.words));
-            text +=
-                &format!("complete -c cockledrift {under} -l {long}{short}{value} -d '{words}'\n");
+            text += &fish_flag(command, flag);
         }
     }
     text
 }
 
+fn fish_flag(command: &Command, flag: &Flag) -> String {
+    let under = format!("-n '__fish_seen_subcommand_from {}'", command.name);
+    let short = flag.short.map(|letter| format!(" -s {letter}")).unwrap_or_default();
+    let value = match flag.value.map(value) {
+        None => String::new(),
+        Some(Value::Words(words)) => format!(" -x -a '{words}'"),
+        Some(Value::Folder) => " -x -a '(__fish_complete_directories)'".into(),
+        Some(Value::File) => " -r".into(),
+        Some(Value::Other) => " -x".into(),
+    };
+    let (long, words) = (flag.long.trim_start_matches('-'), fish_plain(flag.words));
+    format!("complete -c cockledrift {under} -l {long}{short}{value} -d '{words}'\n")
+}
+
 fn fish_plain(words: &str) -> String {
-    words.replace('\'', "\\'")
+    words.replace('\\', "\\\\").replace('\'', "\\'")
 }

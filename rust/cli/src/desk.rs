@@ -41,6 +41,8 @@ pub struct Desk {
     out: BufWriter<Stdout>,
     pub json: bool,
     pub quiet: bool,
+    /// Whether results go to a terminal.
+    pub terminal: bool,
     color: bool,
     started: Instant,
     progress: bool,
@@ -60,6 +62,7 @@ impl Desk {
             out: BufWriter::new(io::stdout()),
             json: false,
             quiet: false,
+            terminal: io::stdout().is_terminal(),
             color: false,
             started: Instant::now(),
             progress: io::stderr().is_terminal(),
@@ -74,10 +77,10 @@ impl Desk {
         self.progress &= !self.quiet;
         let plain = std::env::var_os("NO_COLOR").is_some_and(|value| !value.is_empty());
         self.color = match given.text("--color")? {
-            None | Some("auto") => !plain && io::stdout().is_terminal(),
+            None | Some("auto") => !plain && self.terminal,
             Some("always") => true,
             Some("never") => false,
-            Some(_) => return Err(Stop::trouble("--color takes auto, always or never")),
+            Some(_) => return Err(given.usage("--color takes auto, always or never")),
         };
         Ok(())
     }

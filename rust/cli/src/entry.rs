@@ -1,6 +1,6 @@
 //! What a catalogue says of a file.
 
-use crate::disk::READ_LIMIT;
+use crate::disk::{self, READ_LIMIT};
 use crate::text::hex;
 use crate::{file, time};
 use cockledrift::{Refusal, Sha256};
@@ -23,7 +23,11 @@ pub struct Entry {
 
 /// The SHA-256 of a file, its length, and its bytes up to the limit.
 pub fn digest(path: &Path) -> io::Result<(String, u64, Vec<u8>)> {
-    let (mut from, mut running) = (File::open(path)?, Sha256::start());
+    disk::steady(&mut File::open(path)?, digested)
+}
+
+fn digested(from: &mut File) -> io::Result<(String, u64, Vec<u8>)> {
+    let mut running = Sha256::start();
     let (mut part, mut front, mut length) = (vec![0; 1 << 16], Vec::new(), 0);
     loop {
         match from.read(&mut part) {
@@ -46,7 +50,6 @@ impl Entry {
         let judged = file::judge(&front);
         let opened = cockledrift::Reader::open(&front).1.ok();
         let header = opened.as_ref().and_then(|opened| file::header(&front, opened).ok());
-        let count = || file::each(&front, |_, _| Ok(())).ok().and_then(Result::ok).unwrap_or(0);
         Ok(Entry {
             digest,
             bytes,
@@ -54,7 +57,7 @@ impl Entry {
             title: header.as_ref().map(|sheet| sheet.header().title.into()),
             line: header.as_ref().map(|sheet| sheet.header().time.into()),
             version: opened.map(|opened| opened.version),
-            records: judged.map(|_| count()),
+            records: judged.and_then(|_| file::count(&front)),
         })
     }
 }

@@ -1,6 +1,6 @@
 //! One object a line.
 
-use crate::text::hex;
+use crate::text::{drives, hex};
 
 /// An object in the making.
 pub struct Object(String);
@@ -55,7 +55,7 @@ pub fn quoted(text: &str) -> String {
     for letter in text.chars() {
         match letter {
             '"' | '\\' => out.extend(['\\', letter]),
-            _ if letter < ' ' => out += &format!("\\u{:04x}", letter as u32),
+            _ if drives(letter) => out += &format!("\\u{:04x}", letter as u32),
             _ => out.push(letter),
         }
     }

@@ -12,7 +12,6 @@ pub mod entry;
 pub mod file;
 pub mod help;
 pub mod json;
-pub mod lines;
 pub mod man;
 pub mod output;
 pub mod refusals;

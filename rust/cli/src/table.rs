@@ -57,7 +57,7 @@ pub const EXITS: &str = "Exit status: 0 good; 1 the answer is no (refused, diffe
     2 trouble (usage, input, output).";
 
 pub const LIMITS: &str = "Files of up to 16 MiB (16,777,216 bytes), versions 3 to 8. \
-    For Linux on x86-64.";
+    For Linux on x86-64. A file .cockledrift-*.part was left by a run that was cut off.";
 
 /// The text of `--version`.
 pub fn version() -> String {
@@ -114,8 +114,9 @@ pub const COMMANDS: &[Command] = &[
         operands: "A B",
         count: (2, 2),
         words: "says which of two files is later",
-        more: "Both times to the second, and the difference in words. Exit status 0 where both times can be read.",
-        example: "cockledrift later old.3d new.3d",
+        more: "Both times to the second, and the difference in words. Exit status 0 where A is later than B;\n\
+               1 where it is older or has the same second, or where a time cannot be read.",
+        example: "cockledrift later new.3d old.3d && echo new.3d is the later one",
         flags: &[],
         run: later::run,
     },
@@ -174,7 +175,8 @@ pub const COMMANDS: &[Command] = &[
         words: "writes down what an archive holds",
         more: "Sorted and tab-separated: SHA-256, bytes, time in UTC, time line, version, records, title, path\n\
                and marks: 'same minute' as another file and not the same second, 'older' than another\n\
-               file of the same title, 'refused' with its number. Other bytes than text are \\xNN.",
+               file of the same title or the 'latest' of them, 'refused' with its number. Other bytes than\n\
+               text are \\xNN. All files count whose names end in .3d.",
         example: "cockledrift catalogue archive -o archive.tsv",
         flags: &[
             flag("--sums", "SHA-256 and path alone, as sha256sum -c reads them"),
@@ -189,7 +191,8 @@ pub const COMMANDS: &[Command] = &[
         count: (1, 1),
         words: "says which files of an archive are missing, changed, moved or new",
         more: "By their SHA-256: most changed bytes leave a 3d file that still reads.\n\
-               The folder is the one that the catalogue was made of.",
+               The folder is the one that the catalogue was made of, unless --folder names another.\n\
+               A catalogue of which a part is missing is not taken.",
         example: "cockledrift verify archive.tsv",
         flags: &[valued("--folder", "DIR", "where the archive is now")],
         run: verify::run,
@@ -200,7 +203,9 @@ pub const COMMANDS: &[Command] = &[
         count: (2, 2),
         words: "puts a file back into its place, unless a later one is there",
         more: "Refuses where TO is later, where a time cannot be read, and where the times are the same\n\
-               and the bytes are not. The replaced file is kept beside TO, under its own time.",
+               and the bytes are not. The replaced file is kept beside TO, under its own time. Where there\n\
+               is no TO, nothing is judged: a damaged file of the same time is moved away first. A link is\n\
+               followed. TO keeps its owner, group and mode.",
         example: "cockledrift restore archive/cave.3d cave.3d",
         flags: &[
             flag("--even-if-older", "also where TO is later"),

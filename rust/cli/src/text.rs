@@ -9,8 +9,18 @@ use std::os::unix::ffi::OsStrExt;
 pub fn shown(name: impl AsRef<OsStr>) -> String {
     match name.as_ref() {
         name if name == "-" => "standard input".into(),
+        name if name.is_empty() => "(an empty name)".into(),
         name => escaped(name.as_bytes()),
     }
+}
+
+/// Whether a terminal may take the character for something else than a letter:
+/// control characters, and marks that break lines, turn the direction or are not
+/// seen. All are below U+10000.
+pub fn drives(letter: char) -> bool {
+    letter.is_control()
+        || matches!(letter, '\u{61c}' | '\u{200b}'..='\u{200f}' | '\u{2028}'..='\u{202e}')
+        || matches!(letter, '\u{2060}'..='\u{206f}' | '\u{feff}')
 }
 
 /// Bytes on one line: what is not UTF-8, control characters and the backslash
@@ -19,14 +29,9 @@ pub fn escaped(bytes: &[u8]) -> String {
     let mut text = String::new();
     for part in bytes.utf8_chunks() {
         for letter in part.valid().chars() {
-            match letter {
-                '\\'
-                | '\u{200e}'
-                | '\u{200f}'
-                | '\u{2028}'..='\u{202e}'
-                | '\u{2066}'..='\u{2069}' => hexed(&mut text, letter),
-                _ if letter.is_control() => hexed(&mut text, letter),
-                _ => text.push(letter),
+            match letter == '\\' || drives(letter) {
+                true => hexed(&mut text, letter),
+                false => text.push(letter),
             }
         }
         part.invalid().iter().for_each(|byte| text += &format!("\\x{byte:02x}"));
@@ -71,8 +76,8 @@ pub fn reason(error: &io::Error) -> String {
 }
 
 /// Centimetres in metres.
-pub fn metres(centimetres: impl Into<i128>) -> String {
-    let all: i128 = centimetres.into();
+pub fn metres(centimetres: impl Into<i64>) -> String {
+    let all: i64 = centimetres.into();
     let sign = if all < 0 { "-" } else { "" };
     format!("{sign}{}.{:02}", all.abs() / 100, all.abs() % 100)
 }

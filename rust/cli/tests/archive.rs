@@ -35,13 +35,13 @@ fn catalogue() {
     let ran = run_in(&folder, &["catalogue", "arc"]);
     assert_eq!((ran.code, &ran.err[..]), (0, ""));
     let lines: Vec<_> = ran.out.lines().collect();
-    assert_eq!(lines.len(), 7);
-    assert_eq!(lines[0], "# cockledrift catalogue 1\tarc");
-    assert!(lines.iter().skip(1).all(|line| line.split('\t').count() == 9), "{lines:?}");
+    assert_eq!(lines.len(), 8);
+    assert_eq!((lines[0], lines[7]), ("# cockledrift catalogue 1\tarc", "# end 5"));
+    assert!(lines[1..7].iter().all(|line| line.split('\t').count() == 9), "{lines:?}");
     has(lines[2], "\t44\t2002-03-17T14:01:06Z\t@1016373666\t8\t0\tCave\ta.3d\tsame minute,older");
     has(
         lines[3],
-        "\t2002-03-17T14:01:07Z\tSun,2002.03.17 14:01:07 GMT\t8\t0\tCave\tb.3d\tsame minute",
+        "\t2002-03-17T14:01:07Z\tSun,2002.03.17 14:01:07 GMT\t8\t0\tCave\tb.3d\tsame minute,latest",
     );
     has(lines[4], "\t652\t2026-11-15T17:03:45Z\t");
     assert!(lines[4].ends_with("\tsub/c.3d\t"), "{}", lines[4]);
@@ -98,7 +98,7 @@ fn verify() {
     fs::write(arc.join("e.3d"), small("New", "@5")).expect("a file");
     let ran = run_in(&folder, &["verify", "arc.tsv"]);
     let due = "missing: a.3d\nchanged: b.3d: it still reads\n\
-        changed: sub/cut.3d: refused 1 at byte 0: no 3d file\nmoved: sub/c.3d to d.3d\nnew: e.3d\n\
+        changed: sub/cut.3d: refused 1 at byte 0: no 3d file (try: another copy of it)\nmoved: sub/c.3d to d.3d\nnew: e.3d\n\
         5 files in the catalogue: 1 as they were, 1 missing, 2 changed, 1 moved; 1 new\n";
     assert_eq!((ran.code, &ran.out[..], &ran.err[..]), (1, due, ""));
     let ran = run_in(&folder, &["verify", "--json", "arc.tsv"]);
@@ -111,6 +111,123 @@ fn verify() {
     assert_eq!((ran.code, &ran.out[..]), (1, due));
     let ran = run_in(&folder, &["verify", "arc.tsv"]);
     assert_eq!((ran.code, &ran.out[..]), (2, ""));
+}
+
+/// What cannot be looked at is told, and is not called missing; all else is told too.
+#[test]
+fn verify_what_cannot_be_read() {
+    let folder = archive("unread");
+    catalogued(&folder);
+    let arc = folder.join("arc");
+    fs::remove_file(arc.join("a.3d")).expect("it is removed");
+    fs::remove_file(arc.join("b.3d")).expect("it is removed");
+    std::os::unix::fs::symlink("/proc/self/mem", arc.join("b.3d")).expect("a link");
+    let made = sh(
+        &arc,
+        "mkfifo sub/pipe.3d && ln -s nothing sub/none.3d && rm sub/c.3d && ln -s nothing sub/c.3d",
+    );
+    assert_eq!(made.code, 0);
+    let ran = run_in(&folder, &["verify", "arc.tsv"]);
+    let due = "missing: a.3d\n\
+        5 files in the catalogue: 2 as they were, 1 missing, 0 changed, 0 moved; 0 new, 4 not read\n";
+    let told =
+        "arc/sub/c.3d: No such file or directory\narc/sub/none.3d: No such file or directory\n\
+        arc/sub/pipe.3d: it is no plain file\narc/b.3d: Input/output error\n";
+    assert_eq!((ran.code, &ran.out[..], &ran.err[..]), (2, due, told));
+    let ran = run_in(&folder, &["check", "arc"]);
+    assert_eq!(ran.code, 2);
+    has(&ran.err, "arc/sub/pipe.3d: it is no plain file\n");
+    has(&ran.out, "3 files: 1 good, 1 refused, 1 not read\n");
+    let ran = run_in(&folder, &["catalogue", "arc"]);
+    assert_eq!((ran.code, &ran.out[..]), (2, ""));
+    has(&ran.err, "arc: no catalogue is made\n");
+}
+
+/// A catalogue of which lines are missing, or stand twice, is none.
+#[test]
+fn a_part_of_a_catalogue() {
+    let folder = archive("parts");
+    catalogued(&folder);
+    let text = fs::read_to_string(folder.join("arc.tsv")).expect("a catalogue");
+    let lines: Vec<_> = text.lines().collect();
+    for gone in 2..lines.len() {
+        let mut rest = lines.clone();
+        rest.remove(gone);
+        fs::write(folder.join("part.tsv"), rest.join("\n") + "\n").expect("a file");
+        let ran = run_in(&folder, &["verify", "part.tsv"]);
+        let files = if gone == 7 { 5 } else { 4 };
+        let due = format!("part.tsv: a part of the catalogue is missing: it has {files} files\n");
+        assert_eq!((ran.code, &ran.out[..], &ran.err[..]), (2, "", &due[..]));
+    }
+    let twice = [&lines[..3], &lines[2..]].concat().join("\n");
+    fs::write(folder.join("part.tsv"), twice).expect("a file");
+    let ran = run_in(&folder, &["verify", "part.tsv"]);
+    let due = "part.tsv: line 4 is none of a catalogue (try: cockledrift catalogue)\n";
+    assert_eq!((ran.code, &ran.err[..]), (2, due));
+    // One that went through another system's line ends is good.
+    fs::write(folder.join("part.tsv"), text.replace('\n', "\r\n")).expect("a file");
+    let ran = run_in(&folder, &["verify", "part.tsv"]);
+    assert_eq!((ran.code, &ran.err[..]), (0, ""));
+}
+
+/// A catalogue whose tree is elsewhere.
+#[test]
+fn a_moved_tree() {
+    let folder = archive("moved");
+    let ran = sh(
+        &folder,
+        "cd arc && $P catalogue . -o ../here.tsv && cd .. && $P catalogue $PWD/arc -o whole.tsv",
+    );
+    assert_eq!((ran.code, &ran.err[..]), (0, ""));
+    let ran = sh(&folder, "mkdir empty && cd empty && $P verify ../here.tsv");
+    assert_eq!(ran.code, 1);
+    has(&ran.out, "5 files in the catalogue: 0 as they were, 5 missing");
+    assert_eq!(
+        ran.err,
+        ".: no file of the catalogue is there (try: --folder, where the archive is now)\n"
+    );
+    let ran = sh(&folder, "mv arc other && $P verify whole.tsv");
+    assert_eq!((ran.code, &ran.out[..]), (2, ""));
+    has(&ran.err, "/arc: No such file or directory (try: --folder, where the archive is now)\n");
+    for name in ["here.tsv", "whole.tsv"] {
+        let ran = run_in(&folder, &["verify", "--folder", "other", name]);
+        assert_eq!((ran.code, &ran.err[..]), (0, ""), "{name}");
+    }
+}
+
+/// Files of one title of which one is older are marked, whatever their coordinate
+/// system; two of the same bytes can both move.
+#[test]
+fn marks_and_moves() {
+    let folder = folder("marks");
+    let arc = folder.join("arc");
+    fs::create_dir(&arc).expect("a folder");
+    for (name, title, time) in [
+        ("a.3d", "Cave\0EPSG:1", "@60"),
+        ("b.3d", "Cave", "@7200"),
+        ("c.3d", "Cave", "@7200"),
+        ("d.3d", "Alone", "@0"),
+        ("e.3d", "Cave", "unknown"),
+    ] {
+        fs::write(arc.join(name), small(title, time)).expect("a file");
+    }
+    catalogued(&folder);
+    let text = fs::read_to_string(folder.join("arc.tsv")).expect("a catalogue");
+    let marks: Vec<_> = text
+        .lines()
+        .filter(|line| !line.starts_with('#'))
+        .map(|line| line.split('\t').skip(7).collect::<Vec<_>>())
+        .collect();
+    assert_eq!(
+        marks,
+        [["a.3d", "older"], ["b.3d", "latest"], ["c.3d", "latest"], ["d.3d", ""], ["e.3d", ""]]
+    );
+    let moved = sh(&arc, "mkdir x && mv b.3d x && mv c.3d x && cp x/b.3d x/copy.3d");
+    assert_eq!(moved.code, 0);
+    let ran = run_in(&folder, &["verify", "arc.tsv"]);
+    let due = "moved: b.3d to x/b.3d\nmoved: c.3d to x/c.3d\nnew: x/copy.3d\n";
+    assert_eq!((ran.code, &ran.err[..]), (1, ""));
+    assert!(ran.out.starts_with(due), "{}", ran.out);
 }
 
 /// A catalogue longer than a 3d file may be, from standard input.
@@ -132,13 +249,16 @@ fn verify_in_trouble() {
     for (name, bytes) in [("empty", &b""[..]), ("other", b"some text\n"), ("bytes", b"\xff\xff")] {
         fs::write(folder.join(name), bytes).expect("a file");
         let ran = run_in(&folder, &["verify", name]);
-        let due = format!("{name}: line 1 is none of a catalogue\n");
+        let due = format!("{name}: line 1 is none of a catalogue (try: cockledrift catalogue)\n");
         assert_eq!((ran.code, &ran.out[..], &ran.err[..]), (2, "", &due[..]));
     }
     let text = fs::read_to_string(folder.join("arc.tsv")).expect("a catalogue");
     fs::write(folder.join("cut.tsv"), &text[..text.len() - 90]).expect("a file");
     let ran = run_in(&folder, &["verify", "cut.tsv"]);
-    assert_eq!((ran.code, &ran.err[..]), (2, "cut.tsv: line 7 is none of a catalogue\n"));
+    assert_eq!(
+        (ran.code, &ran.err[..]),
+        (2, "cut.tsv: line 7 is none of a catalogue (try: cockledrift catalogue)\n")
+    );
     let ran = run_in(&folder, &["verify", "missing.tsv"]);
     assert_eq!((ran.code, &ran.err[..]), (2, "missing.tsv: No such file or directory\n"));
 }

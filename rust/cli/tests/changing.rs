@@ -33,6 +33,14 @@ fn ways() {
     // Too far apart for the shortest way.
     let far = way(&(0..3000).collect::<Vec<_>>(), &(3000..6000).collect::<Vec<_>>());
     assert_eq!(far.len(), 6000);
+    // By what both have once: every third is another, and some stand twice.
+    let a: Vec<usize> = (0..9000).map(|at| if at % 50 == 0 { 1 } else { at + 10 }).collect();
+    let b: Vec<usize> =
+        a.iter().map(|&one| if one % 3 == 0 { one + 100_000 } else { one }).collect();
+    leads(&a, &b);
+    let back: Vec<usize> = (0..5000).rev().collect();
+    let steps = way(&(0..5000).collect::<Vec<_>>(), &back);
+    assert_eq!(steps.iter().filter(|step| matches!(step, Step::Both(..))).count(), 1);
 }
 
 /// The way leads from the one to the other, and no shorter one does.
@@ -96,6 +104,33 @@ fn diff() {
     bad_inputs(&folder, &["diff", "good.3d"], &[]);
 }
 
+/// Long files that have nothing in common, and files that differ a little at many
+/// places: told in moments.
+#[test]
+fn diff_of_long_files() {
+    let folder = folder("longdiff");
+    let file = |name: &str, label: &dyn Fn(usize) -> String| {
+        let mut file = b"Survex 3D Image File\nv8\nA\n@0\n\0".to_vec();
+        let mut old = 0;
+        for number in 0..100_000 {
+            let label = label(number);
+            file.extend([0x80, 0, old as u8, label.len() as u8]);
+            file.extend(label.bytes().chain([0; 12]));
+            old = label.len();
+        }
+        file.extend([0, 0]);
+        fs::write(folder.join(name), file).expect("a file");
+    };
+    file("a.3d", &|number| format!("a{number}"));
+    file("b.3d", &|number| format!("b{number}"));
+    file("c.3d", &|number| format!("{}{number}", if number % 90 == 0 { "c" } else { "a" }));
+    let started = std::time::Instant::now();
+    let ran = sh(&folder, "$P diff a.3d b.3d | tail -n 1; $P diff a.3d c.3d | tail -n 1");
+    let due = "100000 added, 100000 removed, 0 changed\n1112 added, 1112 removed, 0 changed\n";
+    assert_eq!((&ran.out[..], &ran.err[..]), (due, ""));
+    assert!(started.elapsed().as_secs() < 60, "{:?}", started.elapsed());
+}
+
 /// List, parse, same sheet.
 #[test]
 fn records_go_round() {
@@ -141,8 +176,8 @@ fn edits_that_are_refused() {
     fs::write(folder.join("bad.txt"), "station 2 0 0 0 x\nstation 128 0 0 0 y\n").expect("a file");
     let cases: [(&[&str], i32, &str); 9] = [
         (&["good.3d", "--at", "0"], 1, "good.3d: refused 14 at byte 0: not what the writer gives for this file's sheet (try: cockledrift convert --to 8)\n"),
-        (&["a.3d", "--at", "34", "--count", "1"], 1, "a.3d: refused 15 at record 34: the run ends past the last record\n"),
-        (&["a.3d", "--at", "0", "--with", "bad.txt"], 1, "bad.txt: refused 12 at record 1: the sheet breaks the layout\n"),
+        (&["a.3d", "--at", "34", "--count", "1"], 1, "a.3d: refused 15 at record 34: the run ends past the last record (try: cockledrift info, which counts them)\n"),
+        (&["a.3d", "--at", "0", "--with", "bad.txt"], 1, "bad.txt: refused 12 at record 1: the sheet breaks the layout (try: lines as cockledrift list --records prints them)\n"),
         (&["a.3d"], 2, "cockledrift edit: --at N is missing (try: cockledrift edit --help)\n"),
         (&["a.3d", "--at", "x"], 2, "cockledrift edit: --at takes a number, not x (try: cockledrift edit --help)\n"),
         (&["a.3d", "--at", "0", "--with", "missing"], 2, "missing: No such file or directory\n"),

@@ -1,7 +1,7 @@
 //! Arguments, help, exit statuses and messages.
 
 mod common;
-use common::{data, desk, fed, folder, has, program, root, run, run_in, sh};
+use common::{data, desk, fed, folder, has, program, root, run, run_in, sh, TOO_LONG};
 use std::ffi::OsStr;
 use std::fs;
 use std::os::unix::ffi::OsStrExt;
@@ -128,7 +128,7 @@ fn sixteen_mebibytes() {
     {
         let ran = sh(&folder, &format!("$P {line} most.3d >out"));
         let due = if line == "measure" {
-            (1, "most.3d: refused 21 at byte 0: no leg of this survey\n")
+            (1, "most.3d: refused 21 at 0: no leg of this survey (try: cockledrift list, which has the names of surveys)\n")
         } else {
             (0, "")
         };
@@ -138,7 +138,7 @@ fn sixteen_mebibytes() {
     fs::write(folder.join("more.3d"), &file).expect("a file");
     let ran = run_in(&folder, &["check", "more.3d"]);
     assert_eq!(ran.code, 1);
-    has(&ran.out, "more.3d: refused 16 at byte 0: the file is over 16,777,216 bytes\n");
+    has(&ran.out, &format!("more.3d: {TOO_LONG}\n"));
 }
 
 #[test]
@@ -160,7 +160,7 @@ fn colours() {
     plain.env("NO_COLOR", "1");
     assert!(!painted(plain));
     let ran = run(&["check", "--color=sometimes", "x"]);
-    assert_eq!((ran.code, &ran.err[..]), (2, "--color takes auto, always or never\n"));
+    assert_eq!((ran.code, &ran.err[..]), (2, "cockledrift check: --color takes auto, always or never (try: cockledrift check --help)\n"));
 }
 
 #[test]
@@ -183,8 +183,8 @@ fn standard_input() {
         "standard input: good, v8\n1 file: 1 good, 0 refused\n"
     );
     let ran = fed(&["info", "-"], &vec![b'x'; 17_000_000]);
-    let due = "standard input: refused 16 at byte 0: the file is over 16,777,216 bytes\n";
-    assert_eq!((ran.code, &ran.out[..], &ran.err[..]), (1, "", due));
+    let due = format!("standard input: {TOO_LONG}\n");
+    assert_eq!((ran.code, &ran.out[..], &ran.err[..]), (1, "", &due[..]));
     let ran = sh(&folder("closed"), "$P info - <&-");
     assert_eq!((ran.code, &ran.out[..]), (1, ""));
 }
@@ -212,31 +212,37 @@ fn man_page_and_completions() {
     }
 }
 
-#[test]
-fn bash_completes() {
-    let script = root().join("rust/cli/share/cockledrift.bash");
-    let line = format!(
-        "bash -c '. {}; COMP_WORDS=(cockledrift che); COMP_CWORD=1; _cockledrift; echo ${{COMPREPLY[@]}}; \
-         COMP_WORDS=(cockledrift list --r); COMP_CWORD=2; _cockledrift; echo ${{COMPREPLY[@]}}'",
-        script.display()
-    );
-    let ran = sh(&folder("bash"), &line);
-    assert_eq!((ran.code, &ran.out[..], &ran.err[..]), (0, "check\n--raw --records\n", ""));
-}
-
-/// The commands at the top of README.md print what stands there.
+/// The commands of README.md print what stands there: those at its top in the
+/// repository, the others in a folder with an archive and its copies.
 #[test]
 fn readme() {
     let page = fs::read_to_string(root().join("README.md")).expect("the page is there");
-    let block = page.split("```text\n").nth(1).and_then(|rest| rest.split("```").next());
-    let block = block.expect("a block of commands");
-    let mut out = String::new();
-    for line in block.lines().filter_map(|line| line.strip_prefix("$ ")) {
-        let ran = sh(&root(), &format!("cockledrift() {{ \"$P\" \"$@\"; }}; {line}"));
-        assert_eq!(ran.err, "", "{line}");
-        out += &format!("$ {line}\n{}", ran.out);
+    assert!(
+        page.starts_with("# Cockledrift\n\n```text\n$ cockledrift "),
+        "it begins with their use"
+    );
+    let walk = folder("readme");
+    for name in ["archive", "backup"] {
+        fs::create_dir(walk.join(name)).expect("a folder");
+        for file in ["passage.v8.3d", "loops.v6.3d"] {
+            fs::copy(data(file), walk.join(name).join(file)).expect("a copy");
+        }
     }
-    assert_eq!(out, block);
+    let blocks = page.split("```text\n").skip(1).map(|rest| rest.split("```").next());
+    let blocks: Vec<_> = blocks.map(|block| block.expect("an end")).collect();
+    assert_eq!(blocks.len(), 2);
+    for (block, folder) in blocks.into_iter().zip([root(), walk]) {
+        let mut out = String::new();
+        for line in block.lines().filter_map(|line| line.strip_prefix("$ ")) {
+            let ran = sh(&folder, &format!("cockledrift() {{ \"$P\" \"$@\"; }}; {line}"));
+            assert_eq!(ran.err, "", "{line}");
+            out += &format!("$ {line}\n{}", ran.out);
+        }
+        assert_eq!(out, block);
+    }
+    for command in cli::table::COMMANDS {
+        has(&page, &format!("cockledrift {}", command.name));
+    }
 }
 
 /// Progress is told on a terminal alone, and after a second; so are colours, but for
@@ -245,7 +251,8 @@ fn readme() {
 fn on_a_terminal() {
     let folder = desk("terminal");
     if sh(&folder, "command -v script && command -v mkfifo").code != 0 {
-        return; // No terminal to be had.
+        assert!(std::env::var_os("CI").is_none(), "script or mkfifo is not there");
+        return common::skipped("what is told on a terminal: script or mkfifo is not there");
     }
     let slow = "rm -f slow.3d; mkfifo slow.3d; (sleep 1.5; cat good.3d >slow.3d) &";
     let ran = sh(&folder, &format!("{slow} script -qec \"$P check slow.3d good.3d\" /dev/null"));

@@ -2,10 +2,11 @@
 
 mod common;
 use cli::commands::restore::{carry_out, plan, Permits};
-use cli::disk::{Disk, Fault};
+use cli::disk::{steady, Disk, Fault};
 use common::{desk, fed, folder, has, names, run_in, sh, small};
 use std::ffi::OsStr;
 use std::fs;
+use std::os::unix::fs::{chown, symlink, MetadataExt, PermissionsExt};
 use std::path::Path;
 
 fn put(folder: &Path, name: &str, bytes: &[u8]) {
@@ -64,7 +65,7 @@ fn what_is_refused() {
         &small("B", "@100"),
         "old.3d and to.3d have the same second and other bytes: to.3d is kept",
     );
-    let unknown = "odd.3d: refused 17 at byte 26: the time line is not readable: to.3d is kept (try: --even-if-unknown)\n";
+    let unknown = "odd.3d: refused 17 at byte 26: the time line is not readable: to.3d is kept (try: cockledrift info, which shows the line; or --even-if-unknown)\n";
     refused("odd.3d", &new, unknown);
     refused("old.3d", &other, "to.3d: refused 17 at byte 26");
     refused("old.3d", b"", "to.3d: refused 1 at byte 0: no 3d file: to.3d is kept");
@@ -172,6 +173,106 @@ fn what_changed_meanwhile_is_kept() {
         assert!(carry_out(&Disk::new(Fault::Nothing), &made).is_err());
         assert!(get(&folder, "to.3d") == late);
     }
+}
+
+/// A second name that was made meanwhile is taken away again, and nothing else is
+/// left.
+#[test]
+fn what_changed_leaves_no_names() {
+    let folder = folder("meanwhile-names");
+    let to = folder.join("to.3d");
+    put(&folder, "to.3d", &small("A", "@100"));
+    let made = plan(OsStr::new("from"), small("A", "@200"), to.as_os_str(), Permits::default());
+    let made = made.expect("it is judged").expect("something to do");
+    put(&folder, "to.3d", &small("A", "@300"));
+    let error = carry_out(&Disk::new(Fault::Nothing), &made).expect_err("it has changed");
+    assert_eq!(error.to_string(), "it has changed meanwhile, and is kept");
+    assert_eq!(names(&folder), ["to.3d"]);
+    assert!(get(&folder, "to.3d") == small("A", "@300"));
+    // Where nothing was there, a file that came meanwhile stays.
+    let new = folder.join("new.3d");
+    let made = plan(OsStr::new("from"), small("A", "@200"), new.as_os_str(), Permits::default());
+    let made = made.expect("it is judged").expect("something to do");
+    put(&folder, "new.3d", &small("A", "@1"));
+    assert!(carry_out(&Disk::new(Fault::Nothing), &made).is_err());
+    assert!(get(&folder, "new.3d") == small("A", "@1"));
+    assert_eq!(names(&folder), ["new.3d", "to.3d"]);
+}
+
+/// A link is followed: the file behind it changes and is kept beside itself.
+#[test]
+fn through_a_link() {
+    let folder = folder("link");
+    fs::create_dir(folder.join("real")).expect("a folder");
+    put(&folder, "from.3d", &small("A", "@200"));
+    put(&folder, "real/to.3d", &small("A", "@100"));
+    symlink("real/to.3d", folder.join("to.3d")).expect("a link");
+    let ran = run_in(&folder, &["restore", "--json", "from.3d", "to.3d"]);
+    assert_eq!((ran.code, &ran.err[..]), (0, ""));
+    has(&ran.out, "\"done\": \"restored\", \"kept\": \"");
+    has(&ran.out, "/real/to.3d.1970-01-01T000140Z\"}\n");
+    assert_eq!(names(&folder), ["from.3d", "real", "to.3d"]);
+    assert_eq!(names(&folder.join("real")), ["to.3d", "to.3d.1970-01-01T000140Z"]);
+    assert!(fs::symlink_metadata(folder.join("to.3d")).expect("a link").is_symlink());
+    assert!(get(&folder, "real/to.3d") == small("A", "@200"));
+    // The same file by another name.
+    fs::hard_link(folder.join("from.3d"), folder.join("again.3d")).expect("a second name");
+    let ran = run_in(&folder, &["restore", "from.3d", "again.3d"]);
+    assert_eq!((ran.code, &ran.out[..]), (0, "again.3d: it is the same already\n"));
+    // Links to nothing, and what is no file.
+    symlink("nothing", folder.join("none.3d")).expect("a link");
+    let ran = run_in(&folder, &["restore", "from.3d", "none.3d"]);
+    assert_eq!((ran.code, &ran.err[..]), (2, "none.3d: it is a link to nothing\n"));
+    assert!(!folder.join("nothing").exists());
+    let ran = sh(&folder, "mkfifo pipe.3d && $P restore --even-if-unknown from.3d pipe.3d");
+    assert_eq!((ran.code, &ran.err[..]), (2, "pipe.3d: it is no plain file\n"));
+}
+
+/// TO keeps its mode, its owner and its group; a new one has FROM's mode.
+#[test]
+fn modes_and_owners() {
+    let folder = folder("modes");
+    let mode = |name: &str, mode| {
+        let path = folder.join(name);
+        fs::set_permissions(path, fs::Permissions::from_mode(mode)).expect("permissions");
+    };
+    let there = |name: &str| fs::metadata(folder.join(name)).expect("a file");
+    put(&folder, "from.3d", &small("A", "@200"));
+    put(&folder, "to.3d", &small("A", "@100"));
+    (mode("from.3d", 0o600), mode("to.3d", 0o640));
+    let root = there("to.3d").uid() == 0;
+    if root {
+        chown(folder.join("to.3d"), Some(65534), Some(65534)).expect("root gives it away");
+    } else {
+        common::skipped("the owner of a restored file: this is not root");
+    }
+    let (old, kept) = (there("to.3d"), "to.3d.1970-01-01T000140Z");
+    let ran = sh(&folder, "umask 0 && $P restore from.3d to.3d && $P restore from.3d new.3d");
+    assert_eq!((ran.code, &ran.err[..]), (0, ""));
+    for name in ["to.3d", kept] {
+        let new = there(name);
+        assert_eq!(
+            (new.mode(), new.uid(), new.gid()),
+            (old.mode(), old.uid(), old.gid()),
+            "{name}"
+        );
+    }
+    assert_eq!(there("new.3d").mode() & 0o777, 0o600);
+}
+
+/// A file that changes while it is read is not taken.
+#[test]
+fn a_file_that_changes_while_it_is_read() {
+    let folder = folder("steady");
+    put(&folder, "a.3d", b"one");
+    let open = || fs::File::open(folder.join("a.3d")).expect("a file");
+    let read = |_: &mut fs::File| Ok(());
+    assert!(steady(&mut open(), read).is_ok());
+    let error = steady(&mut open(), |_| {
+        put(&folder, "a.3d", b"longer");
+        Ok(())
+    });
+    assert_eq!(error.expect_err("it changed").to_string(), "it changed while it was read");
 }
 
 /// A disk that fails, and one that stops, at each of its operations: the place is

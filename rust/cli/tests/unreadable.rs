@@ -20,6 +20,8 @@ fn place() -> PathBuf {
         fs::copy(common::data("passage.v8.3d"), place.join(name)).expect("a copy");
     }
     fs::write(place.join("old.3d"), common::small("A", "@0")).expect("a file");
+    let made = common::sh(&place, "$P catalogue . -o all.tsv && chmod 644 all.tsv");
+    assert_eq!((made.code, &made.err[..]), (0, ""));
     let set = |name: &str, mode| {
         fs::set_permissions(place.join(name), Permissions::from_mode(mode)).expect("permissions");
     };
@@ -55,25 +57,45 @@ fn unreadable() {
         "restore shut.3d good.3d",
         "restore good.3d shut.3d",
         "verify shut.3d",
+        "list --csv shut.3d",
+        "list --records shut.3d",
+        "list --json shut.3d",
+        "later shut.3d good.3d",
+        "convert --to 7 shut.3d -o x.3d",
+        "diff good.3d shut.3d",
+        "edit old.3d --at 0 --with shut.3d -o x.3d",
     ];
     for line in lines {
         let ran = run(&place, line);
-        assert_eq!((ran.code, &ran.out[..], &ran.err[..]), (2, "", "shut.3d: Permission denied\n"));
+        let due = (2, "", "shut.3d: Permission denied\n");
+        assert_eq!((ran.code, &ran.out[..], &ran.err[..]), due, "{line}");
     }
+    let ran = run(&place, "check shut.3d good.3d");
+    assert_eq!((ran.code, &ran.err[..]), (2, "shut.3d: Permission denied\n"));
+    has(&ran.out, "2 files: 1 good, 0 refused, 1 not read\n");
+    // Files that cannot be seen are not called missing.
+    let ran = run(&place, "verify all.tsv");
+    let due = "4 files in the catalogue: 2 as they were, 0 missing, 0 changed, 0 moved; 0 new, 2 not read\n";
+    assert_eq!((ran.code, &ran.out[..]), (2, due));
+    has(&ran.err, "shut: Permission denied\n");
+    has(&ran.err, "shut.3d: Permission denied\n");
     let ran = run(&place, "check shut good.3d");
     assert_eq!((ran.code, &ran.err[..]), (2, "shut: Permission denied\n"));
     has(&ran.out, "good.3d: good, v8\n1 file: 1 good, 0 refused\n");
     let ran = run(&place, "catalogue .");
     assert_eq!((ran.code, &ran.out[..]), (2, ""));
     has(&ran.err, "./shut: Permission denied\n");
-    if fs::metadata("/proc/self").expect("this process").uid() == 0 {
-        // Nor may nobody write there.
+    fs::set_permissions(&place, Permissions::from_mode(0o555)).expect("permissions");
+    {
+        // Nor may it write there.
         for line in ["convert --to 8 good.3d -o x.3d", "restore good.3d old.3d"] {
             let ran = run(&place, line);
             assert_eq!((ran.code, &ran.out[..]), (2, ""), "{line}");
             has(&ran.err, "Permission denied");
         }
     }
-    fs::set_permissions(place.join("shut"), Permissions::from_mode(0o755)).expect("permissions");
+    for folder in [&place, &place.join("shut")] {
+        fs::set_permissions(folder, Permissions::from_mode(0o755)).expect("permissions");
+    }
     fs::remove_dir_all(&place).expect("it is removed");
 }

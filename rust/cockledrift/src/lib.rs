@@ -64,6 +64,7 @@ mod edit;
 #[cfg(test)]
 mod layout;
 mod library;
+mod line;
 mod reach;
 mod read;
 mod record;
@@ -81,6 +82,7 @@ pub use answer::{number, Answer, Done, Refusal};
 pub use compare::{compare, Later, RefusedFile, Which};
 pub use convert::convert;
 pub use edit::{edit, edit_vec};
+pub use line::text;
 pub use reach::{reach, Reach};
 pub use read::{read, read_vec};
 pub use record::{Date, Leg, Point, Record, Records, Section, Station, Traverse};

@@ -102,8 +102,34 @@ pub(crate) enum SheetVersion {
     Two,
 }
 
+/// Where the parts of a record come from: the bytes of a sheet, or the words of a
+/// line.
+pub(crate) trait Parts<'s> {
+    fn byte(&mut self) -> Option<u8>;
+    fn numbers<const N: usize>(&mut self) -> Option<[i32; N]>;
+    fn date(&mut self) -> Option<Date>;
+    fn section_date(&mut self) -> Option<Date> {
+        self.date()
+    }
+    fn label(&mut self) -> Option<&'s [u8]>;
+    fn point(&mut self) -> Option<Point> {
+        self.numbers().map(|[x, y, z]| Point { x, y, z })
+    }
+}
+
+/// Where the parts of a record go.
+pub(crate) trait Place {
+    fn byte(&mut self, byte: u8);
+    fn numbers<const N: usize>(&mut self, numbers: [i32; N]);
+    fn date(&mut self, date: Date);
+    fn label(&mut self, label: &[u8]);
+    fn point(&mut self, Point { x, y, z }: Point) {
+        self.numbers([x, y, z]);
+    }
+}
+
 /// The bytes of a record, taken from the front.
-struct Front<'s>(&'s [u8]);
+struct Front<'s>(&'s [u8], SheetVersion);
 
 impl Front<'_> {
     fn array<const N: usize>(&mut self) -> Option<[u8; N]> {
@@ -111,7 +137,9 @@ impl Front<'_> {
         self.0 = rest;
         Some(*first)
     }
+}
 
+impl<'s> Parts<'s> for Front<'s> {
     fn byte(&mut self) -> Option<u8> {
         self.array::<1>().map(|[byte]| byte)
     }
@@ -124,10 +152,6 @@ impl Front<'_> {
         Some(numbers)
     }
 
-    fn point(&mut self) -> Option<Point> {
-        self.numbers().map(|[x, y, z]| Point { x, y, z })
-    }
-
     fn date(&mut self) -> Option<Date> {
         let [kind, a, b, c, d] = self.array()?;
         let (day, last) = (u16::from_be_bytes([a, b]), u16::from_be_bytes([c, d]));
@@ -137,6 +161,42 @@ impl Front<'_> {
             2 => Some(Date::Range(day, last)),
             _ => None,
         }
+    }
+
+    fn section_date(&mut self) -> Option<Date> {
+        if self.1 == SheetVersion::One {
+            Some(Date::None)
+        } else {
+            self.date()
+        }
+    }
+
+    fn label(&mut self) -> Option<&'s [u8]> {
+        Some(self.0)
+    }
+}
+
+impl Place for Vec<u8> {
+    fn byte(&mut self, byte: u8) {
+        self.push(byte);
+    }
+
+    fn numbers<const N: usize>(&mut self, numbers: [i32; N]) {
+        self.extend(numbers.into_iter().flat_map(i32::to_be_bytes));
+    }
+
+    fn date(&mut self, date: Date) {
+        let (kind, day, last) = match date {
+            Date::None => (0, 0, 0),
+            Date::Day(day) => (1, day, 0),
+            Date::Range(day, last) => (2, day, last),
+        };
+        let ([a, b], [c, d]) = (u16::to_be_bytes(day), u16::to_be_bytes(last));
+        self.extend([kind, a, b, c, d]);
+    }
+
+    fn label(&mut self, label: &[u8]) {
+        self.extend(label);
     }
 }
 
@@ -152,33 +212,74 @@ impl<'s> Record<'s> {
         }
     }
 
+    /// The number of its kind in a sheet.
+    pub(crate) fn kind(&self) -> u8 {
+        match self {
+            Record::Leg(_) => 1,
+            Record::Station(_) => 2,
+            Record::Section(_) => 3,
+            Record::Traverse(_) => 4,
+        }
+    }
+
     /// The record in these bytes, its length bytes left out.
     pub(crate) fn of(bytes: &'s [u8], version: SheetVersion) -> Option<Record<'s>> {
-        let mut front = Front(bytes);
-        match front.byte()? {
+        let (&kind, parts) = bytes.split_first()?;
+        Record::taken(kind, &mut Front(parts, version))
+    }
+
+    /// A record of this kind: its parts, in order.
+    pub(crate) fn taken(kind: u8, parts: &mut impl Parts<'s>) -> Option<Record<'s>> {
+        match kind {
             1 => Some(Record::Leg(Leg {
-                flags: front.byte()?,
-                style: front.byte()?,
-                date: front.date()?,
-                from: front.point()?,
-                to: front.point()?,
-                label: front.0,
+                flags: parts.byte()?,
+                style: parts.byte()?,
+                date: parts.date()?,
+                from: parts.point()?,
+                to: parts.point()?,
+                label: parts.label()?,
             })),
             2 => Some(Record::Station(Station {
-                flags: front.byte()?,
-                at: front.point()?,
-                label: front.0,
+                flags: parts.byte()?,
+                at: parts.point()?,
+                label: parts.label()?,
             })),
             3 => Some(Record::Section(Section {
-                last: front.byte()? != 0,
-                date: if version == SheetVersion::One { Date::None } else { front.date()? },
-                sides: front.numbers()?,
-                label: front.0,
+                last: parts.byte().filter(|last| *last < 2)? == 1,
+                date: parts.section_date()?,
+                sides: parts.numbers()?,
+                label: parts.label()?,
             })),
-            4 => front.numbers().map(|[legs, length, error, horizontal, vertical]| {
+            4 => parts.numbers().map(|[legs, length, error, horizontal, vertical]| {
                 Record::Traverse(Traverse { legs, length, error, horizontal, vertical })
             }),
             _ => None,
+        }
+    }
+
+    /// Puts its parts there, in order.
+    pub(crate) fn put(&self, place: &mut impl Place) {
+        match *self {
+            Record::Leg(Leg { flags, style, date, from, to, label }) => {
+                [flags, style].into_iter().for_each(|byte| place.byte(byte));
+                place.date(date);
+                [from, to].into_iter().for_each(|point| place.point(point));
+                place.label(label);
+            }
+            Record::Station(Station { flags, at, label }) => {
+                place.byte(flags);
+                place.point(at);
+                place.label(label);
+            }
+            Record::Section(Section { last, date, sides, label }) => {
+                place.byte(last.into());
+                place.date(date);
+                place.numbers(sides);
+                place.label(label);
+            }
+            Record::Traverse(Traverse { legs, length, error, horizontal, vertical }) => {
+                place.numbers([legs, length, error, horizontal, vertical]);
+            }
         }
     }
 
@@ -196,53 +297,11 @@ impl<'s> Record<'s> {
     /// ```
     pub fn lay(&self, out: &mut Vec<u8>) {
         let start = out.len();
-        out.extend([0, 0]);
-        match *self {
-            Record::Leg(Leg { flags, style, date, from, to, label }) => {
-                out.extend([1, flags, style]);
-                out.extend(date.bytes());
-                out.extend([from, to].iter().flat_map(Point::bytes).chain(label.iter().copied()));
-            }
-            Record::Station(Station { flags, at, label }) => {
-                out.extend([2, flags]);
-                out.extend(at.bytes().chain(label.iter().copied()));
-            }
-            Record::Section(Section { last, date, sides, label }) => {
-                out.extend([3, last.into()]);
-                out.extend(date.bytes());
-                out.extend(big(sides).chain(label.iter().copied()));
-            }
-            Record::Traverse(Traverse { legs, length, error, horizontal, vertical }) => {
-                out.push(4);
-                out.extend(big([legs, length, error, horizontal, vertical]));
-            }
-        }
+        out.extend([0, 0, self.kind()]);
+        self.put(out);
         // A longer record has a label over the limit, and is refused at any length.
         let length = u16::try_from(out.len() - start - 2).unwrap_or(u16::MAX);
         out[start..start + 2].copy_from_slice(&length.to_be_bytes());
-    }
-}
-
-/// Numbers as a sheet has them.
-fn big<const N: usize>(numbers: [i32; N]) -> impl Iterator<Item = u8> {
-    numbers.into_iter().flat_map(i32::to_be_bytes)
-}
-
-impl Point {
-    fn bytes(&self) -> impl Iterator<Item = u8> + use<> {
-        big([self.x, self.y, self.z])
-    }
-}
-
-impl Date {
-    fn bytes(self) -> [u8; 5] {
-        let (kind, day, last) = match self {
-            Date::None => (0, 0, 0),
-            Date::Day(day) => (1, day, 0),
-            Date::Range(day, last) => (2, day, last),
-        };
-        let ([a, b], [c, d]) = (u16::to_be_bytes(day), u16::to_be_bytes(last));
-        [kind, a, b, c, d]
     }
 }
 

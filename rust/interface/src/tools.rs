@@ -39,10 +39,11 @@ pub fn printed(command: &mut Command) -> String {
     stdout
 }
 
-/// `make` in the repository's folder, with what it builds in `out`.
+/// `make` of the libraries in the repository's folder, in `out`. The program has
+/// tests of its own.
 pub fn make(out: &Path) -> Command {
     let mut make = Command::new("make");
-    make.current_dir(root()).arg(format!("OUT={}", out.display()));
+    make.current_dir(root()).arg(format!("OUT={}", out.display())).arg("libraries");
     make
 }
 

@@ -1,5 +1,5 @@
-//! `make install` and `make uninstall`, and programs that find the library by
-//! what was installed.
+//! `make install-library` and `make uninstall`, and programs that find the library
+//! by what was installed. The program's part is tested in rust/cli.
 
 use interface::tools::{folder, make, printed, root, WARNINGS};
 use std::fs;
@@ -47,7 +47,7 @@ const INSTALLED: [&str; 7] = [
 fn installs_and_uninstalls() {
     let all = folder(env!("CARGO_TARGET_TMPDIR"), "install");
     let (out, destination) = (all.join("out"), all.join("destination"));
-    aim("install", &out, &destination);
+    aim("install-library", &out, &destination);
     assert_eq!(below(&destination), INSTALLED);
     let pc = destination.join("opt/c/lib/pkgconfig/cockledrift.pc");
     let pc = fs::read_to_string(pc).expect("the pkg-config file");
@@ -81,7 +81,7 @@ fn lists(prefix: &Path, name: &str, more: &[&str]) -> String {
 fn installed(name: &str) -> PathBuf {
     let prefix = folder(env!("CARGO_TARGET_TMPDIR"), name).join("prefix");
     let mut make = make(&prefix.with_file_name("out"));
-    printed(make.arg(format!("PREFIX={}", prefix.display())).arg("install"));
+    printed(make.arg(format!("PREFIX={}", prefix.display())).arg("install-library"));
     prefix
 }
 

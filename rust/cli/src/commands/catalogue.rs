@@ -12,6 +12,8 @@ use std::path::{Path, PathBuf};
 
 /// How a catalogue begins; the folder follows.
 pub const MARK: &str = "# cockledrift catalogue 1\t";
+/// How it ends; the number of files follows. One without it was cut short.
+pub const END: &str = "# end ";
 const NAMES: &str = "# sha256\tbytes\ttime\ttime line\tversion\trecords\ttitle\tpath\tmarks";
 
 /// A file with its path below the folder.
@@ -25,9 +27,12 @@ pub fn run(given: &Given, desk: &mut Desk) -> Outcome {
         _ if desk.json => objects(&rows).into_bytes(),
         _ => table(folder, &rows).into_bytes(),
     };
-    match given.has("--output") {
-        true => output::save(given, desk, &text)?,
-        false => desk.put(&text)?,
+    if given.has("--output") {
+        let files: Vec<_> = rows.iter().map(|(path, _)| folder.join(path)).collect();
+        output::save_beside(given, desk, &text, &files)?;
+    } else if !desk.quiet {
+        output::fit(desk, &text)?;
+        desk.put(&text)?;
     }
     Ok(Status::Good)
 }
@@ -71,7 +76,7 @@ fn table(folder: &Path, rows: &[Row]) -> String {
         ];
         text += &(fields.join("\t") + "\n");
     }
-    text
+    text + END + &format!("{}\n", rows.len())
 }
 
 /// `2002-03-17T14:01:07Z`.
@@ -79,16 +84,21 @@ fn instant(second: u32) -> String {
     time::utc(second).replace(" UTC", "Z").replace(' ', "T")
 }
 
+/// The title without the coordinate system behind a zero byte.
+fn plain(title: &[u8]) -> &[u8] {
+    title.split(|&byte| byte == 0).next().unwrap_or_default()
+}
+
 /// What is worth looking at: `refused N`, `same minute` (as another file, and not
-/// the same second), `older` (than another file of its title).
+/// the same second), `older` (than another file of its title) and `latest` (of its
+/// title, where there is an older one).
 fn marks(rows: &[Row]) -> Vec<Vec<String>> {
     let mut minutes: BTreeMap<u32, BTreeSet<u32>> = BTreeMap::new();
-    let mut latest: BTreeMap<&[u8], u32> = BTreeMap::new();
+    let mut titles: BTreeMap<&[u8], BTreeSet<u32>> = BTreeMap::new();
     for (_, entry) in rows {
         let (Some(second), Some(title)) = (entry.second, &entry.title) else { continue };
         minutes.entry(second / 60).or_default().insert(second);
-        let last = latest.entry(title).or_default();
-        *last = second.max(*last);
+        titles.entry(plain(title)).or_default().insert(second);
     }
     let of = |entry: &Entry| {
         let mut marks = Vec::new();
@@ -97,7 +107,9 @@ fn marks(rows: &[Row]) -> Vec<Vec<String>> {
         );
         if let (Some(second), Some(title)) = (entry.second, &entry.title) {
             marks.extend((minutes[&(second / 60)].len() > 1).then(|| "same minute".into()));
-            marks.extend((latest[&title[..]] > second).then(|| "older".into()));
+            let times = &titles[plain(title)];
+            let word = if times.last() == Some(&second) { "latest" } else { "older" };
+            marks.extend((times.len() > 1).then(|| word.into()));
         }
         marks
     };

@@ -81,6 +81,10 @@ fn object(name: &OsStr, bytes: &[u8], judged: &Result<Opened, Refusal>) -> Strin
     let object = Object::new().bytes("file", name.as_bytes()).raw("good", judged.is_ok());
     match judged {
         Ok(opened) => object.raw("version", opened.version).end(),
-        Err(refusal) => strict::object(refusals::object(object, refusal), bytes, refusal).end(),
+        Err(refusal) => {
+            let try_this = refusals::hint(bytes, refusal);
+            let told = refusals::object(object, refusal);
+            strict::object(told, bytes, refusal).text("try", try_this).end()
+        }
     }
 }

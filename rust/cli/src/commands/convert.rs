@@ -3,12 +3,10 @@
 use super::list::words;
 use crate::args::Given;
 use crate::desk::{Desk, Outcome, Status, Stop};
-use crate::json::Object;
 use crate::text::{many, shown};
 use crate::{file, output, refusals};
 use cockledrift::{number, Date, Record, Refusal, Sheet};
 use std::ffi::OsStr;
-use std::os::unix::ffi::OsStrExt;
 
 pub fn run(given: &Given, desk: &mut Desk) -> Outcome {
     let name = &given.names[0];
@@ -22,20 +20,22 @@ pub fn run(given: &Given, desk: &mut Desk) -> Outcome {
     let out = write(&sheet).map_err(|refusal| refused(name, &bytes, &sheet, &refusal))?;
     output::save(given, desk, &out)?;
     warnings(given, &sheet).iter().for_each(|words| desk.warn(words));
-    told(given, desk, &sheet, &out)?;
+    output::told(given, desk, sheet.records().count(), out.len())?;
     Ok(Status::Good)
 }
 
 /// A refusal to write, with what stands at that record.
 fn refused(name: &OsStr, bytes: &[u8], sheet: &Sheet, refusal: &Refusal) -> Stop {
-    let told = refusals::told(bytes, refusal);
     let what = match sheet.records().nth(refusal.place) {
-        _ if refusal.number != number::NOT_IN_V7 => String::new(),
+        _ if refusal.number != number::NOT_IN_V7 => {
+            return refusals::unwritten(name, bytes, refusal);
+        }
         _ if sheet.header().extended => ": an extended elevation".into(),
         Some(record) => format!(": {}", words::of(&record)),
         None => String::new(),
     };
-    Stop::no(format!("{}: {told}{what}", shown(name)))
+    let (told, try_this) = (refusals::bare(refusal), refusals::hint(bytes, refusal));
+    Stop::no(format!("{}: {told}{what} (try: {try_this})", shown(name)))
 }
 
 /// How many records have a date range that goes out with a span of days, which
@@ -61,26 +61,20 @@ pub fn warnings(given: &Given, sheet: &Sheet) -> Vec<String> {
             "{name}: warning: Survex's programs will read the date range of {records} a day longer"
         ));
     }
+    if given.value("--to").is_none_or(|to| to != "7") {
+        return words;
+    }
     let said = |record: &Record| matches!(record, Record::Leg(leg) if leg.style == 0);
-    let legs = sheet.records().filter(said).count();
-    if given.value("--to").is_some_and(|to| to == "7") && legs > 0 {
+    if let legs @ 1.. = sheet.records().filter(said).count() {
         words.push(format!(
             "{name}: warning: v7 does not say the normal style of {}",
             many(legs, "leg")
         ));
     }
+    if sheet.header().title.ends_with(b" (extended)") {
+        words.push(format!(
+            "{name}: warning: Survex's programs will take it for an extended elevation, by its title"
+        ));
+    }
     words
-}
-
-fn told(given: &Given, desk: &mut Desk, sheet: &Sheet, out: &[u8]) -> Result<(), Stop> {
-    let to = given.value("--output").unwrap_or_default();
-    if to == "-" {
-        return Ok(());
-    }
-    let records = sheet.records().count();
-    if desk.json {
-        let object = Object::new().bytes("file", to.as_bytes()).raw("bytes", out.len());
-        return desk.line(&object.raw("records", records).end());
-    }
-    desk.line(&format!("{}: {} in {}", shown(to), many(records, "record"), many(out.len(), "byte")))
 }

@@ -5,11 +5,11 @@ use crate::args::Given;
 use crate::desk::{Color, Desk, Outcome, Status, Stop};
 use crate::file;
 use crate::json::{quoted, Object};
-use crate::lines;
 use crate::script::{way, Step};
 use crate::text::escaped;
 use cockledrift::{Header, Record};
-use std::mem::discriminant;
+use std::collections::HashMap;
+use std::mem::{discriminant, Discriminant};
 
 /// What became of records: their numbers in the first file and in the second.
 #[derive(Clone, Copy)]
@@ -76,15 +76,20 @@ fn paired(
     new: &mut Vec<usize>,
     all: &mut Vec<Change>,
 ) {
-    let alike = |x: usize, y: usize| {
-        discriminant(&a[x]) == discriminant(&b[y]) && a[x].label() == b[y].label()
-    };
+    // Where those that come with this kind and name stand, last first.
+    let mut places: HashMap<(Discriminant<Record>, &[u8]), Vec<usize>> = HashMap::new();
+    for (at, &y) in new.iter().enumerate().rev() {
+        places.entry((discriminant(&b[y]), b[y].label())).or_default().push(at);
+    }
     let mut next = 0;
     for x in out.drain(..) {
-        match (next..new.len()).find(|&at| alike(x, new[at])) {
+        let mut alike = places.get_mut(&(discriminant(&a[x]), a[x].label()));
+        while alike.as_mut().is_some_and(|all| all.pop_if(|at| *at < next).is_some()) {}
+        match alike.and_then(Vec::pop) {
             Some(at) => {
                 all.extend(new[next..at].iter().map(|&y| Change::Added(y)));
-                all.push(Change::Changed(x, new[at]));
+                // In lists that are far apart the same record can go and come.
+                all.extend((a[x] != b[new[at]]).then(|| Change::Changed(x, new[at])));
                 next = at + 1;
             }
             None => all.push(Change::Removed(x)),
@@ -109,7 +114,7 @@ fn text(change: &Change, a: &[Record], b: &[Record], desk: &mut Desk) -> Result<
 }
 
 fn object(change: &Change, a: &[Record], b: &[Record]) -> String {
-    let record = |record: &Record| quoted(&lines::line(record));
+    let record = |record: &Record| quoted(&record.line());
     let (word, old, new) = match *change {
         Change::Removed(x) => ("removed", Some(x), None),
         Change::Added(y) => ("added", None, Some(y)),

@@ -2,12 +2,10 @@
 
 use crate::args::Given;
 use crate::desk::{Desk, Outcome, Status, Stop};
-use crate::json::Object;
-use crate::text::{many, shown};
-use crate::{file, lines, output, refusals};
-use cockledrift::{edit_vec, number};
+use crate::text::shown;
+use crate::{file, output, refusals};
+use cockledrift::{edit_vec, number, Record};
 use std::ffi::OsStr;
-use std::os::unix::ffi::OsStrExt;
 
 pub fn run(given: &Given, desk: &mut Desk) -> Outcome {
     let name = &given.names[0];
@@ -19,35 +17,31 @@ pub fn run(given: &Given, desk: &mut Desk) -> Outcome {
     let out =
         edit_vec(&bytes, at, count, &new).map_err(|refusal| match (refusal.number, with) {
             (number::BAD_SHEET, Some(with)) => refusals::stop(with, &bytes, &refusal),
-            _ => refusals::stop(name, &bytes, &refusal),
+            _ => refusals::unwritten(name, &bytes, &refusal),
         })?;
     output::save(given, desk, &out)?;
-    let to = given.value("--output").unwrap_or_default();
-    match (to == "-", desk.json) {
-        (true, _) => {}
-        (_, true) => {
-            let object = Object::new().bytes("file", to.as_bytes()).raw("bytes", out.len());
-            desk.line(&object.end())?;
-        }
-        (_, false) => desk.line(&format!("{}: {}", shown(to), many(out.len(), "byte")))?,
-    }
+    let records = file::count(&out).map_err(|refusal| refusals::stop(name, &out, &refusal))?;
+    output::told(given, desk, records, out.len())?;
     Ok(Status::Good)
 }
 
 /// The records of a text, a line each, laid out for the library. Empty lines do
 /// not count.
 fn records(name: &OsStr) -> Result<Vec<u8>, Stop> {
-    let bytes = file::text(name)?;
-    let mut new = Vec::new();
-    for (number, line) in bytes.split(|&byte| byte == b'\n').enumerate() {
-        if line.is_empty() {
-            continue;
+    let (mut new, mut label) = (Vec::new(), Vec::new());
+    file::lines(name, |number, line| {
+        let line = std::str::from_utf8(line).ok();
+        match line.and_then(|line| Record::of_line(line, &mut label)) {
+            _ if line == Some("") => Ok(()),
+            Some(record) => {
+                record.lay(&mut new);
+                Ok(())
+            }
+            None => {
+                let words = format!("{}: line {number} is no record", shown(name));
+                Err(Stop::trouble(format!("{words} (try: cockledrift list --records)")))
+            }
         }
-        let laid = std::str::from_utf8(line).ok().and_then(|line| lines::lay(line, &mut new));
-        if laid.is_none() {
-            let words = format!("{}: line {} is no record", shown(name), number + 1);
-            return Err(Stop::trouble(format!("{words} (try: cockledrift list --records)")));
-        }
-    }
+    })?;
     Ok(new)
 }

@@ -87,7 +87,7 @@ impl Facts {
 
     /// The title, and the coordinate system behind a zero byte.
     fn title(&self) -> (&[u8], Option<&[u8]>) {
-        let mut parts = self.header.header().title.split(|&byte| byte == 0);
+        let mut parts = self.header.header().title.splitn(2, |&byte| byte == 0);
         (parts.next().unwrap_or_default(), parts.next().filter(|system| !system.is_empty()))
     }
 }

@@ -20,17 +20,18 @@ pub fn run(given: &Given, desk: &mut Desk) -> Outcome {
         time::second(&second).map_err(|refusal| refusals::stop(two, &second, &refusal))?,
     ];
     let apart = times[0].abs_diff(times[1]);
-    let word = match later {
-        Later::First(_) => "first",
-        Later::Second(_) => "second",
-        Later::Same => "same",
+    // The question is whether the first is later than the second.
+    let (word, status) = match later {
+        Later::First(_) => ("first", Status::Good),
+        Later::Second(_) => ("second", Status::No),
+        Later::Same => ("same", Status::No),
     };
     if desk.json {
         let object = Object::new().bytes("first", one.as_bytes()).bytes("second", two.as_bytes());
         let object = object.text("later", word).raw("seconds", format!("{times:?}"));
         let [a, b] = times.map(|second| quoted(&time::utc(second)));
         let object = object.raw("times", format!("[{a}, {b}]")).raw("difference", apart);
-        return desk.line(&object.end()).map(|()| Status::Good);
+        return desk.line(&object.end()).map(|()| status);
     }
     desk.line(&match later {
         Later::First(_) => format!("{} is later, by {}", shown(one), time::span(apart)),
@@ -40,5 +41,5 @@ pub fn run(given: &Given, desk: &mut Desk) -> Outcome {
     for (name, second) in [one, two].into_iter().zip(times) {
         desk.line(&format!("{}: {}", shown(name), time::utc(second)))?;
     }
-    Ok(Status::Good)
+    Ok(status)
 }

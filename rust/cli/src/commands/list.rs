@@ -2,8 +2,8 @@
 
 use crate::args::Given;
 use crate::desk::{Desk, Outcome, Status, Stop};
-use crate::{file, lines, refusals};
-use cockledrift::Record;
+use crate::{file, refusals};
+use cockledrift::{text, Record};
 use std::ffi::OsStr;
 
 mod csv;
@@ -23,7 +23,7 @@ pub fn run(given: &Given, desk: &mut Desk) -> Outcome {
     let bytes = file::load(name)?;
     match chosen.first() {
         Some(&"--raw") => raw(name, &bytes, desk),
-        Some(&"--records") => each(name, &bytes, desk, |_, record| lines::line(record)),
+        Some(&"--records") => each(name, &bytes, desk, |_, record| record.line()),
         Some(_) => {
             good(name, &bytes)?;
             desk.line(csv::NAMES)?;
@@ -58,10 +58,10 @@ fn raw(name: &OsStr, bytes: &[u8], desk: &mut Desk) -> Outcome {
     let sheet =
         file::header(bytes, &opened).map_err(|refusal| refusals::stop(name, bytes, &refusal))?;
     let header = sheet.header();
-    let (title, time) = (lines::text(header.title), lines::text(header.time));
+    let (title, time) = (text(header.title), text(header.time));
     let (version, extended) = (opened.version, header.extended as u8);
     desk.line(&format!("version {version} title {title} time {time} extended {extended}"))?;
-    let count = file::records(name, bytes, |_, record| desk.line(&lines::line(&record)))?;
+    let count = file::records(name, bytes, |_, record| desk.line(&record.line()))?;
     desk.line(&format!("end {count}"))?;
     Ok(Status::Good)
 }

@@ -12,8 +12,9 @@ use std::os::unix::ffi::OsStrExt;
 #[derive(Clone, Copy, Default)]
 struct Length {
     legs: usize,
-    least: u128,
-    most: u128,
+    /// A file has less than two million legs, each of less than 2^34 centimetres.
+    least: i64,
+    most: i64,
 }
 
 /// The lengths of legs by their flags.
@@ -44,10 +45,10 @@ pub fn run(given: &Given, desk: &mut Desk) -> Outcome {
 }
 
 fn lengths(sheet: &Sheet, survey: &[u8]) -> Lengths {
-    let mut lengths = Lengths::default();
+    let (mut lengths, mut room) = (Lengths::default(), Vec::new());
     for record in sheet.records() {
         if let Record::Leg(leg) = record {
-            if takes_part(&record, survey) {
+            if survey.is_empty() || takes_part(&record, survey, &mut room) {
                 lengths.add(&leg);
             }
         }
@@ -57,17 +58,18 @@ fn lengths(sheet: &Sheet, survey: &[u8]) -> Lengths {
 
 /// Whether the leg is of the survey: the library says it, of a sheet with this
 /// leg alone.
-fn takes_part(record: &Record, survey: &[u8]) -> bool {
-    let mut sheet = b"\x02\0\x04\0\0\0\0".to_vec();
-    record.lay(&mut sheet);
-    survey.is_empty() || reach(&sheet, survey).is_ok()
+fn takes_part(record: &Record, survey: &[u8], sheet: &mut Vec<u8>) -> bool {
+    sheet.clear();
+    sheet.extend(b"\x02\0\x04\0\0\0\0");
+    record.lay(sheet);
+    reach(sheet, survey).is_ok()
 }
 
 impl Lengths {
     fn add(&mut self, leg: &Leg) {
         let square = square(leg.from, leg.to);
-        let least = square.isqrt();
-        let most = least + u128::from(least * least != square);
+        let root = square.isqrt();
+        let (least, most) = (root as i64, root as i64 + i64::from(root * root != square));
         self.all.add(least, most);
         if leg.flags == 0 {
             self.cave.add(least, most);
@@ -81,12 +83,12 @@ impl Lengths {
 }
 
 impl Length {
-    fn add(&mut self, least: u128, most: u128) {
+    fn add(&mut self, least: i64, most: i64) {
         *self = Length { legs: self.legs + 1, least: self.least + least, most: self.most + most };
     }
 
     fn text(&self) -> String {
-        let [least, most] = [self.least, self.most].map(|number| metres(number as i128));
+        let [least, most] = [self.least, self.most].map(|number| metres(number));
         format!("{least} to {most} m ({})", many(self.legs, "leg"))
     }
 }

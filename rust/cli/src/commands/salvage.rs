@@ -13,7 +13,7 @@ pub fn run(given: &Given, desk: &mut Desk) -> Outcome {
     let name = &given.names[0];
     let bytes = file::load(name)?;
     let (sheet, saved) = file::saved(name, &bytes)?;
-    let out = sheet.write().map_err(|refusal| refusals::stop(name, &bytes, &refusal))?;
+    let out = sheet.write().map_err(|refusal| refusals::unwritten(name, &bytes, &refusal))?;
     output::save(given, desk, &out)?;
     warnings(given, &sheet).iter().for_each(|words| desk.warn(words));
     let to_out = given.value("--output").is_some_and(|to| to == "-");
@@ -40,10 +40,8 @@ fn text(given: &Given, saved: &Saved, sheet: &Sheet) -> Vec<String> {
     };
     vec![
         format!(
-            "{name}: broken at byte {} ({} {}): {} from there on are left out",
-            saved.place,
-            refusal.number,
-            refusal.reason(),
+            "{name}: {}: {} from there on left out",
+            refusals::bare(&refusal),
             many(saved.left, "byte")
         ),
         format!("{name}: {records} saved: {last}"),

@@ -1,13 +1,14 @@
 //! `verify`: whether an archive is still what its catalogue says.
 
-use super::catalogue::MARK;
+use super::catalogue::{END, MARK};
 use crate::args::Given;
 use crate::desk::{Color, Desk, Outcome, Status, Stop};
 use crate::json::Object;
 use crate::text::{escaped, many, reason, shown, unescaped};
 use crate::{entry, file, refusals, walk};
-use std::collections::BTreeMap;
+use std::collections::{BTreeMap, BTreeSet, VecDeque};
 use std::ffi::{OsStr, OsString};
+use std::fs;
 use std::os::unix::ffi::{OsStrExt, OsStringExt};
 use std::path::{Path, PathBuf};
 
@@ -23,36 +24,61 @@ struct Found {
     changed: Vec<(PathBuf, String)>,
     new: Vec<PathBuf>,
     moved: Vec<(PathBuf, PathBuf)>,
+    /// Files of the catalogue that cannot be looked at, and others.
+    unread: usize,
 }
 
 pub fn run(given: &Given, desk: &mut Desk) -> Outcome {
     let name = &given.names[0];
     let (folder, due) = catalogue(name)?;
     let folder = given.value("--folder").map(PathBuf::from).unwrap_or(folder);
-    let found = compared(&folder, &due, desk)?;
+    if let Err(error) = fs::read_dir(&folder) {
+        let words = format!("{}: {}", shown(&folder), reason(&error));
+        return Err(Stop::trouble(format!("{words} (try: --folder, where the archive is now)")));
+    }
+    let found = compared(&folder, &due, desk);
     match desk.json {
         true => objects(&found).iter().try_for_each(|line| desk.line(line))?,
         false => text(&found, due.len(), desk)?,
     }
+    if !due.is_empty() && found.missing.len() == due.len() {
+        let words = "no file of the catalogue is there (try: --folder, where the archive is now)";
+        desk.warn(&format!("{}: {words}", shown(&folder)));
+    }
     let bad = found.missing.len() + found.changed.len() + found.new.len() + found.moved.len();
-    Ok(if bad == 0 { Status::Good } else { Status::No })
+    Ok(match (found.unread, bad) {
+        (0, 0) => Status::Good,
+        (0, _) => Status::No,
+        _ => Status::Trouble,
+    })
 }
 
 /// The folder and the files of a catalogue.
 fn catalogue(name: &OsStr) -> Result<(PathBuf, Digests), Stop> {
-    let bytes = file::text(name)?;
-    let wrong =
-        |line: usize| Stop::trouble(format!("{}: line {line} is none of a catalogue", shown(name)));
-    let text = String::from_utf8(bytes).map_err(|_| wrong(1))?;
-    let mut lines = text.lines().enumerate();
-    let folder = lines.next().and_then(|(_, line)| line.strip_prefix(MARK)).and_then(path);
-    let folder = folder.ok_or_else(|| wrong(1))?;
-    let mut due = Digests::new();
-    for (number, line) in lines.filter(|(_, line)| !line.starts_with('#')) {
-        let (path, digest) = row(line).ok_or_else(|| wrong(number + 1))?;
-        due.insert(path, digest);
+    let (mut folder, mut due, mut end) = (None, Digests::new(), None);
+    file::lines(name, |number, line| {
+        let words = || format!("{}: line {number} is none of a catalogue", shown(name));
+        let wrong = || Stop::trouble(format!("{} (try: cockledrift catalogue)", words()));
+        let line = std::str::from_utf8(line).map_err(|_| wrong())?.trim_end_matches('\r');
+        if number == 1 {
+            folder = Some(line.strip_prefix(MARK).and_then(path).ok_or_else(wrong)?);
+        } else if let Some(count) = line.strip_prefix(END) {
+            end = Some(count.parse::<usize>().map_err(|_| wrong())?);
+        } else if !line.starts_with('#') && !line.is_empty() {
+            let (path, digest) = row(line).ok_or_else(wrong)?;
+            if end.is_some() || due.insert(path, digest).is_some() {
+                return Err(wrong());
+            }
+        }
+        Ok(())
+    })?;
+    match (folder, end) {
+        (Some(folder), Some(end)) if end == due.len() => Ok((folder, due)),
+        _ => {
+            let words = format!("{}: a part of the catalogue is missing", shown(name));
+            Err(Stop::trouble(format!("{words}: it has {}", many(due.len(), "file"))))
+        }
     }
-    Ok((folder, due))
 }
 
 fn path(text: &str) -> Option<PathBuf> {
@@ -66,37 +92,46 @@ fn row(line: &str) -> Option<(PathBuf, String)> {
     (good && fields.len() == 9).then(|| path(fields[7])).flatten().map(|path| (path, digest.into()))
 }
 
-fn compared(folder: &Path, due: &Digests, desk: &mut Desk) -> Result<Found, Stop> {
-    let (files, status) = walk::files(folder, desk);
-    if status != Status::Good {
-        return Err(Stop::trouble(format!("{}: it cannot all be looked at", shown(folder))));
-    }
+fn compared(folder: &Path, due: &Digests, desk: &mut Desk) -> Found {
     let (mut found, mut new) = (Found::default(), Digests::new());
-    let mut there = BTreeMap::new();
-    for (number, file) in files.iter().enumerate() {
-        desk.progress(number, files.len());
+    let (mut walked, mut there) = (walk::walk(folder, desk), BTreeSet::new());
+    for (number, file) in walked.files.iter().enumerate() {
+        desk.progress(number, walked.files.len());
         let path = file.strip_prefix(folder).unwrap_or(file).to_path_buf();
-        let (digest, _, bytes) = entry::digest(file)
-            .map_err(|error| Stop::trouble(format!("{}: {}", shown(file), reason(&error))))?;
-        match due.get(&path) {
-            Some(old) if *old == digest => found.same += 1,
-            Some(_) => found.changed.push((path.clone(), state(&bytes))),
-            None => drop(new.insert(path.clone(), digest)),
-        }
-        there.insert(path, ());
-    }
-    for (path, digest) in due.iter().filter(|(path, _)| !there.contains_key(*path)) {
-        let to = new.iter().find(|(_, other)| *other == digest).map(|(to, _)| to.clone());
-        match to {
-            Some(to) => {
-                new.remove(&to);
-                found.moved.push((path.clone(), to));
+        match (entry::digest(file), due.get(&path)) {
+            (Ok((digest, ..)), Some(old)) if *old == digest => found.same += 1,
+            (Ok((_, _, bytes)), Some(_)) => found.changed.push((path.clone(), state(&bytes))),
+            (Ok((digest, ..)), None) => drop(new.insert(path.clone(), digest)),
+            (Err(error), _) => {
+                desk.error(&format!("{}: {}", shown(file), reason(&error)));
+                walked.unread.push(file.clone());
             }
-            None => found.missing.push(path.clone()),
         }
+        there.insert(path);
     }
-    found.new = new.into_keys().collect();
-    Ok(found)
+    found.unread = walked.unread.len();
+    let hidden = |path: &Path| walked.unread.iter().any(|bad| folder.join(path).starts_with(bad));
+    let gone = due.iter().filter(|(path, _)| !there.contains(*path) && !hidden(path));
+    found.gone(gone, new);
+    found
+}
+
+impl Found {
+    /// Files that are not in their places, and files that the catalogue has not.
+    fn gone<'d>(&mut self, gone: impl Iterator<Item = (&'d PathBuf, &'d String)>, new: Digests) {
+        let mut places: BTreeMap<String, VecDeque<PathBuf>> = BTreeMap::new();
+        for (path, digest) in new {
+            places.entry(digest).or_default().push_back(path);
+        }
+        for (path, digest) in gone {
+            match places.get_mut(digest).and_then(VecDeque::pop_front) {
+                Some(to) => self.moved.push((path.clone(), to)),
+                None => self.missing.push(path.clone()),
+            }
+        }
+        self.new = places.into_values().flatten().collect();
+        self.new.sort();
+    }
 }
 
 /// What a changed file is now.
@@ -125,8 +160,9 @@ fn text(found: &Found, due: usize, desk: &mut Desk) -> Result<(), Stop> {
         let word = desk.paint(word, Color::Red);
         desk.line(&format!("{word}: {rest}"))?;
     }
+    let unread = if found.unread > 0 { format!(", {} not read", found.unread) } else { "".into() };
     desk.line(&format!(
-        "{} in the catalogue: {} as they were, {} missing, {} changed, {} moved; {} new",
+        "{} in the catalogue: {} as they were, {} missing, {} changed, {} moved; {} new{unread}",
         many(due, "file"),
         found.same,
         found.missing.len(),

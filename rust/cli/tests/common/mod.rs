@@ -114,6 +114,11 @@ pub fn desk(name: &str) -> PathBuf {
     folder
 }
 
+/// Says that something is not tested here, past the capture of cargo's tests.
+pub fn skipped(words: &str) {
+    writeln!(std::io::stderr(), "NOT TESTED: {words}").expect("standard error");
+}
+
 /// Whether the text stands there.
 #[track_caller]
 pub fn has(text: &str, part: &str) {
@@ -134,15 +139,19 @@ pub fn small(title: &str, time: &str) -> Vec<u8> {
     format!("Survex 3D Image File\nv8\n{title}\n{time}\n\0\0\0").into_bytes()
 }
 
+/// What is said of a file over the limit.
+pub const TOO_LONG: &str = "refused 16 at byte 0: the file is over 16,777,216 bytes \
+    (try: Survex's own programs: nothing here takes more)";
+
 /// Every way in which one input of a command can be bad: what is in `before` comes
 /// before its name, what is in `after` behind it.
 #[track_caller]
 pub fn bad_inputs(folder: &Path, before: &[&str], after: &[&str]) {
     let cases = [
-        ("empty.3d", 1, "empty.3d: refused 1 at byte 0: no 3d file"),
-        ("other.3d", 1, "other.3d: refused 1 at byte 0: no 3d file"),
-        ("long.3d", 1, "long.3d: refused 16 at byte 0: the file is over 16,777,216 bytes"),
-        ("huge.3d", 1, "huge.3d: refused 16 at byte 0: the file is over 16,777,216 bytes"),
+        ("empty.3d", 1, "empty.3d: refused 1 at byte 0: no 3d file (try: another copy of it)\n"),
+        ("other.3d", 1, "other.3d: refused 1 at byte 0: no 3d file (try: another copy of it)\n"),
+        ("long.3d", 1, &format!("long.3d: {TOO_LONG}\n")),
+        ("huge.3d", 1, &format!("huge.3d: {TOO_LONG}\n")),
         ("missing.3d", 2, "missing.3d: No such file or directory"),
         ("folder", 2, "folder: Is a directory"),
         ("/proc/self/mem", 2, "/proc/self/mem: Input/output error"),

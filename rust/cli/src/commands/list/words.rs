@@ -43,9 +43,8 @@ pub fn of(record: &Record) -> String {
 
 fn error(Traverse { legs, length, error, horizontal, vertical }: Traverse) -> String {
     let [length, error, horizontal, vertical] = [length, error, horizontal, vertical].map(metres);
-    format!(
-        "error of {legs} legs, {length} m: {error} m, horizontal {horizontal}, vertical {vertical}"
-    )
+    let legs = if legs == 1 { "1 leg".into() } else { format!("{legs} legs") };
+    format!("error of {legs}, {length} m: {error} m, horizontal {horizontal}, vertical {vertical}")
 }
 
 fn distances(sides: [i32; 4]) -> String {
