@@ -11,6 +11,7 @@ use second::{Answer, Reach};
 use std::hint::black_box;
 use std::time::{Duration, Instant};
 
+mod strict;
 mod summaries;
 
 const TEN_MIB: usize = 10 * 1024 * 1024;
@@ -32,6 +33,8 @@ fn main() {
     edits(repeats);
     reaches(repeats);
     views(repeats);
+    summaries::report(repeats);
+    strict::report(repeats);
 }
 
 /// The legs of a sheet for the viewer, in room for just their numbers.
@@ -74,11 +77,7 @@ mod view {
             Viewed::Refused { number, place } => Answer::Refused { number, place: 4 * place },
         }
     }
-    summaries::report(repeats);
-    strict::report(repeats);
 }
-
-mod strict;
 
 /// How far the legs of a sheet reach: of all of them, of a survey that all are in, and of one that
 /// a leg in 28 is in. Nothing is lent but the sheet.

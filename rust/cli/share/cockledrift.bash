@@ -3,7 +3,7 @@ _cockledrift()
 {
     local word=${COMP_WORDS[COMP_CWORD]} before=${COMP_WORDS[COMP_CWORD-1]} words=
     if [ "$COMP_CWORD" -eq 1 ]; then
-        words='info list check later convert salvage measure entrances catalogue verify restore diff edit help --help --version'
+        words='info list check later convert salvage measure entrances catalogue verify restore diff edit plot view help --help --version'
     elif [ "$before" = --to ]; then
         words='8 7'
     elif [ "$before" = --color ]; then
@@ -23,6 +23,8 @@ _cockledrift()
             restore) words='--even-if-older --even-if-unknown --dry-run --json --quiet --color --help' ;;
             diff) words='--json --quiet --color --help' ;;
             edit) words='--at --count --with --output --force --json --quiet --color --help' ;;
+            plot) words='--plan --elevation --scale --survey --output --force --json --quiet --color --help' ;;
+            view) words='--output --force --json --quiet --color --help' ;;
         esac
     fi
     [ -n "$words" ] && mapfile -t COMPREPLY < <(compgen -W "$words" -- "$word")

@@ -100,7 +100,8 @@ fn flags(command: &'static Command) -> impl Iterator<Item = &'static Flag> {
     command.flags.iter().chain(COMMON)
 }
 
-/// `--name`, `--name VALUE` or `--name=VALUE`.
+/// `--name`, `--name VALUE` or `--name=VALUE`; the last alone where a value may be
+/// left out.
 fn long(
     given: &mut Given,
     word: &OsStr,
@@ -148,6 +149,7 @@ fn take(
         (None, None) => OsString::new(),
         (None, Some(_)) => return Err(given.usage(&format!("{} takes no value", flag.long))),
         (Some(_), Some(value)) => value,
+        (Some(_), None) if flag.optional() => OsString::new(),
         (Some(kind), None) => match words.next() {
             Some(value) => value,
             None => return Err(given.usage(&format!("{} takes {kind}", flag.long))),

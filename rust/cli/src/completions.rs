@@ -96,6 +96,9 @@ fn zsh_flag(flag: &Flag) -> String {
         Value::Other => format!(":{name}:"),
     };
     let (action, words) = (flag.value.map(action).unwrap_or_default(), zsh_plain(flag.words));
+    if flag.optional() {
+        return format!("            '{}=-[{words}]::value: ' \\\n", flag.long);
+    }
     let mut text = format!("            '{}[{words}]{action}' \\\n", flag.long);
     if let Some(letter) = flag.short {
         text += &format!("            '-{letter}[{words}]{action}' \\\n");
@@ -125,6 +128,7 @@ fn fish_flag(command: &Command, flag: &Flag) -> String {
     let short = flag.short.map(|letter| format!(" -s {letter}")).unwrap_or_default();
     let value = match flag.value.map(value) {
         None => String::new(),
+        Some(_) if flag.optional() => String::new(),
         Some(Value::Words(words)) => format!(" -x -a '{words}'"),
         Some(Value::Folder) => " -x -a '(__fish_complete_directories)'".into(),
         Some(Value::File) => " -r".into(),

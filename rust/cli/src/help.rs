@@ -35,7 +35,8 @@ pub fn of(command: &Command) -> String {
 /// `-o, --output FILE`.
 pub fn form(flag: &Flag) -> String {
     let short = flag.short.map(|letter| format!("-{letter}, ")).unwrap_or_default();
-    let value = flag.value.map(|value| format!(" {value}")).unwrap_or_default();
+    let space = if flag.optional() { "" } else { " " };
+    let value = flag.value.map(|value| format!("{space}{value}")).unwrap_or_default();
     format!("{short}{}{value}", flag.long)
 }
 

@@ -3,8 +3,8 @@
 
 use crate::args::Given;
 use crate::commands::{
-    catalogue, check, convert, diff, edit, entrances, info, later, list, measure, restore, salvage,
-    verify,
+    catalogue, check, convert, diff, edit, entrances, info, later, list, measure, plot, restore,
+    salvage, verify, view,
 };
 use crate::desk::{Desk, Outcome};
 
@@ -13,9 +13,16 @@ pub struct Flag {
     /// With its two dashes.
     pub long: &'static str,
     pub short: Option<char>,
-    /// What its value is called, where it has one.
+    /// What its value is called, where it has one; `[=WORD]` where it may be left out.
     pub value: Option<&'static str>,
     pub words: &'static str,
+}
+
+impl Flag {
+    /// Whether its value may be left out: then one stands behind `=` alone.
+    pub fn optional(&self) -> bool {
+        self.value.is_some_and(|value| value.starts_with("[="))
+    }
 }
 
 /// A command.
@@ -242,5 +249,34 @@ pub const COMMANDS: &[Command] = &[
             FORCE,
         ],
         run: edit::run,
+    },
+    Command {
+        name: "plot",
+        operands: "FILE",
+        count: (1, 1),
+        words: "draws a plan or an elevation to scale, as an SVG picture",
+        more: "On the smallest paper from A4 to A0 that it fits; where not even A0 is large enough, at the\n\
+               next scale at which it is. With a scale bar, the entrances, and station names where they fit.",
+        example: "cockledrift plot --plan --scale 1:1000 cave.3d -o cave.svg",
+        flags: &[
+            flag("--plan", "from above, north up"),
+            valued("--elevation", "[=BEARING]", "from the side, looking this way: degrees from north over east, else 0"),
+            valued("--scale", "1:N", "1:500 where it is not given"),
+            valued("--survey", "NAME", "the legs of this survey and of those in it; else all"),
+            OUTPUT,
+            FORCE,
+        ],
+        run: plot::run,
+    },
+    Command {
+        name: "view",
+        operands: "FILE",
+        count: (1, 1),
+        words: "makes a page on which a cave can be turned, in one file",
+        more: "Any browser shows it, from the file and without a network: turn, pan and zoom; colours by depth,\n\
+               survey, date or style; names by a click or a search; distances between stations.",
+        example: "cockledrift view cave.3d -o cave.html",
+        flags: &[OUTPUT, FORCE],
+        run: view::run,
     },
 ];

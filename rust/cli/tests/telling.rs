@@ -160,18 +160,18 @@ fn check_strictly() {
     let ran = run_in(&folder, &["check", "."]);
     assert_eq!((ran.code, ran.out.ends_with("3 files: 3 good, 0 refused\n")), (0, true));
     let ran = run_in(&folder, &["check", "--strict", "."]);
-    let due = "./early.3d: refused 18 at byte 30: a cross-section of a name that no earlier station has \
+    let due = "./early.3d: refused 18 at byte 30: a cross-section of a name that no earlier station has (try: cockledrift check, which is not strict) \
         (record 0, section a.1: left 0.00 right 0.00 up 0.00 down 0.00 m, no date; \
         behind it record 1, station a.1: (0.07 0.00 0.00) m)\n\
         ./good.3d: good, v8\n\
-        ./moved.3d: refused 19 at byte 77: a station whose name came earlier at another place \
+        ./moved.3d: refused 19 at byte 77: a station whose name came earlier at another place (try: cockledrift check, which is not strict) \
         (record 3, station a.1: (1.50 0.00 0.00) m; before it record 0, station a.1: (0.00 0.00 0.00) m)\n\
         3 files: 1 good, 2 refused\n";
     assert_eq!((ran.code, &ran.out[..], &ran.err[..]), (1, due, ""));
     let ran = run_in(&folder, &["check", "--strict", "--json", "moved.3d"]);
     has(&ran.out, "\"refused\": 19, \"place\": 77, \"place_counts\": \"byte\"");
     has(&ran.out, "\"record\": 3, \"record_is\": \"station a.1: (1.50 0.00 0.00) m\"");
-    has(&ran.out, "\"station\": 0, \"station_is\": \"station a.1: (0.00 0.00 0.00) m\"}");
+    has(&ran.out, "\"station\": 0, \"station_is\": \"station a.1: (0.00 0.00 0.00) m\", \"try\": ");
 }
 
 #[test]
@@ -238,7 +238,7 @@ fn entrances() {
     assert_eq!((ran.code, &ran.out[..], &ran.err[..]), (0, due, ""));
     for words in [["--from", "9", "--to", "3"], ["--from", "35", "--to", "35"]] {
         let ran = run_in(&folder, &[&["entrances", "good.3d"], &words[..]].concat());
-        let due = "good.3d: refused 15 at record 34: the run ends past the last record\n";
+        let due = "good.3d: refused 15 at record 34: the run ends past the last record (try: cockledrift info, which counts them)\n";
         assert_eq!((ran.code, &ran.out[..], &ran.err[..]), (1, "", due));
     }
     assert_eq!(run_in(&folder, &["entrances", "good.3d", "--from", "x"]).code, 2);

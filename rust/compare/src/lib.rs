@@ -9,7 +9,7 @@ pub use lent::{disagree, hex, same, Call, Difference, Fills};
 pub use run::{edits_wanted, files_wanted, seed, sheets_wanted, Tally};
 
 use generate::Edit;
-use second::{Answer, Entrances, Later, Reach, Salvaged, Viewed, Summary};
+use second::{Answer, Entrances, Later, Reach, Salvaged, Summary, Viewed};
 use std::cell::RefCell;
 
 /// Reading, at several buffer lengths. Answers what an ample buffer gives.
@@ -242,13 +242,13 @@ pub fn viewer_legs_by(
 const AROUND: usize = 4;
 
 /// What is lent, by its bits: they depend on their place, and no difference has them.
-fn lent(room: usize) -> Vec<u32> {
+fn lent_bits(room: usize) -> Vec<u32> {
     (0..room + 2 * AROUND).map(|place| 0x3380_0000 + place as u32 * 151).collect()
 }
 
 /// The answer and all bits, those around the lent numbers too.
 fn viewed(sheet: &[u8], origin: [i32; 3], room: usize, viewer: &Viewer) -> (Viewed, Vec<u32>) {
-    let mut numbers: Vec<f32> = lent(room).into_iter().map(f32::from_bits).collect();
+    let mut numbers: Vec<f32> = lent_bits(room).into_iter().map(f32::from_bits).collect();
     let answer = viewer(sheet, origin, &mut numbers[AROUND..AROUND + room]);
     (answer, numbers.into_iter().map(f32::to_bits).collect())
 }
@@ -259,7 +259,7 @@ fn untouched(answer: Viewed, bits: &[u32], room: usize) -> Result<(), String> {
         Viewed::Done { legs } => 6 * legs,
         Viewed::Refused { .. } => 0,
     };
-    let clean = lent(room);
+    let clean = lent_bits(room);
     let behind = AROUND + written;
     if bits[..AROUND] != clean[..AROUND] || bits[behind..] != clean[behind..] {
         return Err(format!("{answer:?} with a number touched, room {room}"));

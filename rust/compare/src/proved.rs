@@ -1,7 +1,7 @@
 //! The proved library with the second implementation's types: the one place
 //! where the two sets of types meet.
 
-use second::{Answer, Entrances, Later, Opened, Reach, Salvaged, Step, Viewed, Summary};
+use second::{Answer, Entrances, Later, Opened, Reach, Salvaged, Step, Summary, Viewed};
 
 /// An answer of the proved library.
 fn answer(answer: cockledrift::Answer) -> Answer {

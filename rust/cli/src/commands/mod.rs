@@ -10,6 +10,8 @@ pub mod info;
 pub mod later;
 pub mod list;
 pub mod measure;
+pub mod plot;
 pub mod restore;
 pub mod salvage;
 pub mod verify;
+pub mod view;
