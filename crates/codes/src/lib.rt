@@ -8,7 +8,7 @@ ghost use Rattle.format.specs.Bytes.{toLe16, toLe32, same};
 ghost use Rattle.format.specs.Fields.{recordOf, stateOf};
 ghost use Rattle.format.specs.Sheet.{pointBytes, dimensionBytes, traverseBytes};
 ghost use Rattle.format.specs.WellFormed.{WellFormed, GoodDated, GoodLeg, GoodStation, GoodSection};
-ghost use Rattle.format.specs.State.{leg, section as sectionRecord};
+ghost use Rattle.format.specs.State.{leg as legRecord, section as sectionRecord};
 ghost use Rattle.format.specs.Codes.{sameDate, datedCodes, v8Dates, samePoint, standsAt, styleIf, dateIf, moveIf, lineCodes, stationCodes, fitsShort, allShort, sectionCodes, errorCodes, codesLimit, codes};
 ghost use Rattle.format.specs.declared.Dated.the-variants.{Range};
 use part::kept_bytes;
@@ -302,21 +302,20 @@ fn put_leg(
     setting: format::Setting,
     last: &[u8],
     name: &[u8],
-    flags: u8,
-    style: u8,
-    date: format::Dated,
-    from: format::Point,
-    to: format::Point,
+    leg: format::Leg,
 ) -> usize
-    requires { ⌜ (length (now last) ≤ labelLimit) × GoodLeg (record { flags = flags; style = style; date = date; from = from; to = to }) (now name) ⌝ }
-    ensures { λ r. ⌜ Lays (now (out .entry)) (now (out .exit)) 0 (codes (stateOf setting (now (last .entry))) (leg (record { flags = flags; style = style; date = date; from = from; to = to }) (now (name .entry)))) codesLimit r ⌝ }
+    requires { ⌜ (length (now last) ≤ labelLimit) × GoodLeg leg (now name) ⌝ }
+    ensures { λ r. ⌜ Lays (now (out .entry)) (now (out .exit)) 0 (codes (stateOf setting (now (last .entry))) (legRecord leg (now (name .entry)))) codesLimit r ⌝ }
 {
+    let date = leg.date;
+    let from = leg.from;
+    let to = leg.to;
     let old = setting.date;
     let position = setting.position;
-    let a = put_style(out, 0, setting.style, style);
+    let a = put_style(out, 0, setting.style, leg.style);
     let b = put_new_date_if(out, a, old, date);
     let c = put_move_if(out, b, position, from);
-    put_line(out, c, last, name, flags, to)
+    put_line(out, c, last, name, leg.flags, to)
 }
 
 fn put_station(out: &mut [u8], last: &[u8], name: &[u8], station: format::Station) -> usize
@@ -424,7 +423,16 @@ pub fn put_record(
             date,
             from,
             to,
-        } => put_leg(out, setting, last, name, flags, style, date, from, to),
+        } => {
+            let leg = format::Leg {
+                flags,
+                style,
+                date,
+                from,
+                to,
+            };
+            put_leg(out, setting, last, name, leg)
+        }
         format::Fields::Station { station } => put_station(out, last, name, station),
         format::Fields::Section {
             last: end,

@@ -1,14 +1,16 @@
 -- A record's bytes: its size, its head and its label, and what two copies one after the other leave. Assumes nothing.
-use Prim.Native.Nat.{ℕ, suc, _+_, _-_, _≤_, _<_}
+use Prim.Native.Nat.{ℕ, suc, _+_, _-_, _*_, _/_, _%_, _≤_, _<_}
 use mathlib.Core.Path.{_≡_, refl, sym, ap, _∙_}
 use mathlib.Core.List.{List, [], _∷_, _++_, append-assoc}
 use native.Mathlib.Omega.{arith}
-use lib.ListN.{length, take, drop, getD, set, length-append}
-use lib.Seq.{sets-eq, length-take-le}
+use lib.ListN.{length, take, drop, getD, set, length-append, take-append-drop}
+use lib.Seq.{drop-cons, set-at, length-take-le}
+use native.Mathlib.Numerals.{add-one}
 use Rattle.format.specs.Bytes.{pick, over, toBe16, toBe32}
-use Rattle.format.specs.Sheet.{sheetVersion, pointBytes, dimensionBytes, traverseBytes, dateBytes, legSize, stationSize, sectionSize, errorSize, legBody, stationBody, sectionBody, layout, headerLayout}
+use Rattle.format.specs.Sheet.{sheetVersion, pointBytes, dimensionBytes, traverseBytes, dateKind, dateDay, dateLast, dateBytes, legSize, stationSize, sectionSize, errorSize, legBody, stationBody, sectionBody, layout, headerLayout}
 use Rattle.format.specs.State.{leg, station, section, error}
 use Rattle.format.specs.Fields.{recordSize}
+use Rattle.format.specs.declared.Dated.{Dated}
 use Rattle.format.specs.declared.Point.{Point}
 use Rattle.format.specs.declared.Dimensions.{Dimensions}
 use Rattle.format.specs.declared.Traverse.{Traverse}
@@ -18,6 +20,7 @@ use Rattle.format.specs.declared.Section.{Section as SectionFields}
 use Rattle.format.specs.declared.Fields.{Fields}
 use Rattle.format.specs.declared.Fields.the-variants.{Leg, Station, Section, Error}
 use Rattle.format.proofs.SheetLaws.{layout-leg, layout-station, layout-section, layout-error}
+use Rattle.record.specs.Fronts.{legFront, stationFront, sectionFront}
 use Rattle.record.specs.Joined.{Joint}
 use Rattle.wire.specs.Laid.{laid, laidIf}
 use Rattle.wire.proofs.Laws.{length-over, laid-zero, laid-part, laid-next, laid-none, laid-some}
@@ -35,19 +38,29 @@ body-length : (body : List ℕ) (k : ℕ) → length (toBe16 (length body) ++ bo
 unfolding toBe16
 body-length body k e = omega arith
 
-pub leg-parts : (g : LegFields) (l : List ℕ)
-    → (toBe16 (legSize + length l) ++ (1 ∷ g .flags ∷ g .style ∷ dateBytes (g .date))) ++ (pointBytes toBe32 (g .from) ++ (pointBytes toBe32 (g .to) ++ l)) ≡ layout sheetVersion (leg g l)
-unfolding layout
+pub leg-parts : (g : LegFields) (l : List ℕ) → legFront g (length l) ++ l ≡ layout sheetVersion (leg g l)
+unfolding layout legFront
 leg-parts g l = rw (← body-length (legBody g l) (legSize + length l) (layout-leg sheetVersion g l)) (simp append-assoc)
 
-pub station-parts : (s : StationFields) (l : List ℕ) → (toBe16 (stationSize + length l) ++ (2 ∷ s .flags ∷ [])) ++ (pointBytes toBe32 (s .place) ++ l) ≡ layout sheetVersion (station s l)
-unfolding layout
+pub station-parts : (s : StationFields) (l : List ℕ) → stationFront s (length l) ++ l ≡ layout sheetVersion (station s l)
+unfolding layout stationFront
 station-parts s l = rw (← body-length (stationBody s l) (stationSize + length l) (layout-station sheetVersion s l)) (simp append-assoc)
 
-pub section-parts : (s : SectionFields) (l : List ℕ)
-    → (toBe16 (sectionSize + length l) ++ (3 ∷ s .last ∷ dateBytes (s .date))) ++ (dimensionBytes toBe32 (s .size) ++ l) ≡ layout sheetVersion (section s l)
-unfolding layout pick
+pub section-parts : (s : SectionFields) (l : List ℕ) → sectionFront s (length l) ++ l ≡ layout sheetVersion (section s l)
+unfolding layout pick sectionFront
 section-parts s l = rw (← body-length (sectionBody s l) (sectionSize + length l) (layout-section s l)) (simp append-assoc)
+
+pub leg-front : (g : LegFields) (n : ℕ) → length (legFront g n) ≡ 34
+unfolding legFront toBe16 toBe32
+leg-front g n = refl
+
+pub station-front : (s : StationFields) (n : ℕ) → length (stationFront s n) ≡ 16
+unfolding stationFront toBe16 toBe32
+station-front s n = refl
+
+pub section-front : (s : SectionFields) (n : ℕ) → length (sectionFront s n) ≡ 25
+unfolding sectionFront toBe16 toBe32
+section-front s n = refl
 
 pub error-parts : (t : Traverse) → toBe16 errorSize ++ (4 ∷ traverseBytes toBe32 t) ≡ layout sheetVersion (error t)
 unfolding layout toBe16 toBe32
@@ -102,80 +115,76 @@ dimensions-laid s k d h =
     ∙ laid-next s (pointBytes toBe32 p) W k (omega (arith, point-length p))
     ∙ simp append-assoc
 
-pub leg-laid : (S head l : List ℕ) (from to : Point) → length head ≡ 10 → 34 + length l ≤ length S
-    → laid (laid (laid (over head S) 10 (pointBytes toBe32 from)) 22 (pointBytes toBe32 to)) 34 l ≡ over (head ++ (pointBytes toBe32 from ++ (pointBytes toBe32 to ++ l))) S
-leg-laid S head l from to e h =
-    let A = pointBytes toBe32 from in
-    let B = pointBytes toBe32 to in
-    let a = point-length from in
-    let b = point-length to in
-    let e1 : length (head ++ A) ≡ 22 = length-append head A ∙ omega arith in
-    let e2 : length ((head ++ A) ++ B) ≡ 34 = length-append (head ++ A) B ∙ omega arith in
-    ap (λ (y : List ℕ). laid (laid y 22 B) 34 l) (over-then S head A 10 e (omega arith))
-    ∙ ap (λ (y : List ℕ). laid y 34 l) (over-then S (head ++ A) B 22 e1 (omega arith))
-    ∙ over-then S ((head ++ A) ++ B) l 34 e2 h
-    ∙ ap (λ (y : List ℕ). over y S) (append-assoc (head ++ A) B l ∙ append-assoc head A (B ++ l))
+-- ---- a front, piece by piece
 
--- a head of k bytes, numbers up to j and a label
-pub head-laid : (S head A l : List ℕ) (k j : ℕ) → length head ≡ k → j ≡ k + length A → j + length l ≤ length S → laid (laid (over head S) k A) j l ≡ over (head ++ (A ++ l)) S
-head-laid S head A l k j e z h =
-    let e1 : length (head ++ A) ≡ j = length-append head A ∙ omega arith in
-    ap (λ (y : List ℕ). laid y j l) (over-then S head A k e (omega arith))
-    ∙ over-then S (head ++ A) l j e1 h
-    ∙ ap (λ (y : List ℕ). over y S) (append-assoc head A l)
+-- a piece that is laid behind what stands at the front
+pub then : (S s t y z : List ℕ) (k : ℕ) → y ≡ over s S → z ≡ laid y k t → length s ≡ k → k + length t ≤ length S → z ≡ over (s ++ t) S
+then S s t y z k e f n h = f ∙ ap (λ (x : List ℕ). laid x k t) e ∙ over-then S s t k n h
 
-pub station-laid : (S head l : List ℕ) (p : Point) → length head ≡ 4 → 16 + length l ≤ length S → laid (laid (over head S) 4 (pointBytes toBe32 p)) 16 l ≡ over (head ++ (pointBytes toBe32 p ++ l)) S
-station-laid S head l p e h = head-laid S head (pointBytes toBe32 p) l 4 16 e (omega (arith, point-length p)) h
+pub start-word : (n kind first : ℕ) → n < 65536 → kind < 256 → first < 256 → toBe32 (n * 65536 + kind * 256 + first) ≡ toBe16 n ++ (kind ∷ first ∷ [])
+unfolding toBe16 toBe32
+start-word n kind first h i j =
+    let w = n * 65536 + kind * 256 + first in
+    let a : w / 16777216 % 256 ≡ n / 256 % 256 = omega arith in
+    let b : w / 65536 % 256 ≡ n % 256 = omega arith in
+    let c : w / 256 % 256 ≡ kind = omega arith in
+    let d : w % 256 ≡ first = omega arith in
+    rw (a, b, c, d)
 
-pub section-laid : (S head l : List ℕ) (d : Dimensions) → length head ≡ 9 → 25 + length l ≤ length S
-    → laid (laid (over head S) 9 (dimensionBytes toBe32 d)) 25 l ≡ over (head ++ (dimensionBytes toBe32 d ++ l)) S
-section-laid S head l d e h = head-laid S head (dimensionBytes toBe32 d) l 9 25 e (omega (arith, dimensions-length d)) h
+pub days-word : (day last : ℕ) → day < 65536 → last < 65536 → toBe32 (day * 65536 + last) ≡ toBe16 day ++ toBe16 last
+unfolding toBe16 toBe32
+days-word day last h i =
+    let w = day * 65536 + last in
+    let a : w / 16777216 % 256 ≡ day / 256 % 256 = omega arith in
+    let b : w / 65536 % 256 ≡ day % 256 = omega arith in
+    let c : w / 256 % 256 ≡ last / 256 % 256 = omega arith in
+    let d : w % 256 ≡ last % 256 = omega arith in
+    rw (a, b, c, d)
 
--- the length of a label that is joined
-pub joined-length : (keep : ℕ) (added bytes : List ℕ) → Joint keep added bytes → length (take keep bytes ++ added) ≡ keep + length added
+pub byte-laid : (d : List ℕ) (k b : ℕ) → k < length d → set d k b ≡ laid d k (b ∷ [])
+unfolding laid
+byte-laid d k b h =
+    ap (λ (x : List ℕ). set x k b) (sym (take-append-drop k d) ∙ ap (λ (x : List ℕ). take k d ++ x) (drop-cons d k 0 h))
+    ∙ set-at (take k d) (getD d k 0) (drop (suc k) d) b k (length-take-le k d (omega arith))
+    ∙ rw (add-one k)
+
+-- a kind and two days in one word are a date
+pub date-laid : (S : List ℕ) (k : ℕ) (date : Dated) (a b : List ℕ) → k + 5 ≤ length S
+    → a ≡ laid S k (dateKind date ∷ []) → b ≡ laid a (k + 1) (toBe32 (dateDay date * 65536 + dateLast date)) → dateDay date < 65536 → dateLast date < 65536
+    → b ≡ laid S k (dateBytes date)
+date-laid S k date a b h ea eb i j =
+    eb
+    ∙ ap (λ (x : List ℕ). laid x (k + 1) (toBe32 (dateDay date * 65536 + dateLast date))) ea
+    ∙ laid-next S (dateKind date ∷ []) (toBe32 (dateDay date * 65536 + dateLast date)) k (omega arith)
+    ∙ ap (λ (x : List ℕ). laid S k (dateKind date ∷ x)) (days-word (dateDay date) (dateLast date) i j)
+
+pub leg-laid : (S : List ℕ) (g : LegFields) (n : ℕ) (a b c d e : List ℕ) → 34 ≤ length S
+    → a ≡ over (toBe16 (legSize + n) ++ (1 ∷ g .flags ∷ [])) S → b ≡ laid a 4 (g .style ∷ []) → c ≡ laid b 5 (dateBytes (g .date))
+    → d ≡ laid c 10 (pointBytes toBe32 (g .from)) → e ≡ laid d 22 (pointBytes toBe32 (g .to)) → e ≡ over (legFront g n) S
+unfolding legFront toBe16 toBe32
+leg-laid S g n a b c d e h ea eb ec ed ee =
+    then S _ _ d e 22 (then S _ _ c d 10 (then S _ _ b c 5 (then S _ _ a b 4 ea eb refl (omega arith)) ec refl (omega arith)) ed refl (omega arith)) ee refl
+    (omega arith)
+
+pub station-laid : (S : List ℕ) (s : StationFields) (n : ℕ) (a b : List ℕ) → 16 ≤ length S
+    → a ≡ over (toBe16 (stationSize + n) ++ (2 ∷ s .flags ∷ [])) S → b ≡ laid a 4 (pointBytes toBe32 (s .place)) → b ≡ over (stationFront s n) S
+unfolding stationFront toBe16 toBe32
+station-laid S s n a b h ea eb = then S _ _ a b 4 ea eb refl (omega arith)
+
+pub section-laid : (S : List ℕ) (s : SectionFields) (n : ℕ) (a b c : List ℕ) → 25 ≤ length S
+    → a ≡ over (toBe16 (sectionSize + n) ++ (3 ∷ s .last ∷ [])) S → b ≡ laid a 4 (dateBytes (s .date))
+    → c ≡ laid b 9 (dimensionBytes toBe32 (s .size)) → c ≡ over (sectionFront s n) S
+unfolding sectionFront toBe16 toBe32
+section-laid S s n a b c h ea eb ec = then S _ _ b c 9 (then S _ _ a b 4 ea eb refl (omega arith)) ec refl (omega arith)
+
+-- a label that is joined, and its length
+abbrev pub joined : ℕ → List ℕ → List ℕ → List ℕ
+joined keep added bytes = take keep bytes ++ added
+
+pub joined-length : (keep : ℕ) (added bytes : List ℕ) → Joint keep added bytes → length (joined keep added bytes) ≡ keep + length added
 joined-length keep added bytes J =
     let t = length-take-le keep bytes (omega (arith, J .few, J .whole)) in
     length-append (take keep bytes) added ∙ omega arith
-
--- ---- the bytes of a head, stored one after the other
-
-pub four-stored : (s d : List ℕ) → length s ≡ 4 → 4 ≤ length d → set (set (set (set d 0 (getD s 0 0)) 1 (getD s 1 0)) 2 (getD s 2 0)) 3 (getD s 3 0) ≡ over s d
-unfolding over
-four-stored [] d e h = absurd (omega arith)
-four-stored (x0 ∷ []) d e h = absurd (omega arith)
-four-stored (x0 ∷ x1 ∷ []) d e h = absurd (omega arith)
-four-stored (x0 ∷ x1 ∷ x2 ∷ []) d e h = absurd (omega arith)
-four-stored (x0 ∷ x1 ∷ x2 ∷ x3 ∷ []) d e h = sets-eq (x0 ∷ x1 ∷ x2 ∷ x3 ∷ []) d 0 h
-four-stored (x0 ∷ x1 ∷ x2 ∷ x3 ∷ x4 ∷ s) d e h = absurd (omega arith)
-
-pub nine-stored : (s d : List ℕ) → length s ≡ 9 → 9 ≤ length d → set (set (set (set (set (set (set (set (set d 0 (getD s 0 0)) 1 (getD s 1 0)) 2 (getD s 2 0)) 3 (getD s 3 0)) 4 (getD s 4 0)) 5 (getD s 5 0)) 6 (getD s 6 0)) 7 (getD s 7 0)) 8 (getD s 8 0) ≡ over s d
-unfolding over
-nine-stored [] d e h = absurd (omega arith)
-nine-stored (x0 ∷ []) d e h = absurd (omega arith)
-nine-stored (x0 ∷ x1 ∷ []) d e h = absurd (omega arith)
-nine-stored (x0 ∷ x1 ∷ x2 ∷ []) d e h = absurd (omega arith)
-nine-stored (x0 ∷ x1 ∷ x2 ∷ x3 ∷ []) d e h = absurd (omega arith)
-nine-stored (x0 ∷ x1 ∷ x2 ∷ x3 ∷ x4 ∷ []) d e h = absurd (omega arith)
-nine-stored (x0 ∷ x1 ∷ x2 ∷ x3 ∷ x4 ∷ x5 ∷ []) d e h = absurd (omega arith)
-nine-stored (x0 ∷ x1 ∷ x2 ∷ x3 ∷ x4 ∷ x5 ∷ x6 ∷ []) d e h = absurd (omega arith)
-nine-stored (x0 ∷ x1 ∷ x2 ∷ x3 ∷ x4 ∷ x5 ∷ x6 ∷ x7 ∷ []) d e h = absurd (omega arith)
-nine-stored (x0 ∷ x1 ∷ x2 ∷ x3 ∷ x4 ∷ x5 ∷ x6 ∷ x7 ∷ x8 ∷ []) d e h = sets-eq (x0 ∷ x1 ∷ x2 ∷ x3 ∷ x4 ∷ x5 ∷ x6 ∷ x7 ∷ x8 ∷ []) d 0 h
-nine-stored (x0 ∷ x1 ∷ x2 ∷ x3 ∷ x4 ∷ x5 ∷ x6 ∷ x7 ∷ x8 ∷ x9 ∷ s) d e h = absurd (omega arith)
-
-pub ten-stored : (s d : List ℕ) → length s ≡ 10 → 10 ≤ length d → set (set (set (set (set (set (set (set (set (set d 0 (getD s 0 0)) 1 (getD s 1 0)) 2 (getD s 2 0)) 3 (getD s 3 0)) 4 (getD s 4 0)) 5 (getD s 5 0)) 6 (getD s 6 0)) 7 (getD s 7 0)) 8 (getD s 8 0)) 9 (getD s 9 0) ≡ over s d
-unfolding over
-ten-stored [] d e h = absurd (omega arith)
-ten-stored (x0 ∷ []) d e h = absurd (omega arith)
-ten-stored (x0 ∷ x1 ∷ []) d e h = absurd (omega arith)
-ten-stored (x0 ∷ x1 ∷ x2 ∷ []) d e h = absurd (omega arith)
-ten-stored (x0 ∷ x1 ∷ x2 ∷ x3 ∷ []) d e h = absurd (omega arith)
-ten-stored (x0 ∷ x1 ∷ x2 ∷ x3 ∷ x4 ∷ []) d e h = absurd (omega arith)
-ten-stored (x0 ∷ x1 ∷ x2 ∷ x3 ∷ x4 ∷ x5 ∷ []) d e h = absurd (omega arith)
-ten-stored (x0 ∷ x1 ∷ x2 ∷ x3 ∷ x4 ∷ x5 ∷ x6 ∷ []) d e h = absurd (omega arith)
-ten-stored (x0 ∷ x1 ∷ x2 ∷ x3 ∷ x4 ∷ x5 ∷ x6 ∷ x7 ∷ []) d e h = absurd (omega arith)
-ten-stored (x0 ∷ x1 ∷ x2 ∷ x3 ∷ x4 ∷ x5 ∷ x6 ∷ x7 ∷ x8 ∷ []) d e h = absurd (omega arith)
-ten-stored (x0 ∷ x1 ∷ x2 ∷ x3 ∷ x4 ∷ x5 ∷ x6 ∷ x7 ∷ x8 ∷ x9 ∷ []) d e h = sets-eq (x0 ∷ x1 ∷ x2 ∷ x3 ∷ x4 ∷ x5 ∷ x6 ∷ x7 ∷ x8 ∷ x9 ∷ []) d 0 h
-ten-stored (x0 ∷ x1 ∷ x2 ∷ x3 ∷ x4 ∷ x5 ∷ x6 ∷ x7 ∷ x8 ∷ x9 ∷ x10 ∷ s) d e h = absurd (omega arith)
 
 -- ---- a record laid in where it fits
 
@@ -185,6 +194,19 @@ module _ (d : List ℕ) (k : ℕ) (s : List ℕ) where
 
   pub lay-some : k + length s ≤ length d → (y : List ℕ) → y ≡ over s (take (length d - k) (drop k d)) → take k d ++ (y ++ drop (length d - k) (drop k d)) ≡ laidIf d k s
   lay-some h y ey = rw ey (laid-part d s k (omega arith) (length d) refl) ∙ sym (laid-some d s k h)
+
+-- a record that is a front and a label, laid one after the other
+pub front-then : (d F L whole y z : List ℕ) (at k : ℕ) → length F ≡ k → F ++ L ≡ whole → at + length whole ≤ length d
+    → y ≡ over F (take (length d - at) (drop at d)) → z ≡ laid (take at d ++ (y ++ drop (length d - at) (drop at d))) (at + k) L → z ≡ laidIf d at whole
+front-then d F L whole y z at k n e h ey ez =
+    let w : length F + length L ≡ length whole = sym (length-append F L) ∙ ap length e in
+    let f : take at d ++ (y ++ drop (length d - at) (drop at d)) ≡ laid d at F = rw ey (laid-part d F at (omega arith) (length d) refl) in
+    ez
+    ∙ ap (λ (x : List ℕ). laid x (at + k) L) f
+    ∙ ap (λ (j : ℕ). laid (laid d at F) (at + j) L) (sym n)
+    ∙ laid-next d F L at (omega arith)
+    ∙ ap (laid d at) e
+    ∙ sym (laid-some d whole at h)
 
 -- ---- the front of a sheet
 

@@ -10,8 +10,3 @@ pub record Joint (keep : ℕ) (added bytes : List ℕ) : Type 0 where
   pub few : keep + 16 ≤ labelLimit
   pub add-few : length added < 16
   pub whole : length bytes ≡ labelLimit
-
--- and there is room for it behind k bytes
-pub record Joins (k keep : ℕ) (added bytes out : List ℕ) : Type 0 where
-  pub joint : Joint keep added bytes
-  pub fits : k + (keep + length added) ≤ length out

@@ -4,10 +4,11 @@ ghost use mathlib.Core.List.{List, [], _∷_, _++_};
 ghost use Prim.Native.Nat.{ℕ, _+_, _^_, _≤_, _<_};
 ghost use lib.ListN.{length, take};
 ghost use Rattle.format.specs.Bytes.{over, toBe16, toBe32};
-ghost use Rattle.format.specs.Sheet.{sheetVersion, pointBytes, dimensionBytes, traverseBytes, dateKind, dateDay, dateLast, legSize, stationSize, sectionSize, errorSize, recordLimit, layout, headerLayout};
+ghost use Rattle.format.specs.Sheet.{sheetVersion, pointBytes, dimensionBytes, traverseBytes, dateKind, dateDay, dateLast, dateBytes, errorSize, recordLimit, layout, headerLayout};
 ghost use Rattle.format.specs.State.{leg, station, section};
 ghost use Rattle.format.specs.Fields.{recordOf, recordSize};
-ghost use Rattle.record.specs.Joined.{Joint, Joins};
+ghost use Rattle.record.specs.Fronts.{legFront, stationFront, sectionFront};
+ghost use Rattle.record.specs.Joined.{Joint};
 ghost use Rattle.wire.specs.Laid.{laid, laidIf};
 ghost use Rattle.format.specs.Header.{timeLimit, titleLimit};
 ghost use Rattle.format.specs.Label.{labelLimit};
@@ -49,55 +50,6 @@ fn days_of(date: Dated) -> Days
             last,
         },
     }
-}
-
-// The length bytes of a leg whose label has len bytes, and its fields up to the date.
-fn leg_head(len: usize, flags: u8, style: u8, days: Days) -> [u8; 10]
-    requires { ⌜ len ≤ labelLimit ⌝ }
-    ensures { λ r. ⌜ r ≡ toBe16 (legSize + len) ++ (1 ∷ flags ∷ style ∷ days .kind ∷ (toBe16 (days .day) ++ toBe16 (days .last))) ⌝ }
-{
-    let n = 32 + len;
-    [
-        (n / 256 % 256) as u8,
-        (n % 256) as u8,
-        1,
-        flags,
-        style,
-        days.kind,
-        (days.day / 256 % 256) as u8,
-        (days.day % 256) as u8,
-        (days.last / 256 % 256) as u8,
-        (days.last % 256) as u8,
-    ]
-}
-
-// The length bytes, the kind and the flags of a station whose label has len bytes.
-fn station_head(len: usize, flags: u8) -> [u8; 4]
-    requires { ⌜ len ≤ labelLimit ⌝ }
-    ensures { λ r. ⌜ r ≡ toBe16 (stationSize + len) ++ (2 ∷ flags ∷ []) ⌝ }
-{
-    let n = 14 + len;
-    [(n / 256 % 256) as u8, (n % 256) as u8, 2, flags]
-}
-
-// The length bytes of a cross-section whose label has len bytes, and its fields up to
-// the date.
-fn section_head(len: usize, last: u8, days: Days) -> [u8; 9]
-    requires { ⌜ len ≤ labelLimit ⌝ }
-    ensures { λ r. ⌜ r ≡ toBe16 (sectionSize + len) ++ (3 ∷ last ∷ days .kind ∷ (toBe16 (days .day) ++ toBe16 (days .last))) ⌝ }
-{
-    let n = 23 + len;
-    [
-        (n / 256 % 256) as u8,
-        (n % 256) as u8,
-        3,
-        last,
-        days.kind,
-        (days.day / 256 % 256) as u8,
-        (days.day % 256) as u8,
-        (days.last / 256 % 256) as u8,
-        (days.last % 256) as u8,
-    ]
 }
 
 // A traverse error, whole: it has no label.
@@ -190,7 +142,7 @@ fn put_kept(out: &mut [u8], k: usize, bytes: &[u8; LABEL_LIMIT], len: usize)
 // Writes a label into out from index k on: the first keep bytes of another one, and at
 // most fifteen more.
 fn put_joined(out: &mut [u8], k: usize, bytes: &[u8; LABEL_LIMIT], keep: usize, added: &[u8])
-    requires { ⌜ (k ≤ labelLimit) × (keep ≤ labelLimit) × (length (now added) < 16) × (k + (keep + length (now added)) ≤ length (now out)) × (length (now bytes) ≡ labelLimit) ⌝ }
+    requires { ⌜ (k + (keep + length (now added)) ≤ length (now out)) × Joint keep (now added) (now bytes) ⌝ }
     ensures { λ _. ⌜ now (out .exit) ≡ laid (now (out .entry)) k (take keep (now (bytes .entry)) ++ now (added .entry)) ⌝ }
 {
     put_kept(out, k, bytes, keep);
@@ -222,48 +174,86 @@ pub fn record_size(fields: Fields, len: usize) -> usize
     }
 }
 
-// Lays a leg over the front of out, after its head of ten bytes.
-fn put_leg(
-    out: &mut [u8],
-    head: [u8; 10],
-    from: Point,
-    to: Point,
-    bytes: &[u8; LABEL_LIMIT],
-    len: usize,
-)
-    requires { ⌜ (len ≤ labelLimit) × (34 + len ≤ length (now out)) × (length (now bytes) ≡ labelLimit) ⌝ }
-    ensures { λ _. ⌜ now (out .exit) ≡ over (head ++ (pointBytes toBe32 from ++ (pointBytes toBe32 to ++ take len (now (bytes .entry))))) (now (out .entry)) ⌝ }
+// ---- what stands before the label of len bytes, over the front of out. Words of their own
+// are stored at once, where a head of bytes is stored byte by byte.
+
+// The length bytes of a body of n bytes, its kind and the byte behind.
+fn put_start(out: &mut [u8], n: usize, kind: u8, first: u8)
+    requires { ⌜ (n < 65536) × (4 ≤ length (now out)) ⌝ }
+    ensures { λ _. ⌜ now (out .exit) ≡ over (toBe16 n ++ (kind ∷ first ∷ [])) (now (out .entry)) ⌝ }
 {
-    wire::copy(&head, out);
+    let k = number::wide(kind);
+    let b = number::wide(first);
+    number::put_be32(out, n as u32 * 65536 + k * 256 + b);
+}
+
+fn put_byte(out: &mut [u8], k: usize, b: u8)
+    requires { ⌜ k < length (now out) ⌝ }
+    ensures { λ _. ⌜ now (out .exit) ≡ laid (now (out .entry)) k (b ∷ []) ⌝ }
+{
+    out[k] = b;
+}
+
+// A day as a number to compute with.
+fn wide_day(n: u16) -> u32
+    ensures { λ r. ⌜ (r ≡ n) × (r < 65536) ⌝ }
+{
+    n as u32
+}
+
+// A date from index k on: its kind, its day and its last day.
+fn put_date(out: &mut [u8], k: usize, date: Dated)
+    requires { ⌜ k + 5 ≤ length (now out) ⌝ }
+    ensures { λ _. ⌜ now (out .exit) ≡ laid (now (out .entry)) k (dateBytes date) ⌝ }
+{
+    let days = days_of(date);
+    let day = wide_day(days.day);
+    let last = wide_day(days.last);
+    put_byte(out, k, days.kind);
+    put_word(out, k + 1, day * 65536 + last);
+}
+
+fn put_leg(out: &mut [u8], fields: Leg, len: usize)
+    requires { ⌜ (len ≤ labelLimit) × (34 ≤ length (now out)) ⌝ }
+    ensures { λ _. ⌜ now (out .exit) ≡ over (legFront fields len) (now (out .entry)) ⌝ }
+{
+    let date = fields.date;
+    let from = fields.from;
+    let to = fields.to;
+    put_start(out, 32 + len, 1, fields.flags);
+    put_byte(out, 4, fields.style);
+    put_date(out, 5, date);
     put_point(out, 10, from);
     put_point(out, 22, to);
-    put_label(out, 34, bytes, len);
 }
 
-// Lays a station over the front of out, after its head of four bytes.
-fn put_station(out: &mut [u8], head: [u8; 4], place: Point, bytes: &[u8; LABEL_LIMIT], len: usize)
-    requires { ⌜ (len ≤ labelLimit) × (16 + len ≤ length (now out)) × (length (now bytes) ≡ labelLimit) ⌝ }
-    ensures { λ _. ⌜ now (out .exit) ≡ over (head ++ (pointBytes toBe32 place ++ take len (now (bytes .entry)))) (now (out .entry)) ⌝ }
+fn put_station(out: &mut [u8], fields: Station, len: usize)
+    requires { ⌜ (len ≤ labelLimit) × (16 ≤ length (now out)) ⌝ }
+    ensures { λ _. ⌜ now (out .exit) ≡ over (stationFront fields len) (now (out .entry)) ⌝ }
 {
-    wire::copy(&head, out);
+    let place = fields.place;
+    put_start(out, 14 + len, 2, fields.flags);
     put_point(out, 4, place);
-    put_label(out, 16, bytes, len);
 }
 
-// Lays a cross-section over the front of out, after its head of nine bytes.
-fn put_section(
-    out: &mut [u8],
-    head: [u8; 9],
-    size: Dimensions,
-    bytes: &[u8; LABEL_LIMIT],
-    len: usize,
-)
-    requires { ⌜ (len ≤ labelLimit) × (25 + len ≤ length (now out)) × (length (now bytes) ≡ labelLimit) ⌝ }
-    ensures { λ _. ⌜ now (out .exit) ≡ over (head ++ (dimensionBytes toBe32 size ++ take len (now (bytes .entry)))) (now (out .entry)) ⌝ }
+fn put_section(out: &mut [u8], fields: Section, len: usize)
+    requires { ⌜ (len ≤ labelLimit) × (25 ≤ length (now out)) ⌝ }
+    ensures { λ _. ⌜ now (out .exit) ≡ over (sectionFront fields len) (now (out .entry)) ⌝ }
 {
-    wire::copy(&head, out);
+    let date = fields.date;
+    let size = fields.size;
+    put_start(out, 23 + len, 3, fields.last);
+    put_date(out, 4, date);
     put_dimensions(out, 9, size);
-    put_label(out, 25, bytes, len);
+}
+
+// A traverse error, over the front of out.
+fn put_error(out: &mut [u8], traverse: Traverse)
+    requires { ⌜ 23 ≤ length (now out) ⌝ }
+    ensures { λ _. ⌜ now (out .exit) ≡ over (toBe16 errorSize ++ (4 ∷ traverseBytes toBe32 traverse)) (now (out .entry)) ⌝ }
+{
+    let whole = error_bytes(traverse);
+    wire::copy(&whole, out);
 }
 
 // Lays a record over the front of out.
@@ -279,13 +269,19 @@ fn put_record(out: &mut [u8], fields: Fields, bytes: &[u8; LABEL_LIMIT], len: us
             from,
             to,
         } => {
-            let head = leg_head(len, flags, style, days_of(date));
-            put_leg(out, head, from, to, bytes, len);
+            let leg = Leg {
+                flags,
+                style,
+                date,
+                from,
+                to,
+            };
+            put_leg(out, leg, len);
+            put_label(out, 34, bytes, len);
         }
         Fields::Station { station } => {
-            let place = station.place;
-            let head = station_head(len, station.flags);
-            put_station(out, head, place, bytes, len);
+            put_station(out, station, len);
+            put_label(out, 16, bytes, len);
         }
         Fields::Section {
             last,
@@ -293,13 +289,11 @@ fn put_record(out: &mut [u8], fields: Fields, bytes: &[u8; LABEL_LIMIT], len: us
             date,
             size,
         } => {
-            let head = section_head(len, last, days_of(date));
-            put_section(out, head, size, bytes, len);
+            let section = Section { last, date, size };
+            put_section(out, section, len);
+            put_label(out, 25, bytes, len);
         }
-        Fields::Error { traverse } => {
-            let whole = error_bytes(traverse);
-            wire::copy(&whole, out);
-        }
+        Fields::Error { traverse } => put_error(out, traverse),
     }
 }
 
@@ -326,76 +320,9 @@ pub fn lay_record(
 }
 
 // ---- a leg, a station and a cross-section whose label is the first keep bytes of another
-// one, and at most fifteen more: the commonest, so their heads are stored without a loop
+// one, and at most fifteen more: the commonest. Each is laid into the sheet from index `at`
+// on, where it fits.
 
-fn put_ten(out: &mut [u8], head: [u8; 10])
-    requires { ⌜ 10 ≤ length (now out) ⌝ }
-    ensures { λ _. ⌜ now (out .exit) ≡ over head (now (out .entry)) ⌝ }
-{
-    out[0] = head[0];
-    out[1] = head[1];
-    out[2] = head[2];
-    out[3] = head[3];
-    out[4] = head[4];
-    out[5] = head[5];
-    out[6] = head[6];
-    out[7] = head[7];
-    out[8] = head[8];
-    out[9] = head[9];
-}
-
-fn put_nine(out: &mut [u8], head: [u8; 9])
-    requires { ⌜ 9 ≤ length (now out) ⌝ }
-    ensures { λ _. ⌜ now (out .exit) ≡ over head (now (out .entry)) ⌝ }
-{
-    out[0] = head[0];
-    out[1] = head[1];
-    out[2] = head[2];
-    out[3] = head[3];
-    out[4] = head[4];
-    out[5] = head[5];
-    out[6] = head[6];
-    out[7] = head[7];
-    out[8] = head[8];
-}
-
-fn put_four(out: &mut [u8], head: [u8; 4])
-    requires { ⌜ 4 ≤ length (now out) ⌝ }
-    ensures { λ _. ⌜ now (out .exit) ≡ over head (now (out .entry)) ⌝ }
-{
-    out[0] = head[0];
-    out[1] = head[1];
-    out[2] = head[2];
-    out[3] = head[3];
-}
-
-// Lays such a leg over the front of out.
-pub fn put_short_leg(
-    out: &mut [u8],
-    fields: Leg,
-    bytes: &[u8; LABEL_LIMIT],
-    keep: usize,
-    added: &[u8],
-)
-    requires { ⌜ Joins 34 keep (now added) (now bytes) (now out) ⌝ }
-    ensures { λ _. ⌜ now (out .exit) ≡ over (layout sheetVersion (leg fields (take keep (now (bytes .entry)) ++ now (added .entry)))) (now (out .entry)) ⌝ }
-{
-    let date = fields.date;
-    let from = fields.from;
-    let to = fields.to;
-    let head = leg_head(
-        keep + added.len(),
-        fields.flags,
-        fields.style,
-        days_of(date),
-    );
-    put_ten(out, head);
-    put_point(out, 10, from);
-    put_point(out, 22, to);
-    put_joined(out, 34, bytes, keep, added);
-}
-
-// Lays such a leg into the sheet from index `at` on, where it fits.
 pub fn lay_short_leg(
     sheet: &mut [u8],
     at: usize,
@@ -407,32 +334,15 @@ pub fn lay_short_leg(
     requires { ⌜ (at < 2 ^ 62) × Joint keep (now added) (now bytes) ⌝ }
     ensures { λ _. ⌜ now (sheet .exit) ≡ laidIf (now (sheet .entry)) at (layout sheetVersion (leg fields (take keep (now (bytes .entry)) ++ now (added .entry)))) ⌝ }
 {
-    let size = 34 + (keep + added.len());
-    if sheet.len() < at + size {
+    let len = keep + added.len();
+    let name = at + 34;
+    if sheet.len() < name + len {
         return;
     }
-    put_short_leg(&mut sheet[at..], fields, bytes, keep, added);
+    put_leg(&mut sheet[at..], fields, len);
+    put_joined(sheet, name, bytes, keep, added);
 }
 
-// Lays such a station over the front of out.
-pub fn put_short_station(
-    out: &mut [u8],
-    fields: Station,
-    bytes: &[u8; LABEL_LIMIT],
-    keep: usize,
-    added: &[u8],
-)
-    requires { ⌜ Joins 16 keep (now added) (now bytes) (now out) ⌝ }
-    ensures { λ _. ⌜ now (out .exit) ≡ over (layout sheetVersion (station fields (take keep (now (bytes .entry)) ++ now (added .entry)))) (now (out .entry)) ⌝ }
-{
-    let place = fields.place;
-    let head = station_head(keep + added.len(), fields.flags);
-    put_four(out, head);
-    put_point(out, 4, place);
-    put_joined(out, 16, bytes, keep, added);
-}
-
-// Lays such a station into the sheet from index `at` on, where it fits.
 pub fn lay_short_station(
     sheet: &mut [u8],
     at: usize,
@@ -444,33 +354,15 @@ pub fn lay_short_station(
     requires { ⌜ (at < 2 ^ 62) × Joint keep (now added) (now bytes) ⌝ }
     ensures { λ _. ⌜ now (sheet .exit) ≡ laidIf (now (sheet .entry)) at (layout sheetVersion (station fields (take keep (now (bytes .entry)) ++ now (added .entry)))) ⌝ }
 {
-    let size = 16 + (keep + added.len());
-    if sheet.len() < at + size {
+    let len = keep + added.len();
+    let name = at + 16;
+    if sheet.len() < name + len {
         return;
     }
-    put_short_station(&mut sheet[at..], fields, bytes, keep, added);
+    put_station(&mut sheet[at..], fields, len);
+    put_joined(sheet, name, bytes, keep, added);
 }
 
-// Lays such a cross-section over the front of out.
-pub fn put_short_section(
-    out: &mut [u8],
-    fields: Section,
-    bytes: &[u8; LABEL_LIMIT],
-    keep: usize,
-    added: &[u8],
-)
-    requires { ⌜ Joins 25 keep (now added) (now bytes) (now out) ⌝ }
-    ensures { λ _. ⌜ now (out .exit) ≡ over (layout sheetVersion (section fields (take keep (now (bytes .entry)) ++ now (added .entry)))) (now (out .entry)) ⌝ }
-{
-    let date = fields.date;
-    let dims = fields.size;
-    let head = section_head(keep + added.len(), fields.last, days_of(date));
-    put_nine(out, head);
-    put_dimensions(out, 9, dims);
-    put_joined(out, 25, bytes, keep, added);
-}
-
-// Lays such a cross-section into the sheet from index `at` on, where it fits.
 pub fn lay_short_section(
     sheet: &mut [u8],
     at: usize,
@@ -482,11 +374,13 @@ pub fn lay_short_section(
     requires { ⌜ (at < 2 ^ 62) × Joint keep (now added) (now bytes) ⌝ }
     ensures { λ _. ⌜ now (sheet .exit) ≡ laidIf (now (sheet .entry)) at (layout sheetVersion (section fields (take keep (now (bytes .entry)) ++ now (added .entry)))) ⌝ }
 {
-    let size = 25 + (keep + added.len());
-    if sheet.len() < at + size {
+    let len = keep + added.len();
+    let name = at + 25;
+    if sheet.len() < name + len {
         return;
     }
-    put_short_section(&mut sheet[at..], fields, bytes, keep, added);
+    put_section(&mut sheet[at..], fields, len);
+    put_joined(sheet, name, bytes, keep, added);
 }
 
 // The version byte and the fields of a header whose title has t bytes and whose

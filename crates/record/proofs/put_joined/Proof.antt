@@ -39,13 +39,13 @@ returns c =
     let keep = a .args .keep in
     let l = take keep (a .args .bytes .now) in
     let m = a .args .added .now in
-    let t : length l ≡ keep = length-take-le keep (a .args .bytes .now) (omega (arith, a .pre)) in
+    let t : length l ≡ keep = length-take-le keep (a .args .bytes .now) (omega (arith, a .pre .0, a .pre .1 .few, a .pre .1 .whole)) in
     let y = c .before .before .before .before .before .before .put-kept .last .0 in
     let h : length y ≡ length (a .args .out .now) = search needs in
-    rw (c .before .before .copy-short .ensures) (laid-part y m (k + keep) (omega (arith, a .pre)) (length y) refl)
+    rw (c .before .before .copy-short .ensures) (laid-part y m (k + keep) (omega (arith, a .pre .0, a .pre .1 .few, a .pre .1 .whole)) (length y) refl)
     ∙ ap (λ (d : List ℕ). laid d (k + keep) m) (c .before .before .before .before .before .before .put-kept .ensures)
     ∙ ap (λ (n : ℕ). laid (laid (a .args .out .now) k l) (k + n) m) (let z : keep ≡ length l = omega arith in z)
-    ∙ laid-next (a .args .out .now) l m k (omega (arith, a .pre))
+    ∙ laid-next (a .args .out .now) l m k (omega (arith, a .pre .0, a .pre .1 .few, a .pre .1 .whole))
 
 pub put-joined-spec : {M : Type 1} → statement M
 put-joined-spec =
