@@ -1,12 +1,12 @@
 -- The commonest items: each is the step that `take_item` would answer, and what is laid is its record. Assumes nothing.
-use Prim.Native.Nat.{ℕ, _+_, _≤_, _<_}
+use Prim.Native.Nat.{ℕ, _+_, _^_, _≤_, _<_}
 use mathlib.Core.Path.{_≡_, refl, sym, ap, _∙_}
 use mathlib.Core.List.{List, _++_}
 use native.Mathlib.Omega.{arith}
 use lib.ListN.{length, take, drop}
 use lib.Seq.{take-take, length-take-le}
 use Rattle.format.specs.Label.{labelLimit}
-use Rattle.format.specs.Items.{itemOf}
+use Rattle.format.specs.Items.{Item, itemOf}
 use Rattle.format.specs.Outline.{dropLeaves}
 use Rattle.format.specs.State.{Next, leg, station, section}
 use Rattle.format.specs.Sheet.{sheetVersion, layout}
@@ -26,11 +26,19 @@ use Rattle.item.specs.Seen.{Tells}
 use Rattle.item.specs.declared.Step.the-variants.{Made}
 use Rattle.item.specs.Commonest.{movedTo, extended, legStep, stationStep, sectionStep}
 use Rattle.item.proofs.Commonest.{label-extended, leg-told, station-told, section-told}
-use Rattle.laying.specs.Quickly.{laidBy, LaidAs}
+use Rattle.laying.specs.Quickly.{laidBy, laidFrom, Joined, LaidAs}
+use Rattle.laying.specs.declared.Joint.{Joint}
+
+-- ---- one of the commonest items that makes a record can be laid
+
+pub joined : {version len size : ℕ} {make : ℕ → List ℕ → List ℕ → Item} (j : Joint) (s b : List ℕ) (out : ℕ) → Brief version s len (j .keep) (j .add) size make
+    → length b ≡ labelLimit → out < 2 ^ 62 → Joined j s b out
+joined j s b out B w o = record { there = B .there; few = B .few; add-few = B .add-few; whole = w; out-few = o }
 
 -- ---- what is laid is the record that the step tells
 
-told-laid : (n m : ℕ) (st : Setting) (f : Fields) (kept : ℕ) (b d d′ : List ℕ) (k : ℕ) (x : Next) → Tells (Made n m st f kept) b x → d′ ≡ laidIf d k (layout sheetVersion (recordOf f (take m b))) → d′ ≡ laidBy x d k
+told-laid : (n m : ℕ) (st : Setting) (f : Fields) (kept : ℕ) (b d d′ : List ℕ) (k : ℕ) (x : Next) → Tells (Made n m st f kept) b x
+    → d′ ≡ laidFrom k (recordOf f (take m b)) d → d′ ≡ laidBy x d k
 told-laid n m st f kept b d d′ k x T e = e ∙ ap (λ (y : Next). laidBy y d k) (T .same)
 
 module _ (version : ℕ) (s : List ℕ) (len keep add : ℕ) (b b′ : List ℕ) (setting : Setting) (d d′ : List ℕ) (out : ℕ)
@@ -46,10 +54,13 @@ module _ (version : ℕ) (s : List ℕ) (len keep add : ℕ) (b b′ : List ℕ)
 
   -- the label that is laid is the one that the buffer then has
   label-is : keep + 16 ≤ labelLimit → add < 16 → 33 ≤ length s → label ≡ take (keep + add) b′
-  label-is k a t = sym (ap (take (keep + add)) eb ∙ label-extended b s labelLimit keep add (omega arith) (omega arith) a (omega arith) ∙ ap (λ (y : List ℕ). y ++ take add (drop 2 s)) (take-take keep labelLimit b (omega arith)))
+  label-is k a t =
+      let e = label-extended b s labelLimit keep add (omega arith) (omega arith) a (omega arith) in
+      sym (ap (take (keep + add)) eb ∙ e ∙ ap (λ (y : List ℕ). y ++ take add (drop 2 s)) (take-take keep labelLimit b (omega arith)))
 
-  pub leg-laid-as : (flags : ℕ) (from : Point) (g : LegFields) → Brief version s len keep add (14 + add) (makeLine flags) → setting .position ≡ Stands from → g ≡ legAt s add flags setting from
-      → d′ ≡ laidIf d out (layout sheetVersion (leg g label)) → LaidAs (14 + add) (keep + add) (movedTo setting (g .to)) (34 + (keep + add)) keep x stays b′ d d′ out
+  pub leg-laid-as : (flags : ℕ) (from : Point) (g : LegFields) → Brief version s len keep add (14 + add) (makeLine flags)
+      → setting .position ≡ Stands from → g ≡ legAt s add flags setting from → d′ ≡ laidFrom out (leg g label) d
+      → LaidAs (14 + add) (keep + add) (movedTo setting (g .to)) (34 + (keep + add)) keep x stays b′ d d′ out
   leg-laid-as flags from g B p eg ed =
       let T : Tells (legStep keep add setting g) b′ x = rw (eb, eg) (leg-told version s len keep add b setting w h flags from B p) in
       record {
@@ -62,7 +73,7 @@ module _ (version : ℕ) (s : List ℕ) (len keep add : ℕ) (b b′ : List ℕ)
       }
 
   pub station-laid-as : (flags : ℕ) (g : StationFields) → Brief version s len keep add (14 + add) (makeStation flags) → g ≡ stationAt s add flags
-      → d′ ≡ laidIf d out (layout sheetVersion (station g label)) → LaidAs (14 + add) (keep + add) setting (16 + (keep + add)) keep x stays b′ d d′ out
+      → d′ ≡ laidFrom out (station g label) d → LaidAs (14 + add) (keep + add) setting (16 + (keep + add)) keep x stays b′ d d′ out
   station-laid-as flags g B eg ed =
       let T : Tells (stationStep keep add setting g) b′ x = rw (eb, eg) (station-told version s len keep add b setting w h flags B) in
       record {
@@ -75,7 +86,7 @@ module _ (version : ℕ) (s : List ℕ) (len keep add : ℕ) (b b′ : List ℕ)
       }
 
   pub section-laid-as : (size code : ℕ) (g : SectionFields) → Brief version s len keep add size (makeSection code) → g ≡ sectionAt s add code setting
-      → d′ ≡ laidIf d out (layout sheetVersion (section g label)) → LaidAs size (keep + add) setting (25 + (keep + add)) keep x stays b′ d d′ out
+      → d′ ≡ laidFrom out (section g label) d → LaidAs size (keep + add) setting (25 + (keep + add)) keep x stays b′ d d′ out
   section-laid-as size code g B eg ed =
       let T : Tells (sectionStep keep add size setting g) b′ x = rw (eb, eg) (section-told version s len keep add b setting w h size code B) in
       record {

@@ -5,9 +5,11 @@ use mathlib.Core.List.{List}
 use lib.ListN.{length}
 use Rattle.format.specs.Label.{labelLimit}
 use Rattle.format.specs.Sheet.{recordLimit, sheetVersion, layout}
-use Rattle.format.specs.State.{Next, bad, end, on, made}
+use Rattle.format.specs.State.{Record, Next, bad, end, on, made}
 use Rattle.format.specs.Fields.{recordSize}
+use Rattle.format.specs.declared.Point.{Point}
 use Rattle.format.specs.declared.Setting.{Setting}
+use Rattle.short.specs.Brief.{nameAt}
 use Rattle.format.specs.declared.Fields.{Fields}
 use Rattle.item.specs.Seen.{Tells}
 use Rattle.item.specs.Commonest.{movedTo, trimStep}
@@ -31,6 +33,21 @@ pub record Joined (j : Joint) (s b : List ℕ) (out : ℕ) : Type 0 where
   pub add-few : j .add < 16
   pub whole : length b ≡ labelLimit
   pub out-few : out < 2 ^ 62
+
+-- the label of the record that is laid
+abbrev pub nameOf : Joint → List ℕ → List ℕ → List ℕ
+nameOf j s b = nameAt s (j .keep) (j .add) b
+
+-- d with that record in it from k on, where it fits
+abbrev pub laidFrom : ℕ → Record → List ℕ → List ℕ
+laidFrom k r d = laidIf d k (layout sheetVersion r)
+
+-- what `lay_leg` answers; and `lay_station` and `lay_section`, whose record has so many bytes beside its label
+abbrev pub ledBy : Joint → Point → Quick
+ledBy j to = Leg (j .size) (j .keep + j .add) to (j .keep)
+
+abbrev pub madeBy : Joint → ℕ → Quick
+madeBy j head = Made (j .size) (j .keep + j .add) (head + (j .keep + j .add)) (j .keep)
 
 -- an item x that makes a record and keeps `stays` bytes of the label: its size, the label's new length, the setting after it, the record's
 -- bytes and the bytes kept, with the label's buffer b and the sheet d′ after it

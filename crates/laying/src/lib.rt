@@ -4,11 +4,8 @@
 ghost use mathlib.Core.Path.{_≡_};
 ghost use lib.ListN.{length};
 ghost use Rattle.format.specs.State.{leg, station, section};
-ghost use Rattle.format.specs.Sheet.{sheetVersion, layout};
-ghost use Rattle.wire.specs.Laid.{laidIf};
-ghost use Rattle.short.specs.Brief.{nameAt};
 ghost use Rattle.item.specs.Commonest.{extended};
-ghost use Rattle.laying.specs.Quickly.{Joined};
+ghost use Rattle.laying.specs.Quickly.{Joined, nameOf, laidFrom, ledBy, madeBy};
 use format::LABEL_LIMIT;
 use format::Leg;
 use format::Point;
@@ -37,14 +34,15 @@ pub enum Quick {
     },
 }
 
-// How many bytes of the label an item keeps, and how many it adds.
+// How many bytes of the label an item keeps, how many it adds, and the item's own size.
 pub struct Joint {
     pub keep: usize,
     pub add: usize,
+    pub size: usize,
 }
 
 // Lays the leg of a short LINE at the front of s into the sheet from `out` on, where it
-// fits, and extends the label.
+// fits, and extends the label: what the item comes to.
 pub fn lay_leg(
     s: &[u8],
     bytes: &mut [u8; LABEL_LIMIT],
@@ -52,15 +50,24 @@ pub fn lay_leg(
     fields: Leg,
     sheet: &mut [u8],
     out: usize,
-)
+) -> Quick
     requires { ⌜ Joined joint (now s) (now bytes) out ⌝ }
     ensures label { λ _. ⌜ now (bytes .exit) ≡ extended (now (bytes .entry)) (joint .keep) (now (s .entry)) ⌝ }
-    ensures sheet { λ _. ⌜ now (sheet .exit) ≡ laidIf (now (sheet .entry)) out (layout sheetVersion (leg fields (nameAt (now (s .entry)) (joint .keep) (joint .add) (now (bytes .entry))))) ⌝ }
+    ensures sheet { λ _. ⌜ now (sheet .exit) ≡ laidFrom out (leg fields (nameOf joint (now (s .entry)) (now (bytes .entry)))) (now (sheet .entry)) ⌝ }
+    ensures answer { λ r. ⌜ r ≡ ledBy joint (fields .to) ⌝ }
 {
     let keep = joint.keep;
     let behind = 2 + joint.add;
     record::lay_short_leg(sheet, out, fields, bytes, keep, &s[2..behind]);
     label::extend(bytes, keep, &s[2..]);
+    let to = fields.to;
+    let len = keep + joint.add;
+    Quick::Leg {
+        size: joint.size,
+        len,
+        to,
+        kept: keep,
+    }
 }
 
 // The same of a station and a short LABEL.
@@ -71,15 +78,23 @@ pub fn lay_station(
     fields: Station,
     sheet: &mut [u8],
     out: usize,
-)
+) -> Quick
     requires { ⌜ Joined joint (now s) (now bytes) out ⌝ }
     ensures label { λ _. ⌜ now (bytes .exit) ≡ extended (now (bytes .entry)) (joint .keep) (now (s .entry)) ⌝ }
-    ensures sheet { λ _. ⌜ now (sheet .exit) ≡ laidIf (now (sheet .entry)) out (layout sheetVersion (station fields (nameAt (now (s .entry)) (joint .keep) (joint .add) (now (bytes .entry))))) ⌝ }
+    ensures sheet { λ _. ⌜ now (sheet .exit) ≡ laidFrom out (station fields (nameOf joint (now (s .entry)) (now (bytes .entry)))) (now (sheet .entry)) ⌝ }
+    ensures answer { λ r. ⌜ r ≡ madeBy joint 16 ⌝ }
 {
     let keep = joint.keep;
     let behind = 2 + joint.add;
     record::lay_short_station(sheet, out, fields, bytes, keep, &s[2..behind]);
     label::extend(bytes, keep, &s[2..]);
+    let len = keep + joint.add;
+    Quick::Made {
+        size: joint.size,
+        len,
+        bytes: 16 + len,
+        kept: keep,
+    }
 }
 
 // The same of a cross-section and a short XSECT.
@@ -90,13 +105,21 @@ pub fn lay_section(
     fields: Section,
     sheet: &mut [u8],
     out: usize,
-)
+) -> Quick
     requires { ⌜ Joined joint (now s) (now bytes) out ⌝ }
     ensures label { λ _. ⌜ now (bytes .exit) ≡ extended (now (bytes .entry)) (joint .keep) (now (s .entry)) ⌝ }
-    ensures sheet { λ _. ⌜ now (sheet .exit) ≡ laidIf (now (sheet .entry)) out (layout sheetVersion (section fields (nameAt (now (s .entry)) (joint .keep) (joint .add) (now (bytes .entry))))) ⌝ }
+    ensures sheet { λ _. ⌜ now (sheet .exit) ≡ laidFrom out (section fields (nameOf joint (now (s .entry)) (now (bytes .entry)))) (now (sheet .entry)) ⌝ }
+    ensures answer { λ r. ⌜ r ≡ madeBy joint 25 ⌝ }
 {
     let keep = joint.keep;
     let behind = 2 + joint.add;
     record::lay_short_section(sheet, out, fields, bytes, keep, &s[2..behind]);
     label::extend(bytes, keep, &s[2..]);
+    let len = keep + joint.add;
+    Quick::Made {
+        size: joint.size,
+        len,
+        bytes: 25 + len,
+        kept: keep,
+    }
 }

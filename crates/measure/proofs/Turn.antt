@@ -4,12 +4,15 @@ use mathlib.Core.Path.{_≡_, refl, sym, _∙_}
 use mathlib.Core.List.{List}
 use mathlib.Core.Bool.{Bool, true, false}
 use native.Mathlib.Omega.{arith}
+use borrow.Author.Tests.{ltb-true, ltb-false}
+use borrow.Rule.Slice.PartAt.{part-to-end}
 use lib.ListN.{length, take, drop}
-use Rattle.format.specs.State.{State, start}
+use Rattle.format.specs.State.{State, start, end}
 use Rattle.format.specs.Refusals.{stop}
 use Rattle.format.specs.declared.Verdict.{Verdict}
 use Rattle.format.specs.declared.Verdict.the-variants.{Good, Refusal}
-use Rattle.format.specs.Reading.{next, run, itemsOf}
+use Rattle.format.specs.Reading.{next, ended, run, itemsOf}
+use Rattle.format.proofs.Basics.{pick-case}
 use Rattle.format.proofs.ReadingLaws.{there-within, left-bad, left-after, left-done, left-on, left-made}
 use Rattle.measure.specs.Measures.{Keeps, Goes, Makes, Measures, ComesIn}
 use Rattle.measure.specs.Totals.{passedBy, passOf}
@@ -17,6 +20,16 @@ use Rattle.measure.specs.declared.Measured.{Measured}
 use Rattle.measure.specs.declared.Measured.the-variants.{Bad, End, Styled, Moved, Passes, Made}
 use Rattle.measure.specs.declared.Passed.{Passed}
 use Rattle.measure.proofs.Sums.{pass-also, pass-stop}
+
+-- the end item: why reading stops there, over the bytes as the code cuts them out
+pub left-end : (version : ℕ) (file : List ℕ) (at : ℕ) (st : State) → end ≡ next version (take (length file - at) (drop at file)) st
+    → run version at (drop at file) st ≡ stop (ended at (take (length file - at) (drop at file)))
+unfolding ended
+left-end version file at st e =
+    rw (part-to-end file at)
+    (pick-case (λ (v : Verdict). run version at (drop at file) st ≡ stop v) _ _ _
+    (λ t. left-after version file at st e (ltb-true _ _ t))
+    (λ t. left-done version file at st e (ltb-false _ _ t)))
 
 -- what is left of the file, in a state of which this is kept, comes with the counts so far to the same as the whole
 pub record Going (file : List ℕ) (place front at out records len style : ℕ) (placed : Bool) : Type 0 where
@@ -67,11 +80,8 @@ module _ (file : List ℕ) (place front at out records len style : ℕ) (placed 
   pub ends-bad : (k : ℕ) → Found (Bad k) → passedBy (Refusal k at) out records ≡ whole
   ends-bad k f = ends (left-bad 8 file at (G .state) (sym (found (Bad k) f)))
 
-  pub ends-after : Found End → 1 < length (drop at file) → passedBy (Refusal 10 (at + 1)) out records ≡ whole
-  ends-after f h = ends (left-after 8 file at (G .state) (sym (found End f)) h)
-
-  pub ends-done : Found End → length (drop at file) ≤ 1 → passedBy Good out records ≡ whole
-  ends-done f h = ends (left-done 8 file at (G .state) (sym (found End f)) h)
+  pub ends-end : Found End → passedBy (ended at (take (length file - at) (drop at file))) out records ≡ whole
+  ends-end f = ends (left-end 8 file at (G .state) (sym (found End f)))
 
   -- an item that makes no record
   module _ (n m y : ℕ) (p : Bool) (g : Goes (next 8 (take (length file - at) (drop at file)) (G .state)) n m y p) where

@@ -1,5 +1,5 @@
 -- What measuring says of the commonest items. Assumes nothing.
-use Prim.Native.Nat.{ℕ, _≤_}
+use Prim.Native.Nat.{ℕ, _+_, _≤_}
 use mathlib.Core.List.{List}
 use mathlib.Core.Bool.{Bool}
 use Rattle.format.specs.Label.{labelLimit}
@@ -15,6 +15,9 @@ pub record CountsRecord (s : List ℕ) (size len bytes old : ℕ) (placed : Bool
   pub short : len ≤ labelLimit
   pub small : bytes ≤ recordLimit
   pub makes : (style : ℕ) (st : State) → Keeps st old style placed → Makes (next 8 s st) size bytes len style placed
+
+abbrev pub countedAs : ℕ → ℕ → ℕ → Counted
+countedAs size len head = Record size len (head + len)
 
 abbrev pub Counts : Counted → List ℕ → ℕ → Bool → Type 0
 Counts Other s old placed = Unit

@@ -20,11 +20,11 @@ ghost use Prim.Native.Nat.{ℕ, _≤_};
 ghost use lib.ListN.{length, drop};
 ghost use Rattle.format.specs.Items.{Date as dateItem, Style as styleItem, moveItem, dayItem, spanItem, daysItem, errorItem, newPart};
 ghost use Rattle.format.specs.State.{apply, nextOf};
-ghost use Rattle.format.specs.Reading.{next, itemsOf};
+ghost use Rattle.format.specs.Reading.{next, ended, itemsOf};
 ghost use Rattle.kind.specs.Kinds.{labelledBy};
 ghost use Rattle.measure.specs.Measures.{Keeps, Comes, ComesIn, Small, Tailed};
-ghost use Rattle.measure.specs.Counting.{Counts};
-ghost use Rattle.measure.specs.Totals.{passOf};
+ghost use Rattle.measure.specs.Counting.{Counts, countedAs};
+ghost use Rattle.measure.specs.Totals.{passedBy, passOf};
 ghost use Rattle.format.specs.Header.{fileLimit};
 ghost use Rattle.format.specs.Label.{labelLimit};
 ghost use Rattle.format.specs.Sheet.{frontLimit};
@@ -240,6 +240,18 @@ enum Counted {
     },
 }
 
+// The same of a record with so many bytes beside its label, of an item of so many.
+fn count_record(size: usize, len: usize, head: usize) -> Counted
+    requires { ⌜ (len ≤ labelLimit) × (head ≤ labelLimit) ⌝ }
+    ensures { λ r. ⌜ r ≡ countedAs size len head ⌝ }
+{
+    Counted::Record {
+        size,
+        len,
+        bytes: head + len,
+    }
+}
+
 fn count_short(s: &[u8], len: usize, placed: bool) -> Counted
     ensures { λ r. ⌜ Counts r (now (s .entry)) len placed ⌝ }
 {
@@ -254,33 +266,14 @@ fn count_short(s: &[u8], len: usize, placed: bool) -> Counted
             if !placed {
                 return Counted::Other;
             }
-            let m = keep + add;
-            Counted::Record {
-                size: 14 + add,
-                len: m,
-                bytes: 34 + m,
-            }
+            count_record(14 + add, keep + add, 34)
         }
         Short::Place {
             keep,
             add,
             flags: _,
-        } => {
-            let m = keep + add;
-            Counted::Record {
-                size: 14 + add,
-                len: m,
-                bytes: 16 + m,
-            }
-        }
-        Short::Section { keep, add, code } => {
-            let m = keep + add;
-            Counted::Record {
-                size: 2 + add + sides(code),
-                len: m,
-                bytes: 25 + m,
-            }
-        }
+        } => count_record(14 + add, keep + add, 16),
+        Short::Section { keep, add, code } => count_record(2 + add + sides(code), keep + add, 25),
         Short::Trim { len: _ } => Counted::Other,
     }
 }
@@ -316,6 +309,18 @@ pub fn stopped(verdict: Verdict, bytes: usize, records: usize) -> Passed
     }
 }
 
+// The same at the end item, which the bytes from `at` on begin with: 10 where others follow it.
+pub fn ended(at: usize, rest: &[u8], bytes: usize, records: usize) -> Passed
+    requires { ⌜ at ≤ fileLimit ⌝ }
+    ensures { λ r. ⌜ r ≡ passedBy (ended at (now (rest .entry))) bytes records ⌝ }
+{
+    if 1 < rest.len() {
+        let place = at + 1;
+        return stopped(Verdict::Refusal { number: 10, place }, bytes, records);
+    }
+    stopped(Verdict::Good, bytes, records)
+}
+
 // The items of a v8 file from `place` on: the answer for a sheet with room enough, whose
 // first record goes to `front`.
 pub fn measure(file: &[u8], place: usize, front: usize) -> Passed
@@ -325,23 +330,17 @@ pub fn measure(file: &[u8], place: usize, front: usize) -> Passed
     let mut at = place;
     let mut out = front;
     let mut records: usize = 0;
-    let mut len: usize = 0;
+    let mut label: usize = 0;
     let mut style: u8 = 5;
     let mut placed = false;
     loop {
         let rest = &file[at..];
-        let it = measure_item(rest, len, style, placed);
+        let it = measure_item(rest, label, style, placed);
         match it {
             Measured::Bad { number } => {
                 return stopped(Verdict::Refusal { number, place: at }, out, records);
             }
-            Measured::End => {
-                if 1 < rest.len() {
-                    let place = at + 1;
-                    return stopped(Verdict::Refusal { number: 10, place }, out, records);
-                }
-                return stopped(Verdict::Good, out, records);
-            }
+            Measured::End => return ended(at, rest, out, records),
             Measured::Styled { style: to } => {
                 style = to;
                 at += 1;
@@ -353,12 +352,8 @@ pub fn measure(file: &[u8], place: usize, front: usize) -> Passed
             Measured::Passes { size } => {
                 at += size;
             }
-            Measured::Made {
-                size,
-                len: m,
-                bytes,
-            } => {
-                len = m;
+            Measured::Made { size, len, bytes } => {
+                label = len;
                 out += bytes;
                 records += 1;
                 at += size;

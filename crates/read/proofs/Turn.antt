@@ -14,12 +14,12 @@ use Rattle.format.specs.Sheet.{sheetVersion, layout, layoutAll, headerLayout, s
 use Rattle.format.specs.Refusals.{Result, stop}
 use Rattle.format.specs.declared.Verdict.the-variants.{Good, Refusal}
 use Rattle.format.specs.declared.Verdict.{Verdict}
-use Rattle.format.specs.Reading.{next, run, itemsOf, readOutcome, readBuffer}
+use Rattle.format.specs.Reading.{next, ended, run, itemsOf, readOutcome, readBuffer}
 use Rattle.format.specs.Fields.{recordOf, stateOf, recordSize}
 use Rattle.format.specs.declared.Fields.{Fields}
 use Rattle.format.proofs.Basics.{pick-case}
 use Rattle.format.proofs.SheetLaws.{header-length}
-use Rattle.format.proofs.ReadingLaws.{Within, there-within, left-bad, left-after, left-done, left-on, left-made}
+use Rattle.format.proofs.ReadingLaws.{Within, there-within, left-bad, left-on, left-made}
 use Rattle.wire.specs.Laid.{laid, laidIf}
 use Rattle.wire.proofs.Laws.{laid-within, length-over, laid-nil, laid-zero, laid-next, length-laid, laid-some}
 use Rattle.label.specs.declared.Label.{Label}
@@ -27,13 +27,11 @@ use Rattle.item.specs.Seen.{seen, Tells}
 use Rattle.format.specs.declared.Setting.{Setting}
 use Rattle.item.specs.declared.Step.{Step}
 use Rattle.item.specs.declared.Step.the-variants.{Bad, End, On, Made}
-use Rattle.item.proofs.Step.{the-type}
-use types.Run.{OneOf, miss}
-use denote.Enum.Declared.{tagOf}
 use Rattle.format.proofs.SheetLaws.{layout-size}
 use Rattle.measure.specs.Totals.{passedBy, passOf}
 use Rattle.measure.specs.declared.Passed.{Passed}
 use Rattle.measure.proofs.Sums.{pass-also, pass-stop}
+use Rattle.measure.proofs.Turn.{left-end}
 use Rattle.laying.specs.Quickly.{laidBy}
 use Rattle.read.specs.Pass.{lay, ReadsTo}
 use Rattle.header.specs.Head.{saying, Opens}
@@ -45,14 +43,9 @@ length-laid-if : (d : List ℕ) (k : ℕ) (s : List ℕ) → length (laidIf d k 
 unfolding laidIf
 length-laid-if d k s = pick-case (λ (x : List ℕ). length x ≡ length d) _ _ _ (λ e. refl) (λ e. length-laid d s k (ltb-false _ _ e))
 
-pub not-laid : (r : Step) (b d : List ℕ) (k : ℕ) (x : Next) → OneOf (0 ∷ 1 ∷ 2 ∷ []) (tagOf the-type r) → Tells r b x → d ≡ laidBy x d k
-not-laid (Bad n) b d k x o T = ap (λ (y : Next). laidBy y d k) (T .same)
-not-laid End b d k x o T = ap (λ (y : Next). laidBy y d k) (T .same)
-not-laid (On n m st) b d k x o T = ap (λ (y : Next). laidBy y d k) (T .same)
-not-laid (Made n m st f kept) b d k x o T = absurd (miss (0 ∷ 1 ∷ 2 ∷ []) 3 tt o)
-
-pub made-laid : (r : Step) (n m : ℕ) (st : Setting) (f : Fields) (own : ℕ) (b d e : List ℕ) (k : ℕ) (x : Next) → r ≡ Made n m st f own → Tells r b x → e ≡ laidIf d k (layout sheetVersion (recordOf f (take m b))) → e ≡ laidBy x d k
-made-laid r n m st f own b d e k x q T p = p ∙ ap (λ (y : Next). laidBy y d k) (rw q at (T .same))
+-- what a step tells, laid in
+pub told-laid : (r : Step) (b d : List ℕ) (k : ℕ) (x : Next) → Tells r b x → laidBy (seen r b) d k ≡ laidBy x d k
+told-laid r b d k x T = ap (λ (y : Next). laidBy y d k) (T .same)
 
 -- ---- where a pass stands
 
@@ -75,7 +68,8 @@ Found version file at setting label it b = Tells it b (next version (take (lengt
 -- ---- the loop: what is left of the file, with the counts and the sheet so far, comes to the same as the whole
 
 -- `front` is where the first record goes, `place` the first item's place
-pub record Going (version : ℕ) (file : List ℕ) (place : ℕ) (sheet₀ : List ℕ) (front : ℕ) (sheet : List ℕ) (at out records : ℕ) (setting : Setting) (label : Label) : Type 0 where
+pub record Going (version : ℕ) (file : List ℕ) (place : ℕ) (sheet₀ : List ℕ) (front : ℕ) (sheet : List ℕ) (at out records : ℕ) (setting : Setting)
+    (label : Label) : Type 0 where
   pub stands : Stands file at label
   pub kept : length sheet ≡ length sheet₀
   pub out-few : out ≤ front + 4130 * at
@@ -87,7 +81,8 @@ pub record Going (version : ℕ) (file : List ℕ) (place : ℕ) (sheet₀ : Lis
 fresh-state : (setting : Setting) (label : Label) → setting ≡ startSetting → label .len ≡ 0 → stateOf setting (text label) ≡ start
 fresh-state setting label f e = rw (f, e)
 
-pub going-first : (version : ℕ) (file : List ℕ) (place : ℕ) (sheet : List ℕ) (front : ℕ) (setting : Setting) (label : Label) → setting ≡ startSetting → label .len ≡ 0
+pub going-first : (version : ℕ) (file : List ℕ) (place : ℕ) (sheet : List ℕ) (front : ℕ) (setting : Setting) (label : Label)
+    → setting ≡ startSetting → label .len ≡ 0
     → place ≤ length file → length (label .bytes) ≡ 4096 → Going version file place sheet front sheet place front 0 setting label
 unfolding itemsOf
 going-first version file place sheet front setting label f z h w =
@@ -101,7 +96,8 @@ going-first version file place sheet front setting label f z h w =
       sheet-is = ap (λ (st : State). lay sheet front (run version place (drop place file) st .records)) e;
     }
 
-module _ (version : ℕ) (file : List ℕ) (place : ℕ) (sheet₀ : List ℕ) (front : ℕ) (sheet : List ℕ) (at out records : ℕ) (setting : Setting) (label : Label)
+module _ (version : ℕ) (file : List ℕ) (place : ℕ) (sheet₀ : List ℕ) (front : ℕ) (sheet : List ℕ) (at out records : ℕ)
+    (setting : Setting) (label : Label)
     (G : Going version file place sheet₀ front sheet at out records setting label) where
   abbrev state : State
   state = stateOf setting (text label)
@@ -120,11 +116,9 @@ module _ (version : ℕ) (file : List ℕ) (place : ℕ) (sheet₀ : List ℕ) (
   pub ends-bad : (k : ℕ) (b s : List ℕ) → Found version file at setting label (Bad k) b → Laid s → Ends (passedBy (Refusal k at) out records) s
   ends-bad k b s T e = ends (left-bad version file at state (T .same)) (rw (← T .same) at e)
 
-  pub ends-after : (b s : List ℕ) → Found version file at setting label End b → Laid s → 1 < length (drop at file) → Ends (passedBy (Refusal 10 (at + 1)) out records) s
-  ends-after b s T e h = ends (left-after version file at state (T .same) h) (rw (← T .same) at e)
-
-  pub ends-done : (b s : List ℕ) → Found version file at setting label End b → Laid s → length (drop at file) ≤ 1 → Ends (passedBy Good out records) s
-  ends-done b s T e h = ends (left-done version file at state (T .same) h) (rw (← T .same) at e)
+  pub ends-end : (b s : List ℕ) → Found version file at setting label End b → Laid s
+      → Ends (passedBy (ended at (take (length file - at) (drop at file))) out records) s
+  ends-end b s T e = ends (left-end version file at state (T .same)) (rw (← T .same) at e)
 
   -- the item's bytes are there; which buffer they are seen by is all one
   pub item-within : (it : Step) (b : List ℕ) → Found version file at setting label it b → Within (length file) at (seen it [])
@@ -148,7 +142,8 @@ module _ (version : ℕ) (file : List ℕ) (place : ℕ) (sheet₀ : List ℕ) (
         sheet-is = rw q (rw l at (G .sheet-is));
       }
 
-  pub going-made : (n m size : ℕ) (st : Setting) (f : Fields) (own : ℕ) (b s : List ℕ) → Found version file at setting label (Made n m st f own) b → Laid s
+  pub going-made : (n m size : ℕ) (st : Setting) (f : Fields) (own : ℕ) (b s : List ℕ)
+      → Found version file at setting label (Made n m st f own) b → Laid s
       → (size ≡ recordSize f m) × (size ≤ 4130) → Going version file place sheet₀ front s (at + n) (out + size) (records + 1) st (record { bytes = b; len = m })
   unfolding lay
   going-made n m size st f own b s T e q =
@@ -169,7 +164,8 @@ module _ (version : ℕ) (file : List ℕ) (place : ℕ) (sheet₀ : List ℕ) (
 
 -- ---- the records all fit: one after another they are the sheet
 
-lay-fits : (rs : List Record) (d : List ℕ) (k : ℕ) → k + length (layoutAll sheetVersion rs) ≤ length d → lay d k rs ≡ laid d k (layoutAll sheetVersion rs)
+lay-fits : (rs : List Record) (d : List ℕ) (k : ℕ) → k + length (layoutAll sheetVersion rs) ≤ length d
+    → lay d k rs ≡ laid d k (layoutAll sheetVersion rs)
 unfolding lay layoutAll
 lay-fits [] d k h = sym (laid-nil d k)
 lay-fits (r ∷ rs) d k h =
@@ -180,13 +176,15 @@ lay-fits (r ∷ rs) d k h =
     rw (laid-some d R k h1) (lay-fits rs (laid d k R) (k + length R) h2 ∙ laid-next d R (layoutAll sheetVersion rs) k (omega arith))
 
 -- what is laid into the first b bytes is laid into the whole
-pub lay-within : (rs : List Record) (d : List ℕ) (k b : ℕ) → k + length (layoutAll sheetVersion rs) ≤ b → b ≤ length d → lay (take b d) k rs ++ drop b d ≡ lay d k rs
+pub lay-within : (rs : List Record) (d : List ℕ) (k b : ℕ) → k + length (layoutAll sheetVersion rs) ≤ b → b ≤ length d
+    → lay (take b d) k rs ++ drop b d ≡ lay d k rs
 lay-within rs d k b h j =
     let n = length-take-le b d j in
     rw (lay-fits rs (take b d) k (omega arith), lay-fits rs d k (omega arith)) (laid-within d (layoutAll sheetVersion rs) k b h j)
 
 -- laid in behind the front of a sheet
-pub lay-behind : (front rest old : List ℕ) (rs : List Record) (k : ℕ) → rest ≡ layoutAll sheetVersion rs → length front ≡ k → k + length rest ≤ length old
+pub lay-behind : (front rest old : List ℕ) (rs : List Record) (k : ℕ) → rest ≡ layoutAll sheetVersion rs → length front ≡ k
+    → k + length rest ≤ length old
     → lay (over front old) k rs ≡ over (front ++ rest) old
 lay-behind front rest old rs k e f h =
     let z : k ≡ 0 + length front = omega arith in

@@ -2,21 +2,16 @@
 // sheet, a second lays the records in.
 ghost use mathlib.Core.Path.{_≡_};
 ghost use mathlib.Core.List.{List, []};
-ghost use Prim.Native.Nat.{ℕ, _+_, _^_, _≤_, _<_};
-ghost use lib.ListN.{length, take};
-ghost use Rattle.format.specs.Reading.{next, itemsOf, readOutcome, readBuffer};
+ghost use Prim.Native.Nat.{ℕ, _+_, _≤_};
+ghost use lib.ListN.{length};
+ghost use Rattle.format.specs.Reading.{itemsOf, readOutcome, readBuffer};
 ghost use Rattle.format.specs.Answers.{answerOf};
-ghost use Rattle.format.specs.Fields.{stateOf};
-ghost use Rattle.item.specs.Seen.{Tells};
 ghost use Rattle.measure.specs.Totals.{passOf};
-ghost use Rattle.format.specs.Items.{itemOf};
-ghost use Rattle.format.specs.Outline.{dropLeaves};
-ghost use Rattle.laying.specs.Quickly.{laidBy, Quickly};
 ghost use Rattle.read.specs.Pass.{lay, Headed, Judges, Fills, sheetOfHead, ReadsTo};
+ghost use Rattle.read.specs.Turning.{Ready, Shortly, Turns};
 ghost use Rattle.read.specs.Salvage.{reportNumber, reportPlace, salvageOutcome, salvageBuffer, salvagedOf, SalvagesTo};
 ghost use Rattle.format.specs.Bytes.{over};
 ghost use Rattle.format.specs.Header.{fileLimit};
-ghost use Rattle.format.specs.Label.{labelLimit};
 ghost use Rattle.format.specs.Sheet.{frontLimit};
 use format::Answer;
 use format::LABEL_LIMIT;
@@ -35,96 +30,161 @@ use laying::lay_leg;
 use laying::lay_section;
 use laying::lay_station;
 use measure::Passed;
+use measure::ended;
 use measure::stopped;
 use short::Short;
 use short::short_item;
 use short::sides;
 
-// The item at the front of s, in the state of a setting and a label; its record, where
-// it makes one, is laid into the sheet from `out` on.
-fn lay_item(
+// Where a pass stands, in numbers: the file's version, the label's length, and where the next
+// record goes.
+struct Before {
     version: u8,
-    s: &[u8],
-    bytes: &mut [u8; LABEL_LIMIT],
     len: usize,
-    setting: Setting,
-    sheet: &mut [u8],
     out: usize,
-) -> Step
-    requires { ⌜ (len ≤ labelLimit) × (length (now bytes) ≡ labelLimit) × (out < 2 ^ 62) ⌝ }
-    ensures told { λ r. ⌜ Tells r (now (bytes .exit)) (next version (now (s .entry)) (stateOf setting (take len (now (bytes .entry))))) ⌝ }
-    ensures sheet { λ _. ⌜ now (sheet .exit) ≡ laidBy (next version (now (s .entry)) (stateOf setting (take len (now (bytes .entry))))) (now (sheet .entry)) out ⌝ }
-{
-    let it = item::take_item(version, s, bytes, len, setting);
-    let Step::Made {
-        size: _,
-        len: m,
-        setting: _,
-        fields,
-        kept: _,
-    } = it
-    else {
-        return it;
-    };
-    record::lay_record(sheet, out, fields, bytes, m);
-    it
+}
+
+// How far an item takes a pass: its size, the label's new length, and the bytes and the number of
+// the records that it makes.
+struct Moved {
+    size: usize,
+    len: usize,
+    bytes: usize,
+    records: usize,
+}
+
+// What an item comes to in a pass: a refusal; the end; the label's length after a trim; how far it
+// takes the pass, with the setting as it was; the same with the setting after it. (A setting that
+// is handed back is copied: the commonest items would pay for it.)
+enum Turned {
+    Bad { number: u8 },
+    End,
+    Trim { len: usize },
+    Same { by: Moved },
+    Went { by: Moved, setting: Setting },
 }
 
 // The item at the front of s, in the state of a setting and a label, where it is one of
-// the commonest: its record, where it makes one, is laid into the sheet from `out` on.
+// the commonest: its record, where it makes one, is laid into the sheet.
 fn lay_short(
-    version: u8,
+    before: Before,
     s: &[u8],
     bytes: &mut [u8; LABEL_LIMIT],
-    len: usize,
     setting: Setting,
     sheet: &mut [u8],
-    out: usize,
 ) -> Quick
-    requires { ⌜ (len ≤ labelLimit) × (length (now bytes) ≡ labelLimit) × (out < 2 ^ 62) ⌝ }
-    ensures { λ r. ⌜ Quickly r (next version (now (s .entry)) (stateOf setting (take len (now (bytes .entry))))) (dropLeaves (take len (now (bytes .entry))) (itemOf version (now (s .entry)))) setting (now (bytes .entry)) (now (bytes .exit)) (now (sheet .entry)) (now (sheet .exit)) out ⌝ }
+    requires { ⌜ Ready before (now bytes) ⌝ }
+    ensures { λ r. ⌜ Shortly r before setting (now (s .entry)) (now (bytes .entry)) (now (bytes .exit)) (now (sheet .entry)) (now (sheet .exit)) ⌝ }
 {
+    let out = before.out;
     let position = setting.position;
-    let it = short_item(version, s, len);
+    let it = short_item(before.version, s, before.len);
     match it {
         Short::Other => Quick::Other,
         Short::Line { keep, add, flags } => match position {
             Position::Unset => Quick::Other,
             Position::Stands { point } => {
                 let leg = leg_at(s, add, flags, setting, point);
-                let to = leg.to;
-                lay_leg(s, bytes, Joint { keep, add }, leg, sheet, out);
-                Quick::Leg {
-                    size: 14 + add,
-                    len: keep + add,
-                    to,
-                    kept: keep,
-                }
+                let size = 14 + add;
+                lay_leg(s, bytes, Joint { keep, add, size }, leg, sheet, out)
             }
         },
         Short::Place { keep, add, flags } => {
             let station = station_at(s, add, flags);
-            lay_station(s, bytes, Joint { keep, add }, station, sheet, out);
-            let m = keep + add;
-            Quick::Made {
-                size: 14 + add,
-                len: m,
-                bytes: 16 + m,
-                kept: keep,
-            }
+            let size = 14 + add;
+            lay_station(s, bytes, Joint { keep, add, size }, station, sheet, out)
         }
         Short::Section { keep, add, code } => {
             let section = section_at(s, add, code, setting);
-            lay_section(s, bytes, Joint { keep, add }, section, sheet, out);
-            let m = keep + add;
-            Quick::Made {
-                size: 2 + add + sides(code),
-                len: m,
-                bytes: 25 + m,
-                kept: keep,
-            }
+            let size = 2 + add + sides(code);
+            lay_section(s, bytes, Joint { keep, add, size }, section, sheet, out)
         }
         Short::Trim { len: m } => Quick::Trim { len: m },
+    }
+}
+
+fn moved_by(size: usize, len: usize, bytes: usize, records: usize) -> Moved
+    ensures { λ r. ⌜ r ≡ record { size = size; len = len; bytes = bytes; records = records } ⌝ }
+{
+    Moved {
+        size,
+        len,
+        bytes,
+        records,
+    }
+}
+
+// The item at the front of s, whichever it is.
+fn lay_item(
+    before: Before,
+    s: &[u8],
+    bytes: &mut [u8; LABEL_LIMIT],
+    setting: Setting,
+    sheet: &mut [u8],
+) -> Turned
+    requires { ⌜ Ready before (now bytes) ⌝ }
+    ensures { λ r. ⌜ Turns r before setting (now (s .entry)) (now (bytes .entry)) (now (bytes .exit)) (now (sheet .entry)) (now (sheet .exit)) ⌝ }
+{
+    let it = item::take_item(before.version, s, bytes, before.len, setting);
+    match it {
+        Step::Bad { number } => Turned::Bad { number },
+        Step::End => Turned::End,
+        Step::On {
+            size,
+            len,
+            setting: after,
+        } => {
+            let by = moved_by(size, len, 0, 0);
+            Turned::Went { by, setting: after }
+        }
+        Step::Made {
+            size,
+            len,
+            setting: after,
+            fields,
+            kept: _,
+        } => {
+            record::lay_record(sheet, before.out, fields, bytes, len);
+            let by = moved_by(size, len, record::record_size(fields, len), 1);
+            Turned::Went { by, setting: after }
+        }
+    }
+}
+
+// The same: the commonest items are tried first.
+fn pass_item(
+    before: Before,
+    s: &[u8],
+    bytes: &mut [u8; LABEL_LIMIT],
+    setting: Setting,
+    sheet: &mut [u8],
+) -> Turned
+    requires { ⌜ Ready before (now bytes) ⌝ }
+    ensures { λ r. ⌜ Turns r before setting (now (s .entry)) (now (bytes .entry)) (now (bytes .exit)) (now (sheet .entry)) (now (sheet .exit)) ⌝ }
+{
+    let quick = lay_short(before, s, bytes, setting, sheet);
+    match quick {
+        Quick::Other => lay_item(before, s, bytes, setting, sheet),
+        Quick::Leg {
+            size,
+            len,
+            to,
+            kept: _,
+        } => {
+            let by = moved_by(size, len, 34 + len, 1);
+            let after = with_position(setting, to);
+            Turned::Went { by, setting: after }
+        }
+        Quick::Made {
+            size,
+            len,
+            bytes: room,
+            kept: _,
+        } => {
+            let by = moved_by(size, len, room, 1);
+            Turned::Same { by }
+        }
+        Quick::Trim { len } => Turned::Trim { len },
     }
 }
 
@@ -142,72 +202,30 @@ fn pass(file: &[u8], version: u8, place: usize, sheet: &mut [u8], front: usize) 
     let mut setting = format::start_setting();
     loop {
         let rest = &file[at..];
-        let old = label.len;
-        let quick = lay_short(version, rest, &mut label.bytes, old, setting, sheet, out);
-        match quick {
-            Quick::Leg {
-                size,
-                len,
-                to,
-                kept: _,
-            } => {
-                label.len = len;
-                setting = with_position(setting, to);
-                out += 34 + len;
-                records += 1;
-                at += size;
+        let len = label.len;
+        let before = Before { version, len, out };
+        let it = pass_item(before, rest, &mut label.bytes, setting, sheet);
+        match it {
+            Turned::Bad { number } => {
+                return stopped(Verdict::Refusal { number, place: at }, out, records);
             }
-            Quick::Made {
-                size,
-                len,
-                bytes,
-                kept: _,
-            } => {
-                label.len = len;
-                out += bytes;
-                records += 1;
-                at += size;
-            }
-            Quick::Trim { len } => {
-                label.len = len;
+            Turned::End => return ended(at, rest, out, records),
+            Turned::Trim { len: m } => {
+                label.len = m;
                 at += 1;
             }
-            Quick::Other => {
-                let it = lay_item(version, rest, &mut label.bytes, old, setting, sheet, out);
-                match it {
-                    Step::Bad { number } => {
-                        return stopped(Verdict::Refusal { number, place: at }, out, records);
-                    }
-                    Step::End => {
-                        if 1 < rest.len() {
-                            let place = at + 1;
-                            return stopped(Verdict::Refusal { number: 10, place }, out, records);
-                        }
-                        return stopped(Verdict::Good, out, records);
-                    }
-                    Step::On {
-                        size,
-                        len,
-                        setting: after,
-                    } => {
-                        label.len = len;
-                        setting = after;
-                        at += size;
-                    }
-                    Step::Made {
-                        size,
-                        len,
-                        setting: after,
-                        fields,
-                        kept: _,
-                    } => {
-                        label.len = len;
-                        setting = after;
-                        out += record::record_size(fields, len);
-                        records += 1;
-                        at += size;
-                    }
-                }
+            Turned::Same { by } => {
+                label.len = by.len;
+                out += by.bytes;
+                records += by.records;
+                at += by.size;
+            }
+            Turned::Went { by, setting: after } => {
+                label.len = by.len;
+                setting = after;
+                out += by.bytes;
+                records += by.records;
+                at += by.size;
             }
         }
     }

@@ -361,37 +361,19 @@ fn lay_short(
             Position::Unset => Quick::Other,
             Position::Stands { point } => {
                 let leg = leg_at(s, add, flags, setting, point);
-                let to = leg.to;
-                lay_leg(s, bytes, Joint { keep, add }, leg, out, 0);
-                Quick::Leg {
-                    size: 14 + add,
-                    len: keep + add,
-                    to,
-                    kept: keep,
-                }
+                let size = 14 + add;
+                lay_leg(s, bytes, Joint { keep, add, size }, leg, out, 0)
             }
         },
         Short::Place { keep, add, flags } => {
             let station = station_at(s, add, flags);
-            lay_station(s, bytes, Joint { keep, add }, station, out, 0);
-            let m = keep + add;
-            Quick::Made {
-                size: 14 + add,
-                len: m,
-                bytes: 16 + m,
-                kept: keep,
-            }
+            let size = 14 + add;
+            lay_station(s, bytes, Joint { keep, add, size }, station, out, 0)
         }
         Short::Section { keep, add, code } => {
             let section = section_at(s, add, code, setting);
-            lay_section(s, bytes, Joint { keep, add }, section, out, 0);
-            let m = keep + add;
-            Quick::Made {
-                size: 2 + add + sides(code),
-                len: m,
-                bytes: 25 + m,
-                kept: keep,
-            }
+            let size = 2 + add + sides(code);
+            lay_section(s, bytes, Joint { keep, add, size }, section, out, 0)
         }
         Short::Trim { len: m } => Quick::Trim { len: m },
     }

@@ -1,6 +1,6 @@
 -- `laying::lay_leg` meets its contract. Assumes nothing.
 use native.Mathlib.Omega.{arith}
-use mathlib.Core.Path.{_≡_}
+use mathlib.Core.Path.{_≡_, refl}
 use Prim.Native.Nat.{_+_, _-_}
 use borrow.Rule.Slice.PartAt.{part-to-end}
 use borrow.Author.Needs.{needs}
@@ -34,14 +34,18 @@ part-extend-end c = search needs
 extend-requires : tie.Need-extend-requires
 extend-requires c κs = search needs
 
+add-len : tie.Need-add-len
+add-len c = search needs
+
 same-length : tie.Need-same-length
 same-length c = search needs
 
 returns : tie.Need-returns
 returns c =
-    let a = c .before .before .before .before .before .before .before .before .before .before .before .before .args in
+    let a = c .before .before .before .before .before .before .before .before .before .before .before .before .before .before .args in
     let z : 2 + a .joint .add - 2 ≡ a .joint .add = omega arith in
-    (rw (part-to-end (a .s .now) 2) at (c .extend .ensures), rw z at (c .before .before .before .before .before .lay-short-leg .ensures))
+    let e = c .before .before .before .before .before .before .before .lay-short-leg .ensures in
+    (rw (part-to-end (a .s .now) 2) at (c .before .before .extend .ensures), (rw z at e, refl))
 
 pub lay-leg-spec : {M : Type 1} → statement M
 lay-leg-spec =
@@ -56,5 +60,6 @@ lay-leg-spec =
     part-extend-start
     part-extend-end
     extend-requires
+    add-len
     same-length
     returns)

@@ -1,129 +1,117 @@
+-- `measure::count_short` meets its contract. Assumes nothing.
 use borrow.Author.Tests.{not-true, not-false}
 use native.Mathlib.Omega.{arith}
 use Rattle.measure.proofs.Counting.{count-leg, count-station, count-section}
 use borrow.Author.Needs.{needs}
 use Rattle.measure.proofs.count_short.Statement.{statement}
 use Rattle.measure.proofs.count_short.Tie as tie
-use Rattle.measure.proofs.count_short.Reads as reads
-use Rattle.measure.proofs.count_short.Lts as lts
-use Rattle.short.proofs.new_item.Reads as new-item-reads
-use Rattle.short.proofs.sides.Reads as sides-reads
 
--- src/lib.rt:243:9
 new-item-requires : tie.Need-new-item-requires
 new-item-requires c κs = search needs
 
--- src/lib.rt:245:25
 enum-told : tie.Need-enum-told
 enum-told c = search needs
 
--- src/lib.rt:247:13
 enum-known-it : tie.Need-enum-known-it
 enum-known-it c = search needs
 
--- src/lib.rt:252:17
 returns : tie.Need-returns
 returns c = search needs
 
--- src/lib.rt:254:21
-add-m : tie.Need-add-m
-add-m c =
-    let B = rw (c .before .before .it .given .1) at (c .before .before .before .before .new-item .ensures 8 (omega arith)) in
+add-count-record : tie.Need-add-count-record
+add-count-record c =
+    let q = c .before .before .it .given .1 in
+    let B = rw q at (c .before .before .before .before .new-item .ensures 8 (omega arith)) in
     omega (arith, B .few, B .add-few)
 
--- src/lib.rt:256:23
-add-t17 : tie.Need-add-t17
-add-t17 c =
-    let B = rw (c .before .before .it .given .1) at (c .before .before .before .before .new-item .ensures 8 (omega arith)) in
+add-count-record-2 : tie.Need-add-count-record-2
+add-count-record-2 c =
+    let q = c .before .before .it .given .1 in
+    let B = rw q at (c .before .before .before .before .new-item .ensures 8 (omega arith)) in
     omega (arith, B .few, B .add-few)
 
--- src/lib.rt:258:24
-add-t18 : tie.Need-add-t18
-add-t18 c =
-    let B = rw (c .before .before .it .given .1) at (c .before .before .before .before .new-item .ensures 8 (omega arith)) in
-    omega (arith, B .few, B .add-few)
+count-record-requires : tie.Need-count-record-requires
+count-record-requires c κs =
+    let q = c .before .before .it .given .1 in
+    let B = rw q at (c .before .before .before .before .new-item .ensures 8 (omega arith)) in
+    (omega (arith, B .few, B .add-few), omega arith)
 
--- src/lib.rt:262:13
 enum-known-it-2 : tie.Need-enum-known-it-2
 enum-known-it-2 c = search needs
 
--- src/lib.rt:266:21
-add-m-2 : tie.Need-add-m-2
-add-m-2 c =
-    let B = rw (c .before .it2 .given .1) at (c .before .before .before .new-item .ensures 8 (omega arith)) in
+add-count-record-3 : tie.Need-add-count-record-3
+add-count-record-3 c =
+    let q = c .before .it2 .given .1 in
+    let B = rw q at (c .before .before .before .new-item .ensures 8 (omega arith)) in
     omega (arith, B .few, B .add-few)
 
--- src/lib.rt:268:23
-add-t19 : tie.Need-add-t19
-add-t19 c =
-    let B = rw (c .before .it2 .given .1) at (c .before .before .before .new-item .ensures 8 (omega arith)) in
+add-count-record-4 : tie.Need-add-count-record-4
+add-count-record-4 c =
+    let q = c .before .it2 .given .1 in
+    let B = rw q at (c .before .before .before .new-item .ensures 8 (omega arith)) in
     omega (arith, B .few, B .add-few)
 
--- src/lib.rt:270:24
-add-t20 : tie.Need-add-t20
-add-t20 c =
-    let B = rw (c .before .it2 .given .1) at (c .before .before .before .new-item .ensures 8 (omega arith)) in
-    omega (arith, B .few, B .add-few)
+count-record-requires-2 : tie.Need-count-record-requires-2
+count-record-requires-2 c κs =
+    let q = c .before .it2 .given .1 in
+    let B = rw q at (c .before .before .before .new-item .ensures 8 (omega arith)) in
+    (omega (arith, B .few, B .add-few), omega arith)
 
--- src/lib.rt:273:26
 enum-known-it-3 : tie.Need-enum-known-it-3
 enum-known-it-3 c = search needs
 
--- src/lib.rt:274:21
-add-m-3 : tie.Need-add-m-3
-add-m-3 c =
-    let B = rw (c .before .it3 .given .1) at (c .before .before .before .new-item .ensures 8 (omega arith)) in
+add-count-record-5 : tie.Need-add-count-record-5
+add-count-record-5 c =
+    let q = c .before .it3 .given .1 in
+    let B = rw q at (c .before .before .before .new-item .ensures 8 (omega arith)) in
     omega (arith, B .few, B .add-few)
 
--- src/lib.rt:276:23
-add-t21 : tie.Need-add-t21
-add-t21 c =
-    let B = rw (c .before .it3 .given .1) at (c .before .before .before .new-item .ensures 8 (omega arith)) in
-    omega (arith, B .few, B .add-few)
-
--- src/lib.rt:276:33
 sides-requires : tie.Need-sides-requires
 sides-requires c κs = search needs
 
--- src/lib.rt:276:23
-add-t23 : tie.Need-add-t23
-add-t23 c =
-    let B = rw (c .before .before .it3 .given .1) at (c .before .before .before .before .new-item .ensures 8 (omega arith)) in
+add-count-record-6 : tie.Need-add-count-record-6
+add-count-record-6 c =
+    let q = c .before .before .it3 .given .1 in
+    let B = rw q at (c .before .before .before .before .new-item .ensures 8 (omega arith)) in
     omega (arith, B .few, B .add-few, c .sides .ensures .1)
 
--- src/lib.rt:278:24
-add-t24 : tie.Need-add-t24
-add-t24 c =
-    let B = rw (c .before .before .it3 .given .1) at (c .before .before .before .before .new-item .ensures 8 (omega arith)) in
-    omega (arith, B .few, B .add-few, c .sides .ensures .1)
+add-count-record-7 : tie.Need-add-count-record-7
+add-count-record-7 c =
+    let q = c .before .before .it3 .given .1 in
+    let B = rw q at (c .before .before .before .before .new-item .ensures 8 (omega arith)) in
+    omega (arith, B .few, B .add-few)
 
--- src/lib.rt:281:35
+count-record-requires-3 : tie.Need-count-record-requires-3
+count-record-requires-3 c κs =
+    let q = c .before .before .it3 .given .1 in
+    let B = rw q at (c .before .before .before .before .new-item .ensures 8 (omega arith)) in
+    (omega (arith, B .few, B .add-few), omega arith)
+
 enum-told-2 : tie.Need-enum-told-2
 enum-told-2 c = search needs
 
--- src/lib.rt:240:1
 returns-2 : tie.Need-returns-2
 returns-2 c = search needs
 
--- src/lib.rt:240:1
 returns-3 : tie.Need-returns-3
 returns-3 c =
-    let B = rw (c .before .before .it .given .1) at (c .before .before .before .before .new-item .ensures 8 (omega arith)) in
-    count-leg _ _ _ _ _ _ B (not-false _ (c .if1 .left))
+    let q = c .before .before .before .it .given .1 in
+    let B = rw q at (c .before .before .before .before .before .new-item .ensures 8 (omega arith)) in
+    rw (c .count-record .ensures) (count-leg _ _ _ _ _ _ B (not-false _ (c .before .if1 .left)))
 
--- src/lib.rt:240:1
 returns-4 : tie.Need-returns-4
 returns-4 c =
-    let B = rw (c .before .it2 .given .1) at (c .before .before .before .new-item .ensures 8 (omega arith)) in
-    count-station _ _ _ _ _ _ B
+    let q = c .before .before .it2 .given .1 in
+    let B = rw q at (c .before .before .before .before .new-item .ensures 8 (omega arith)) in
+    rw (c .count-record2 .ensures) (count-station _ _ _ _ _ _ B)
 
--- src/lib.rt:240:1
 returns-5 : tie.Need-returns-5
 returns-5 c =
-    let B = rw (c .before .before .it3 .given .1) at (c .before .before .before .before .new-item .ensures 8 (omega arith)) in
-    count-section _ _ _ _ _ _ _ (rw (← c .sides .ensures .0) at B)
+    let q = c .before .before .before .it3 .given .1 in
+    let B = rw q at (c .before .before .before .before .before .new-item .ensures 8 (omega arith)) in
+    let e = c .before .sides .ensures .0 in
+    rw (c .count-record3 .ensures) (count-section _ _ _ _ _ _ _ (rw (← e) at B))
 
--- src/lib.rt:240:1
 returns-6 : tie.Need-returns-6
 returns-6 c = search needs
 
@@ -135,19 +123,19 @@ count-short-spec =
     enum-told
     enum-known-it
     returns
-    add-m
-    add-t17
-    add-t18
+    add-count-record
+    add-count-record-2
+    count-record-requires
     enum-known-it-2
-    add-m-2
-    add-t19
-    add-t20
+    add-count-record-3
+    add-count-record-4
+    count-record-requires-2
     enum-known-it-3
-    add-m-3
-    add-t21
+    add-count-record-5
     sides-requires
-    add-t23
-    add-t24
+    add-count-record-6
+    add-count-record-7
+    count-record-requires-3
     enum-told-2
     returns-2
     returns-3

@@ -5,8 +5,8 @@ use Rattle.measure.specs.declared.Measured.the-variants.{Styled, Moved, 
 use native.Mathlib.Omega.{arith}
 use Prim.Native.Nat.{_-_}
 use mathlib.Core.Path.{_≡_, _∙_}
-use lib.ListN.{length, length-drop}
-use Rattle.measure.proofs.Turn.{Going, going-first, found, ends-bad, ends-after, ends-done, going-on, going-made, Within, item-within}
+use lib.ListN.{length}
+use Rattle.measure.proofs.Turn.{Going, going-first, found, ends-bad, ends-end, going-on, going-made, Within, item-within}
 use Rattle.measure.proofs.measure.Statement.{statement}
 use Rattle.measure.proofs.measure.Tie as tie
 
@@ -17,7 +17,8 @@ abbrev μ-loop : tie.MeasureT-loop
 μ-loop file place front at₀ out₀ records₀ len₀ style₀ placed₀ at out records len style placed = length file - at
 
 -- the item's bytes are there
-within-at : (y : tie.After-measure-item Inv-loop μ-loop) (r : Measured) → y .measure-item .result ≡ r → Within (length (y .before .before .before .before .args .file .now)) (y .before .before .loop .at) r
+within-at : (y : tie.After-measure-item Inv-loop μ-loop) (r : Measured) → y .measure-item .result ≡ r
+    → Within (length (y .before .before .before .before .args .file .now)) (y .before .before .loop .at) r
 within-at y r e = item-within _ _ _ _ _ _ _ _ _ (y .before .before .loop .inv) r ((rw e at (y .measure-item .ensures)) .1)
 
 loop-holds : tie.Need-loop-holds Inv-loop μ-loop
@@ -50,38 +51,27 @@ returns c =
 enum-told : tie.Need-enum-told Inv-loop μ-loop
 enum-told c = search needs
 
-add-place : tie.Need-add-place Inv-loop μ-loop
-add-place c =
-    omega (arith, c .before .before .before .before .before .loop .inv .inside, c .before .before .before .before .before .before .before .pre .0)
-
-stopped-requires-2 : tie.Need-stopped-requires-2 Inv-loop μ-loop
-stopped-requires-2 c κs = search needs
+ended-requires : tie.Need-ended-requires Inv-loop μ-loop
+ended-requires c κs = omega (arith, c .before .before .before .before .loop .inv .inside, c .before .before .before .before .before .before .pre .0)
 
 returns-2 : tie.Need-returns-2 Inv-loop μ-loop
 returns-2 c =
-    let G = c .before .before .before .before .before .before .loop .inv in
-    let f = rw (c .before .before .enum-told .given .1) at (c .before .before .before .before .measure-item .ensures) in
-    c .stopped2 .ensures ∙ ends-after _ _ _ _ _ _ _ _ _ G (f .1) (simp length-drop (omega (arith, c .before .if1 .taken)))
-
-stopped-requires-3 : tie.Need-stopped-requires-3 Inv-loop μ-loop
-stopped-requires-3 c κs = search needs
-
-returns-3 : tie.Need-returns-3 Inv-loop μ-loop
-returns-3 c =
-    let G = c .before .before .before .before .before .before .loop .inv in
-    let f = rw (c .before .before .enum-told .given .1) at (c .before .before .before .before .measure-item .ensures) in
-    c .stopped3 .ensures ∙ ends-done _ _ _ _ _ _ _ _ _ G (f .1) (simp length-drop (omega (arith, c .before .if1 .left)))
+    let G = c .before .before .before .before .before .loop .inv in
+    let f = rw (c .before .enum-told .given .1) at (c .before .before .before .measure-item .ensures) in
+    c .ended .ensures ∙ ends-end _ _ _ _ _ _ _ _ _ G (f .1)
 
 enum-known-it-2 : tie.Need-enum-known-it-2 Inv-loop μ-loop
 enum-known-it-2 c = search needs
 
 add-at : tie.Need-add-at Inv-loop μ-loop
 add-at c =
-    omega (arith, within-at (c .before .before .before) (Styled _) (c .before .it2 .given .1), c .before .before .before .before .before .before .before .pre .0)
+    let p = c .before .before .before .before .before .before .before .pre .0 in
+    omega (arith, within-at (c .before .before .before) (Styled _) (c .before .it2 .given .1), p)
 
 loop-less : tie.Need-loop-less Inv-loop μ-loop
 loop-less c =
-    omega (arith, within-at (c .before .before .before) (Styled _) (c .before .it2 .given .1), c .before .before .before .before .before .before .before .pre .0)
+    let p = c .before .before .before .before .before .before .before .pre .0 in
+    omega (arith, within-at (c .before .before .before) (Styled _) (c .before .it2 .given .1), p)
 
 loop-again : tie.Need-loop-again Inv-loop μ-loop
 loop-again c =
@@ -111,11 +101,13 @@ enum-known-it-3 c = search needs
 
 add-at-3 : tie.Need-add-at-3 Inv-loop μ-loop
 add-at-3 c =
-    omega (arith, within-at (c .before .before .before) (Passes _) (c .before .it3 .given .1), c .before .before .before .before .before .before .before .pre .0)
+    let p = c .before .before .before .before .before .before .before .pre .0 in
+    omega (arith, within-at (c .before .before .before) (Passes _) (c .before .it3 .given .1), p)
 
 loop-less-3 : tie.Need-loop-less-3 Inv-loop μ-loop
 loop-less-3 c =
-    omega (arith, within-at (c .before .before .before) (Passes _) (c .before .it3 .given .1), c .before .before .before .before .before .before .before .pre .0)
+    let p = c .before .before .before .before .before .before .before .pre .0 in
+    omega (arith, within-at (c .before .before .before) (Passes _) (c .before .it3 .given .1), p)
 
 loop-again-3 : tie.Need-loop-again-3 Inv-loop μ-loop
 loop-again-3 c =
@@ -140,11 +132,13 @@ add-records c =
 
 add-at-4 : tie.Need-add-at-4 Inv-loop μ-loop
 add-at-4 c =
-    omega (arith, within-at (c .before .before .before) (Made _ _ _) (c .before .it4 .given .1), c .before .before .before .before .before .before .before .pre .0)
+    let p = c .before .before .before .before .before .before .before .pre .0 in
+    omega (arith, within-at (c .before .before .before) (Made _ _ _) (c .before .it4 .given .1), p)
 
 loop-less-4 : tie.Need-loop-less-4 Inv-loop μ-loop
 loop-less-4 c =
-    omega (arith, within-at (c .before .before .before) (Made _ _ _) (c .before .it4 .given .1), c .before .before .before .before .before .before .before .pre .0)
+    let p = c .before .before .before .before .before .before .before .pre .0 in
+    omega (arith, within-at (c .before .before .before) (Made _ _ _) (c .before .it4 .given .1), p)
 
 loop-again-4 : tie.Need-loop-again-4 Inv-loop μ-loop
 loop-again-4 c =
@@ -167,11 +161,8 @@ measure-spec =
     stopped-requires
     returns
     enum-told
-    add-place
-    stopped-requires-2
+    ended-requires
     returns-2
-    stopped-requires-3
-    returns-3
     enum-known-it-2
     add-at
     loop-less

@@ -1,7 +1,10 @@
 -- `read::lay_item` meets its contract. Assumes nothing.
-use borrow.Author.Needs.{needs}
 use native.Mathlib.Omega.{arith}
-use Rattle.read.proofs.Turn.{not-laid, made-laid}
+use mathlib.Core.Path.{_∙_}
+use Rattle.item.specs.declared.Step.the-variants.{Bad, End, Made}
+use Rattle.read.proofs.Turn.{told-laid}
+use Rattle.read.proofs.Quickly.{passes-on, passes-made}
+use borrow.Author.Needs.{needs}
 use Rattle.read.proofs.lay_item.Statement.{statement}
 use Rattle.read.proofs.lay_item.Tie as tie
 
@@ -11,26 +14,75 @@ take-item-requires c κs = search needs
 enum-known-it : tie.Need-enum-known-it
 enum-known-it c = search needs
 
-returns : tie.Need-returns
-returns c =
-    let T = c .before .take-item .ensures .0 in
-    (T, not-laid _ _ _ _ _ (c .match .keys2) T)
+enum-told : tie.Need-enum-told
+enum-told c = search needs
+
+enum-known-it-2 : tie.Need-enum-known-it-2
+enum-known-it-2 c = search needs
+
+moved-by-requires : tie.Need-moved-by-requires
+moved-by-requires c κs = search needs
+
+enum-known-it-3 : tie.Need-enum-known-it-3
+enum-known-it-3 c = search needs
 
 lay-record-requires : tie.Need-lay-record-requires
 lay-record-requires c κs =
-    let T = c .before .before .before .before .before .take-item .ensures .0 in
-    let S = rw (c .before .before .before .it .given .1) at T in
-    (omega (arith, c .before .before .before .before .before .before .before .before .before .pre), S .short, T .whole)
+    let p = c .before .before .before .before .before .before .before .before .before .pre in
+    let q = c .before .before .before .it3 .given .1 in
+    let T = rw q at (c .before .before .before .before .before .take-item .ensures .0) in
+    (omega (arith, p .out-few), T .short, T .whole)
+
+record-size-requires : tie.Need-record-size-requires
+record-size-requires c κs =
+    let q = c .before .before .before .before .before .before .it3 .given .1 in
+    let T = rw q at (c .before .before .before .before .before .before .before .before .take-item .ensures .0) in
+    T .short
+
+moved-by-requires-2 : tie.Need-moved-by-requires-2
+moved-by-requires-2 c κs = search needs
+
+returns : tie.Need-returns
+returns c =
+    let T = rw (c .before .it .given .1) at (c .before .before .before .take-item .ensures .0) in
+    (T, told-laid (Bad _) _ _ _ _ T)
+
+returns-2 : tie.Need-returns-2
+returns-2 c =
+    let T = rw (c .enum-told .given .1) at (c .before .before .take-item .ensures .0) in
+    (T, told-laid End _ _ _ _ T)
+
+returns-3 : tie.Need-returns-3
+returns-3 c =
+    let T = rw (c .before .before .it2 .given .1) at (c .before .before .before .before .take-item .ensures .0) in
+    passes-on _ _ _ _ _ _ _ _ T (c .moved-by .ensures)
 
 same-length : tie.Need-same-length
 same-length c = search needs
 
-returns-2 : tie.Need-returns-2
-returns-2 c =
-    let T = c .before .before .before .before .before .before .before .before .take-item .ensures .0 in
-    (rw (c .before .before .before .before .before .before .it .given .1) at T, made-laid _ _ _ _ _ _ _ _ _ _ _ (c .before .before .before .before .before .before .it .given .1) T (c .before .before .lay-record .ensures))
+returns-4 : tie.Need-returns-4
+returns-4 c =
+    let q = c .before .before .before .before .before .before .before .before .it3 .given .1 in
+    let T = rw q at (c .before .before .before .before .before .before .before .before .before .before .take-item .ensures .0) in
+    let l = c .before .before .before .before .lay-record .ensures in
+    let n = c .before .record-size .ensures in
+    passes-made _ _ _ _ _ _ _ _ _ _ _ _ T (c .moved-by2 .ensures) n (l ∙ told-laid (Made _ _ _ _ _) _ _ _ _ T)
 
 pub lay-item-spec : {M : Type 1} → statement M
 lay-item-spec =
     tie.close
-    (tie.spec take-item-requires enum-known-it returns lay-record-requires same-length returns-2)
+    (tie.spec
+    take-item-requires
+    enum-known-it
+    enum-told
+    enum-known-it-2
+    moved-by-requires
+    enum-known-it-3
+    lay-record-requires
+    record-size-requires
+    moved-by-requires-2
+    returns
+    returns-2
+    returns-3
+    same-length
+    returns-4)
