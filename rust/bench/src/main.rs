@@ -2,7 +2,8 @@
 //! steps to the end and an edit against the proved reader, in time: one run, one
 //! thread, the two taking turns.
 //!
-//! An argument asks for another number of repetitions.
+//! `bench turns` prints that; another argument asks for another number of repetitions. Without
+//! it, `tables` prints the tables of docs/PERFORMANCE.md.
 
 use compare::proved;
 use generate::coder::{Coder, Form};
@@ -19,8 +20,19 @@ const REPEATS: usize = 21;
 
 type Function = fn(&[u8], &mut [u8]) -> Answer;
 
-fn main() {
-    let repeats = std::env::args().nth(1).map_or(REPEATS, |count| count.parse().expect("a count"));
+mod tables;
+
+/// The tables of docs/PERFORMANCE.md; with the argument `turns`, what this file measures.
+fn main() -> std::process::ExitCode {
+    if std::env::args().nth(1).as_deref() != Some("turns") {
+        return tables::main();
+    }
+    in_turns();
+    std::process::ExitCode::SUCCESS
+}
+
+fn in_turns() {
+    let repeats = std::env::args().nth(2).map_or(REPEATS, |count| count.parse().expect("a count"));
     println!("{repeats} repetitions, the two taking turns, each first every other time");
     println!("buffers: allocated once, the same one for both, and filled with a pattern");
     println!("before each run, so all their pages have been touched; filling is not timed");
