@@ -10,8 +10,8 @@ ghost use Rattle.format.specs.Editing.{editOutcome, editBuffer};
 ghost use Rattle.format.specs.Stepping.{openStand, stepOf, stepBuffer};
 ghost use Rattle.format.specs.Reach.{reachOf};
 ghost use Rattle.format.specs.Viewer.{viewOf, viewBuffer, ViewExact};
-ghost use Rattle.format.specs.Summary.{summaryOutcome, summaryWords, holds, entrancesOutcome, updateOutcome, updateWords};
-ghost use Rattle.format.specs.Answers.{laterOf, openOutcome, reachedOf, viewedOf, entrancesOf, summedOf};
+ghost use Rattle.format.specs.Summary.{summaryOutcome, summaryWords, entrancesOutcome, updateOutcome, updateWords};
+ghost use Rattle.format.specs.Answers.{openOutcome, reachedOf};
 ghost use Rattle.step.specs.Standing.{Opens};
 ghost use Rattle.step.specs.Going.{nextRecord, nextBuffer};
 ghost use Rattle.held.specs.Numbers.{heldOf, stateStand};
@@ -20,21 +20,15 @@ ghost use Rattle.read.specs.Salvage.{salvageOutcome, salvageBuffer, salvagedOf}
 ghost use Rattle.strict.specs.Strict.{strictOutcome, strictBuffer};
 ghost use Rattle.sha256.specs.Digest.{sha256Of};
 ghost use Rattle.sha256.specs.Streams.{updated, finished, begun, runningOf, stateStream};
-ghost use Rattle.capi.specs.Compares.{comparedOf};
+ghost use Rattle.told.specs.Compares.{comparedOf};
 ghost use Rattle.capi.specs.Reaches.{reachNumbers};
 ghost use Rattle.capi.specs.Salvages.{salvageNumbers};
-ghost use Rattle.capi.specs.Views.{originOf, viewNumbers};
-ghost use Rattle.capi.specs.Summaries.{summaryNumbers, entranceNumbers};
-use format::Entrances;
-use format::Handed;
+ghost use Rattle.told.specs.Views.{originOf, viewNumbers};
+ghost use Rattle.told.specs.Summaries.{summaryNumbers, entranceNumbers};
 use format::LABEL_LIMIT;
-use format::Later;
-use format::NextEntrance;
 use format::Origin;
 use format::Reached;
 use format::Stepped;
-use format::Summed;
-use format::Viewed;
 use held::Brief;
 use held::STAND_NUMBERS;
 use read::Salvaged;
@@ -42,20 +36,12 @@ use sha256::BLOCK;
 use sha256::DIGEST;
 use sha256::RUNNING_NUMBERS;
 use told::AnswerNumbers;
+use told::Compared;
+use told::EntranceNumbers;
 use told::OpenNumbers;
 use told::StepNumbers;
-
-// Which file is later: 1 the first, 2 the second, with the place and the length of its
-// time line; 0 neither; or 3 and the file that is refused, 1 or 2, with the refusal's
-// number and place.
-#[repr(C)]
-pub struct Compared {
-    pub which: u64,
-    pub file: u64,
-    pub number: u64,
-    pub place: usize,
-    pub length: usize,
-}
+use told::SummaryNumbers;
+use told::ViewNumbers;
 
 // How far a survey reaches. Number 0 is success, with how many legs took part and the
 // least and the greatest x, y and z; any other is the refusal's number, with its place.
@@ -70,15 +56,6 @@ pub struct ReachNumbers {
     pub greatest_x: i32,
     pub greatest_y: i32,
     pub greatest_z: i32,
-}
-
-// Legs for the viewer. Number 0 is success, with how many legs came; any other is the
-// refusal's number, with its place.
-#[repr(C)]
-pub struct ViewNumbers {
-    pub number: u64,
-    pub place: usize,
-    pub legs: usize,
 }
 
 // Reads a file into the lent sheet.
@@ -201,44 +178,6 @@ pub extern "C" fn cockledrift_convert(
     told::tell(converted)
 }
 
-// A comparison with no refusal.
-fn judged(which: u64, line: Handed) -> Compared
-    ensures { λ r. ⌜ r ≡ record { which = which; file = 0; number = 0; place = line .place; length = line .size } ⌝ }
-{
-    Compared {
-        which,
-        file: 0,
-        number: 0,
-        place: line.place,
-        length: line.size,
-    }
-}
-
-// A comparison that names the file that is refused.
-fn refused(file: u64, number: u8, place: usize) -> Compared
-    ensures { λ r. ⌜ r ≡ record { which = 3; file = file; number = number; place = place; length = 0 } ⌝ }
-{
-    Compared {
-        which: 3,
-        file,
-        number: told::long(number),
-        place,
-        length: 0,
-    }
-}
-
-fn tell_later(l: Later, line: Handed) -> Compared
-    ensures { λ r. ⌜ r ≡ comparedOf (laterOf l) line ⌝ }
-{
-    match l {
-        Later::First => judged(1, line),
-        Later::Second => judged(2, line),
-        Later::Same => judged(0, line),
-        Later::FirstRefused { number, place } => refused(1, number, place),
-        Later::SecondRefused { number, place } => refused(2, number, place),
-    }
-}
-
 // Which of two files was written later. The part of a file cannot be handed to C, so its
 // place and length are.
 #[no_mangle]
@@ -247,7 +186,7 @@ pub extern "C" fn cockledrift_compare(first: &[u8], second: &[u8]) -> Compared
 {
     let l = timeline::compare(first, second);
     let line = timeline::later_part(first, second);
-    tell_later(l, line)
+    told::tell_later(l, line)
 }
 
 // Replaces `count` records of a house-written v8 file, from `first` on, by those of `new`,
@@ -432,23 +371,6 @@ pub extern "C" fn cockledrift_reach(sheet: &[u8], name: &[u8]) -> ReachNumbers
     tell_reach(r)
 }
 
-fn tell_viewed(r: Viewed) -> ViewNumbers
-    ensures { λ n. ⌜ n ≡ viewNumbers (viewedOf r) ⌝ }
-{
-    match r {
-        Viewed::Legs { legs } => ViewNumbers {
-            number: 0,
-            place: 0,
-            legs,
-        },
-        Viewed::Refused { number, place } => ViewNumbers {
-            number: told::long(number),
-            place,
-            legs: 0,
-        },
-    }
-}
-
 // The legs of a sheet for the viewer, six numbers each, less the origin x y z.
 #[no_mangle]
 pub extern "C" fn cockledrift_viewer_legs(
@@ -464,81 +386,7 @@ pub extern "C" fn cockledrift_viewer_legs(
 {
     let origin = Origin { x, y, z };
     let r = viewer::viewer_legs(sheet, origin, out);
-    tell_viewed(r)
-}
-
-// What a summary takes. Number 0 is success, with the words; any other is the refusal's
-// number, with its place.
-#[repr(C)]
-pub struct SummaryNumbers {
-    pub number: u64,
-    pub place: usize,
-    pub words: usize,
-}
-
-// How many entrances a stretch of records holds. Number 0 is success, with the count, and
-// found 1 with the next entrance's record, or 0 where there is none; any other is the
-// refusal's number, with its place.
-#[repr(C)]
-pub struct EntranceNumbers {
-    pub number: u64,
-    pub place: usize,
-    pub count: u64,
-    pub found: u64,
-    pub next: usize,
-}
-
-fn tell_summed(s: Summed) -> SummaryNumbers
-    ensures { λ r. ⌜ r ≡ summaryNumbers (summedOf s) ⌝ }
-{
-    match s {
-        Summed::Takes { words } => SummaryNumbers {
-            number: 0,
-            place: 0,
-            words,
-        },
-        Summed::Refused { number, place } => SummaryNumbers {
-            number: told::long(number),
-            place,
-            words: 0,
-        },
-    }
-}
-
-fn tell_next(count: u64, next: NextEntrance) -> EntranceNumbers
-    ensures { λ r. ⌜ r ≡ entranceNumbers (holds count next) ⌝ }
-{
-    match next {
-        NextEntrance::At { record } => EntranceNumbers {
-            number: 0,
-            place: 0,
-            count,
-            found: 1,
-            next: record,
-        },
-        NextEntrance::Nowhere => EntranceNumbers {
-            number: 0,
-            place: 0,
-            count,
-            found: 0,
-            next: 0,
-        },
-    }
-}
-
-fn tell_entrances(e: Entrances) -> EntranceNumbers
-    ensures { λ r. ⌜ r ≡ entranceNumbers (entrancesOf e) ⌝ }
-{
-    match e {
-        Entrances::Hold { count, next } => tell_next(count, next),
-        Entrances::Refused { number, place } => EntranceNumbers {
-            number: told::long(number),
-            place,
-            count: 0,
-            found: 0,
-            next: 0,
-        },
-    }
+    told::tell_viewed(r)
 }
 
 // Makes the summary of a sheet's entrances in the lent words.
@@ -548,7 +396,7 @@ pub extern "C" fn cockledrift_summary(sheet: &[u8], words: &mut [u64]) -> Summar
     ensures words { λ _. ⌜ now (words .exit) ≡ summaryWords (now (sheet .entry)) (now (words .entry)) ⌝ }
 {
     let s = summary::summarize(sheet, words);
-    tell_summed(s)
+    told::tell_summed(s)
 }
 
 // How many entrances a summary of so many records holds from one record up to but not
@@ -563,7 +411,7 @@ pub extern "C" fn cockledrift_entrances(
     ensures { λ r. ⌜ r ≡ entranceNumbers (entrancesOutcome (now (words .entry)) records from to) ⌝ }
 {
     let e = summary::entrances(words, records, from, to);
-    tell_entrances(e)
+    told::tell_entrances(e)
 }
 
 // Brings a summary up to date after an edit of so many records: the run of `count` from
@@ -580,5 +428,5 @@ pub extern "C" fn cockledrift_summary_update(
     ensures words { λ _. ⌜ now (words .exit) ≡ updateWords records first count (now (new .entry)) (now (words .entry)) ⌝ }
 {
     let s = summary::update(words, records, first, count, new);
-    tell_summed(s)
+    told::tell_summed(s)
 }

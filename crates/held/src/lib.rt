@@ -10,6 +10,7 @@ use step::Phase;
 use step::Stand;
 ghost use mathlib.Core.Path.{_≡_};
 ghost use Prim.Native.Nat.{_%_, _<_};
+ghost use Rattle.format.specs.declared.Position.the-variants.{Stands};
 ghost use Rattle.held.specs.Numbers.{phaseOf, dateOf, positionOf, heldOf, standsAt};
 ghost use Rattle.held.specs.Shortly.{Briefly};
 
@@ -279,6 +280,14 @@ fn passed_on(s: &[u64; STAND_NUMBERS], place: usize, len: usize) -> [u64; STAND_
     moved_on(s, place, len, position)
 }
 
+// The same with the position where a leg leads.
+fn led_on(s: &[u64; STAND_NUMBERS], place: usize, len: usize, to: Point) -> [u64; STAND_NUMBERS]
+    ensures { λ r. ⌜ heldOf r ≡ standsAt (heldOf (now (s .entry))) place len (Stands to) ⌝ }
+{
+    let position = place_numbers(Position::Stands { point: to });
+    moved_on(s, place, len, position)
+}
+
 // What a step came to: a record; none; or it was not taken.
 pub enum Brief {
     Other,
@@ -297,7 +306,6 @@ pub fn short_step(
     ensures { λ r. ⌜ Briefly r (now (s .entry)) (now (bytes .entry)) (now (file .entry)) (now (out .entry)) (now (s .exit)) (now (bytes .exit)) (now (out .exit)) ⌝ }
 {
     let stand = held_of(s);
-    let place = stand.place;
     let quick = step::short_at(file, stand, bytes, out);
     match quick {
         Quick::Other => Brief::Other,
@@ -307,8 +315,7 @@ pub fn short_step(
             to,
             kept,
         } => {
-            let position = place_numbers(Position::Stands { point: to });
-            let after = moved_on(s, place + size, len, position);
+            let after = led_on(s, stand.place + size, len, to);
             *s = after;
             let n = 34 + len;
             Brief::Record { bytes: n, kept }
@@ -319,12 +326,12 @@ pub fn short_step(
             bytes: n,
             kept,
         } => {
-            let after = passed_on(s, place + size, len);
+            let after = passed_on(s, stand.place + size, len);
             *s = after;
             Brief::Record { bytes: n, kept }
         }
         Quick::Trim { len } => {
-            let after = passed_on(s, place + 1, len);
+            let after = passed_on(s, stand.place + 1, len);
             *s = after;
             Brief::Nothing
         }

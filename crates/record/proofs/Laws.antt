@@ -1,4 +1,6 @@
--- A record's bytes: its size, its head and its label, and what two copies one after the other leave. Assumes nothing.
+-- A record's bytes. What stands before its label (`legFront` and its like) is laid piece by piece over the front of a slice: `then` adds one piece
+-- to those that stand there. With the label behind it that is the layout (`leg-parts`), and laid into a sheet the two come to the whole record
+-- (`front-then`). Assumes nothing.
 use Prim.Native.Nat.{ℕ, suc, _+_, _-_, _*_, _/_, _%_, _≤_, _<_}
 use mathlib.Core.Path.{_≡_, refl, sym, ap, _∙_}
 use mathlib.Core.List.{List, [], _∷_, _++_, append-assoc}
@@ -7,7 +9,8 @@ use lib.ListN.{length, take, drop, getD, set, length-append, take-append-drop}
 use lib.Seq.{drop-cons, set-at, length-take-le}
 use native.Mathlib.Numerals.{add-one}
 use Rattle.format.specs.Bytes.{pick, over, toBe16, toBe32}
-use Rattle.format.specs.Sheet.{sheetVersion, pointBytes, dimensionBytes, traverseBytes, dateKind, dateDay, dateLast, dateBytes, legSize, stationSize, sectionSize, errorSize, legBody, stationBody, sectionBody, layout, headerLayout}
+use Rattle.format.specs.Sheet.{sheetVersion, pointBytes, dimensionBytes, traverseBytes, dateKind, dateDay, dateLast, dateBytes, legSize, stationSize}
+use Rattle.format.specs.Sheet.{sectionSize, errorSize, legBody, stationBody, sectionBody, layout, headerLayout}
 use Rattle.format.specs.State.{leg, station, section, error}
 use Rattle.format.specs.Fields.{recordSize}
 use Rattle.format.specs.declared.Dated.{Dated}
@@ -86,7 +89,8 @@ unfolding toBe32
 point-length p = refl
 
 -- three words in a row are a place
-pub point-laid : (d : List ℕ) (k : ℕ) (p : Point) → k + 12 ≤ length d → laid (laid (laid d k (toBe32 (p .x))) (k + 4) (toBe32 (p .y))) (k + 8) (toBe32 (p .z)) ≡ laid d k (pointBytes toBe32 p)
+pub point-laid : (d : List ℕ) (k : ℕ) (p : Point) → k + 12 ≤ length d → laid (laid (laid d k (toBe32 (p .x))) (k + 4) (toBe32 (p .y))) (k + 8)
+    (toBe32 (p .z)) ≡ laid d k (pointBytes toBe32 p)
 point-laid d k p h =
     let X = toBe32 (p .x) in
     let Y = toBe32 (p .y) in
@@ -105,7 +109,8 @@ dimensions-length d = refl
 
 -- four words in a row are dimensions
 pub dimensions-laid : (s : List ℕ) (k : ℕ) (d : Dimensions) → k + 16 ≤ length s
-    → laid (laid (laid (laid s k (toBe32 (d .left))) (k + 4) (toBe32 (d .right))) (k + 8) (toBe32 (d .up))) (k + 12) (toBe32 (d .down)) ≡ laid s k (dimensionBytes toBe32 d)
+    → laid (laid (laid (laid s k (toBe32 (d .left))) (k + 4) (toBe32 (d .right))) (k + 8) (toBe32 (d .up))) (k + 12) (toBe32 (d .down)) ≡ laid s k
+    (dimensionBytes toBe32 d)
 dimensions-laid s k d h =
     let p : Point = record { x = d .left; y = d .right; z = d .up } in
     let W = toBe32 (d .down) in
@@ -192,7 +197,8 @@ module _ (d : List ℕ) (k : ℕ) (s : List ℕ) where
   pub lay-none : length d < k + length s → d ≡ laidIf d k s
   lay-none h = sym (laid-none d s k h)
 
-  pub lay-some : k + length s ≤ length d → (y : List ℕ) → y ≡ over s (take (length d - k) (drop k d)) → take k d ++ (y ++ drop (length d - k) (drop k d)) ≡ laidIf d k s
+  pub lay-some : k + length s ≤ length d → (y : List ℕ) → y ≡ over s (take (length d - k) (drop k d)) → take k d ++ (y ++ drop (length d - k)
+      (drop k d)) ≡ laidIf d k s
   lay-some h y ey = rw ey (laid-part d s k (omega arith) (length d) refl) ∙ sym (laid-some d s k h)
 
 -- a record that is a front and a label, laid one after the other
@@ -224,7 +230,8 @@ front-laid S head title time h =
     ∙ laid-zero S ((head ++ title) ++ time)
     ∙ ap (λ (x : List ℕ). over x S) (append-assoc head title time)
 
-pub front-parts : (extended : ℕ) (title time : List ℕ) → (sheetVersion ∷ (toBe16 (4 + length title + length time) ++ (0 ∷ extended ∷ toBe16 (length title)))) ++ (title ++ time) ≡ sheetVersion ∷ headerLayout (record { extended = extended; title = title; time = time })
+pub front-parts : (extended : ℕ) (title time : List ℕ) → (sheetVersion ∷ (toBe16 (4 + length title + length time) ++ (0 ∷ extended ∷ toBe16
+    (length title)))) ++ (title ++ time) ≡ sheetVersion ∷ headerLayout (record { extended = extended; title = title; time = time })
 unfolding headerLayout toBe16
 front-parts extended title time =
     let n : suc (suc (suc (suc (length (title ++ time))))) ≡ 4 + length title + length time = simp length-append (omega arith) in

@@ -1,1 +1,4 @@
 pub mod Numbers
+pub mod Compares
+pub mod Views
+pub mod Summaries

@@ -182,7 +182,8 @@ lays-part d X y at from m n i q P =
 
 -- ---- where in the sheet the loop stands
 
-pub record Going (barred : Bool) (version : ℕ) (sheet : List ℕ) (begin head : ℕ) (d₀ d : List ℕ) (at total number : ℕ) (fault : Verdict) (hand : Hand) : Type 0 where
+pub record Going (barred : Bool) (version : ℕ) (sheet : List ℕ) (begin head : ℕ) (d₀ d : List ℕ) (at total number : ℕ) (fault : Verdict)
+    (hand : Hand) : Type 0 where
   pub stands : Standing v7 barred version sheet begin head d₀ d at total number fault (stateIn sheet hand)
   pub named : Named sheet hand
 
@@ -248,5 +249,6 @@ module _ (barred : Bool) (version : ℕ) (sheet : List ℕ) (begin head : ℕ) (
 
       pub going-more : Going barred version sheet begin head d₀ d′ (at + n) (bounded total bytes) (number + 1) fault′ next
       going-more =
-          let S = standing-more v7 barred version sheet begin head d₀ d at total number fault st (G .stands) h n (T .fields) (T .from) (T .told) d′ bytes fault′ adds in
+          let S = standing-more v7 barred version sheet begin head d₀ d at total number fault st (G .stands) h n (T .fields) (T .from)
+          (T .told) d′ bytes fault′ adds in
           record { stands = rw (T .leaves) at S; named = T .named }

@@ -38,10 +38,12 @@ with-label-requires c κs =
 
 returns-2 : tie.Need-returns-2
 returns-2 c =
-    let a = c .before .before .before .before .before .before .before .before .args in
+    let c8 = c .before .before .before .before .before .before .before .before in
+    let a = c8 .args in
     let h = c .before .head-of in
     let w = c .with-label in
-    found-by (a .s .now) (a .mark) (a .position) _ (ap (λ (n : ℕ). 2 + n) (size-at (c .before .before))) (a .version) (w .result) (h .result) (a .last .now) (body-at (c .before .before)) (h .ensures) (w .ensures)
+    found-by (a .s .now) (a .mark) (a .position) _ (ap (λ (n : ℕ). 2 + n) (size-at (c .before .before))) (a .version) (w .result) (h .result)
+    (a .last .now) (body-at (c .before .before)) (h .ensures) (w .ensures)
 
 -- the search closes the other needs
 pub find-spec : {M : Type 1} → statement M

@@ -33,15 +33,20 @@ placed-head-requires c κs = (size-at c, framed-at (c .before .before))
 with-label-requires : tie.Need-with-label-requires
 with-label-requires c κs =
     let a = c .before .before .before .before .before .before .before .args in
-    let h = c .placed-head in
-    (body-at (c .before), head-fits (a .s .now) (a .mark) (a .position) _ (ap (λ (n : ℕ). 2 + n) (size-at (c .before))) (h .result) 0 (placed-told (h .result) (a .s .now) (a .mark) (a .position) (h .ensures) 0))
+    let h = c .placed-head in (
+      body-at (c .before),
+      head-fits (a .s .now) (a .mark) (a .position) _ (ap (λ (n : ℕ). 2 + n) (size-at (c .before))) (h .result) 0 (placed-told
+          (h .result) (a .s .now) (a .mark) (a .position) (h .ensures) 0),
+    )
 
 returns-2 : tie.Need-returns-2
 returns-2 c =
-    let a = c .before .before .before .before .before .before .before .before .args in
+    let c8 = c .before .before .before .before .before .before .before .before in
+    let a = c8 .args in
     let h = c .before .placed-head in
     let w = c .with-label in
-    placed-by (a .s .now) (a .mark) (a .position) _ (ap (λ (n : ℕ). 2 + n) (size-at (c .before .before))) (w .result) (h .result) (a .last .now) (body-at (c .before .before)) (h .ensures) (w .ensures)
+    placed-by (a .s .now) (a .mark) (a .position) _ (ap (λ (n : ℕ). 2 + n) (size-at (c .before .before))) (w .result) (h .result) (a .last .now)
+    (body-at (c .before .before)) (h .ensures) (w .ensures)
 
 -- the search closes the other needs
 pub find-placed-spec : {M : Type 1} → statement M

@@ -16,7 +16,12 @@ returns c =
 
 shared-slice-read-if4 : tie.Need-shared-slice-read-if4
 shared-slice-read-if4 c =
-    omega (arith, frame _ (c .before .before .before .before .before .before .pre .1), c .before .before .before .before .before .before .pre .0, c .before .if3 .left)
+    omega (
+      arith,
+      frame _ (c .before .before .before .before .before .before .pre .1),
+      c .before .before .before .before .before .before .pre .0,
+      c .before .if3 .left,
+    )
 
 returns-5 : tie.Need-returns-5
 returns-5 c =

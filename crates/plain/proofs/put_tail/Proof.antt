@@ -15,7 +15,11 @@ part-put-place-start c =
 
 put-place-requires : tie.Need-put-place-requires
 put-place-requires c κs =
-    let h = rw (c .before .before .enum-told .given .1) at (c .before .before .before .before .before .before .pre) in (simp (part-to-end, length-drop) (omega (arith, h .0)), omega (arith, h .1))
+    let h = rw (c .before .before .enum-told .given .1) at (c .before .before .before .before .before .before .pre) in (
+      simp
+          (part-to-end, length-drop) (omega (arith, h .0)),
+      omega (arith, h .1),
+    )
 
 sub-put-place-2 : tie.Need-sub-put-place-2
 sub-put-place-2 c =
@@ -27,7 +31,11 @@ part-put-place-start-2 c =
 
 put-place-requires-2 : tie.Need-put-place-requires-2
 put-place-requires-2 c κs =
-    let h = rw (c .before .before .enum-told2 .given .1) at (c .before .before .before .before .before .before .pre) in (simp (part-to-end, length-drop) (omega (arith, h .0)), omega (arith, h .1))
+    let h = rw (c .before .before .enum-told2 .given .1) at (c .before .before .before .before .before .before .pre) in (
+      simp
+          (part-to-end, length-drop) (omega (arith, h .0)),
+      omega (arith, h .1),
+    )
 
 sub-put-narrow : tie.Need-sub-put-narrow
 sub-put-narrow c =
@@ -39,7 +47,11 @@ part-put-narrow-start c =
 
 put-narrow-requires : tie.Need-put-narrow-requires
 put-narrow-requires c κs =
-    let h = rw (c .before .before .enum-told3 .given .1) at (c .before .before .before .before .before .before .pre) in (simp (part-to-end, length-drop) (omega (arith, h .0)), omega (arith, h .1))
+    let h = rw (c .before .before .enum-told3 .given .1) at (c .before .before .before .before .before .before .pre) in (
+      simp
+          (part-to-end, length-drop) (omega (arith, h .0)),
+      omega (arith, h .1),
+    )
 
 sub-put-wide : tie.Need-sub-put-wide
 sub-put-wide c =
@@ -51,7 +63,11 @@ part-put-wide-start c =
 
 put-wide-requires : tie.Need-put-wide-requires
 put-wide-requires c κs =
-    let h = rw (c .before .before .enum-told4 .given .1) at (c .before .before .before .before .before .before .pre) in (simp (part-to-end, length-drop) (omega (arith, h .0)), omega (arith, h .1))
+    let h = rw (c .before .before .enum-told4 .given .1) at (c .before .before .before .before .before .before .pre) in (
+      simp
+          (part-to-end, length-drop) (omega (arith, h .0)),
+      omega (arith, h .1),
+    )
 
 returns : tie.Need-returns
 returns c =

@@ -11,4 +11,5 @@ returns c = refl
 
 -- the search closes the other needs
 pub front-head-spec : {M : Type 1} → statement M
-front-head-spec = tie.close (tie.spec (λ c. search needs) (λ c. search needs) (λ c. search needs) (λ c. search needs) (λ c. search needs) (λ c. search needs) returns)
+front-head-spec =
+    tie.close (tie.spec (λ c. search needs) (λ c. search needs) (λ c. search needs) (λ c. search needs) (λ c. search needs) (λ c. search needs) returns)

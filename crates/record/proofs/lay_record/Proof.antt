@@ -12,7 +12,8 @@ use Rattle.record.proofs.lay_record.Statement.{statement}
 use Rattle.record.proofs.lay_record.Tie as tie
 
 -- the record's size, from what `record_size` says of it
-sized : (y : tie.After-record-size) → length (layout sheetVersion (recordOf (y .before .before .before .args .fields) (take (y .before .before .before .args .len) (y .before .before .before .args .bytes .now)))) ≡ y .record-size .result
+sized : (y : tie.After-record-size) → length (layout sheetVersion (recordOf (y .before .before .before .args .fields) (take
+    (y .before .before .before .args .len) (y .before .before .before .args .bytes .now)))) ≡ y .record-size .result
 sized y =
     let a = y .before .before .before in
     let t : length (take (a .args .len) (a .args .bytes .now)) ≡ a .args .len = length-take-le (a .args .len) (a .args .bytes .now) (omega (arith, a .pre)) in
@@ -29,8 +30,11 @@ returns-2 c = lay-none _ _ _ (omega (arith, sized (c .before), c .if2 .taken))
 
 returns-3 : tie.Need-returns-3
 returns-3 c =
-    lay-some _ _ _ (omega (arith, sized (c .before .before .before .before .before), c .before .before .before .before .if2 .left)) _ (c .before .before .put-record .ensures)
+    lay-some _ _ _ (omega (arith, sized (c .before .before .before .before .before), c .before .before .before .before .if2 .left)) _
+    (c .before .before .put-record .ensures)
 
 -- the search closes the other needs
 pub lay-record-spec : {M : Type 1} → statement M
-lay-record-spec = tie.close (tie.spec returns (λ c κs. search needs) (λ c. search needs) returns-2 (λ c. search needs) (λ c. search needs) (λ c. search needs) (λ c κs. search needs) (λ c. search needs) returns-3)
+lay-record-spec =
+    tie.close (tie.spec returns (λ c κs. search needs) (λ c. search needs) returns-2 (λ c. search needs) (λ c. search needs) (λ c. search needs)
+    (λ c κs. search needs) (λ c. search needs) returns-3)

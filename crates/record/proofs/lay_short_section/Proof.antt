@@ -22,7 +22,8 @@ returns-2 c =
     let L = joined (a .args .keep) (a .args .added .now) (a .args .bytes .now) in
     let w = joined-length (a .args .keep) (a .args .added .now) (a .args .bytes .now) (a .pre .1) in
     front-then _ _ L _ _ _ _ 25 (section-front (a .args .fields) _) (rw (← w) (section-parts (a .args .fields) L))
-    (omega (arith, layout-section (a .args .fields) L, w, c .before .before .before .before .before .before .before .before .if1 .left)) (c .before .before .before .before .before .before .put-section .ensures)
+    (omega (arith, layout-section (a .args .fields) L, w, c .before .before .before .before .before .before .before .before .if1 .left))
+    (c .before .before .before .before .before .before .put-section .ensures)
     (c .before .before .put-joined .ensures)
 
 -- the search closes the other needs

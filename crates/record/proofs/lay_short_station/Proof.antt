@@ -15,7 +15,13 @@ returns : tie.Need-returns
 returns c =
     let a = c .before .before .before in
     let w = joined-length (a .args .keep) (a .args .added .now) (a .args .bytes .now) (a .pre .1) in
-    lay-none _ _ _ (omega (arith, layout-station sheetVersion (a .args .fields) (joined (a .args .keep) (a .args .added .now) (a .args .bytes .now)), w, c .if1 .taken))
+    lay-none _ _ _ (omega (
+      arith,
+      layout-station sheetVersion (a .args .fields) (joined (a .args .keep) (a .args .added .now)
+          (a .args .bytes .now)),
+      w,
+      c .if1 .taken,
+    ))
 
 returns-2 : tie.Need-returns-2
 returns-2 c =
@@ -23,7 +29,8 @@ returns-2 c =
     let L = joined (a .args .keep) (a .args .added .now) (a .args .bytes .now) in
     let w = joined-length (a .args .keep) (a .args .added .now) (a .args .bytes .now) (a .pre .1) in
     front-then _ _ L _ _ _ _ 16 (station-front (a .args .fields) _) (rw (← w) (station-parts (a .args .fields) L))
-    (omega (arith, layout-station sheetVersion (a .args .fields) L, w, c .before .before .before .before .before .before .before .before .if1 .left)) (c .before .before .before .before .before .before .put-station .ensures)
+    (omega (arith, layout-station sheetVersion (a .args .fields) L, w, c .before .before .before .before .before .before .before .before .if1 .left))
+    (c .before .before .before .before .before .before .put-station .ensures)
     (c .before .before .put-joined .ensures)
 
 -- the search closes the other needs

@@ -9,7 +9,8 @@ use Rattle.record.proofs.put_error.Tie as tie
 
 returns : tie.Need-returns
 returns c =
-    c .before .before .copy .ensures ∙ ap (λ (x : List ℕ). over x (c .before .before .before .before .before .before .before .args .out .now)) (c .before .before .before .before .before .error-bytes .ensures)
+    c .before .before .copy .ensures ∙ ap (λ (x : List ℕ). over x (c .before .before .before .before .before .before .before .args .out .now))
+    (c .before .before .before .before .before .error-bytes .ensures)
 
 -- the search closes the other needs
 pub put-error-spec : {M : Type 1} → statement M

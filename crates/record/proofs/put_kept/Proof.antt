@@ -33,7 +33,8 @@ returns : tie.Need-returns
 returns c =
     let a = c .before .before .before .before .before .before .before in
     let t : length (take (a .args .len) (a .args .bytes .now)) ≡ a .args .len = length-take-le (a .args .len) (a .args .bytes .now) (omega (arith, a .pre)) in
-    rw (c .before .before .copy-words .ensures) (laid-part (a .args .out .now) (take (a .args .len) (a .args .bytes .now)) (a .args .k) (omega (arith, a .pre)) _ refl)
+    rw (c .before .before .copy-words .ensures) (laid-part (a .args .out .now) (take (a .args .len) (a .args .bytes .now)) (a .args .k) (omega
+    (arith, a .pre)) _ refl)
 
 pub put-kept-spec : {M : Type 1} → statement M
 put-kept-spec =

@@ -6,13 +6,12 @@ use Rattle.record.proofs.put_leg.Tie as tie
 
 returns : tie.Need-returns
 returns c =
-    let a = c .before .before .before .before .before .before .before .before .before .before .before .before .before .before .before .before .before .before .before .before .before .before .before in
-    leg-laid (a .args .out .now) (a .args .fields) (a .args .len) _ _ _ _ _ (a .pre .1)
-    (c .before .before .before .before .before .before .before .before .before .before .before .before .before .before .before .before .before .before .put-start .ensures)
-    (c .before .before .before .before .before .before .before .before .before .before .before .before .before .before .put-byte .ensures)
-    (c .before .before .before .before .before .before .before .before .before .before .put-date .ensures)
-    (c .before .before .before .before .before .before .put-point .ensures)
-    (c .before .before .put-point2 .ensures)
+    let d = c .before .before .before .before .before .before .before .before .before .before in
+    let b = d .before .before .before .before .before .before .before .before in
+    let a = b .before .before .before .before .before in
+    leg-laid (a .args .out .now) (a .args .fields) (a .args .len) _ _ _ _ _ (a .pre .1) (b .put-start .ensures)
+    (d .before .before .before .before .put-byte .ensures)
+    (d .put-date .ensures) (c .before .before .before .before .before .before .put-point .ensures) (c .before .before .put-point2 .ensures)
 
 -- the search closes the other needs
 pub put-leg-spec : {M : Type 1} → statement M

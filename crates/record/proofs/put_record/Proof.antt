@@ -61,7 +61,8 @@ returns c =
     let v = c .before .before .before .before .before .before .before .before .before .fields .given .0 in
     let r : 34 + a .args .len ≤ length (a .args .out .now) = rw e at (a .pre .1) in
     let g : Leg = record { flags = v .0; style = v .1 .0; date = v .1 .1 .0; from = v .1 .1 .1 .0; to = v .1 .1 .1 .1 .0 } in
-    then _ _ _ _ _ 34 (c .before .before .before .before .before .before .put-leg .ensures) (c .before .before .put-label .ensures) (leg-front g _) (omega (arith, long a))
+    then _ _ _ _ _ 34 (c .before .before .before .before .before .before .put-leg .ensures) (c .before .before .put-label .ensures) (leg-front g _)
+    (omega (arith, long a))
     ∙ rw (e, ← leg-parts g (take (a .args .len) (a .args .bytes .now)), long a)
 
 returns-2 : tie.Need-returns-2
@@ -69,8 +70,14 @@ returns-2 c =
     let a = c .before .before .before .before .before .before .before .before .before .before .before .before in
     let e = c .before .before .before .before .before .before .before .before .before .fields2 .given .1 in
     let r : 16 + a .args .len ≤ length (a .args .out .now) = rw e at (a .pre .1) in
-    then _ _ _ _ _ 16 (c .before .before .before .before .before .before .put-station .ensures) (c .before .before .put-label2 .ensures) (station-front _ _) (omega (arith, long a))
-    ∙ rw (e, ← station-parts (c .before .before .before .before .before .before .before .before .before .fields2 .given .0 .0) (take (a .args .len) (a .args .bytes .now)), long a)
+    then _ _ _ _ _ 16 (c .before .before .before .before .before .before .put-station .ensures) (c .before .before .put-label2 .ensures)
+    (station-front _ _) (omega (arith, long a))
+    ∙ rw (
+      e,
+      ← station-parts (c .before .before .before .before .before .before .before .before .before .fields2 .given .0 .0) (take (a .args .len)
+          (a .args .bytes .now)),
+      long a,
+    )
 
 returns-3 : tie.Need-returns-3
 returns-3 c =
@@ -79,7 +86,8 @@ returns-3 c =
     let v = c .before .before .before .before .before .before .before .before .before .fields3 .given .0 in
     let r : 25 + a .args .len ≤ length (a .args .out .now) = rw e at (a .pre .1) in
     let g : Section = record { last = v .0; date = v .1 .1 .0; size = v .1 .1 .1 .0 } in
-    then _ _ _ _ _ 25 (c .before .before .before .before .before .before .put-section .ensures) (c .before .before .put-label3 .ensures) (section-front g _) (omega (arith, long a))
+    then _ _ _ _ _ 25 (c .before .before .before .before .before .before .put-section .ensures) (c .before .before .put-label3 .ensures)
+    (section-front g _) (omega (arith, long a))
     ∙ rw (e, ← section-parts g (take (a .args .len) (a .args .bytes .now)), long a)
 
 returns-4 : tie.Need-returns-4

@@ -16,4 +16,6 @@ returns-3 c = rw (c .enum-told3 .given .1) (refl, omega arith)
 
 -- the search closes the other needs
 pub record-size-spec : {M : Type 1} → statement M
-record-size-spec = tie.close (tie.spec (λ c. search needs) (λ c. search needs) (λ c. search needs) (λ c. search needs) (λ c. search needs) (λ c. search needs) (λ c. search needs) returns returns-2 returns-3 (λ c. search needs))
+record-size-spec =
+    tie.close (tie.spec (λ c. search needs) (λ c. search needs) (λ c. search needs) (λ c. search needs) (λ c. search needs) (λ c. search needs)
+    (λ c. search needs) returns returns-2 returns-3 (λ c. search needs))

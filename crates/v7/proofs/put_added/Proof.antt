@@ -10,12 +10,15 @@ use Rattle.v7.proofs.put_added.Tie as tie
 
 put-requires : tie.Need-put-requires
 put-requires c κs =
-    (omega (arith, c .before .before .before .before .put-length .ensures .most, c .before .before .before .before .before .before .before .before .pre), simp (part-to-end, length-drop) (omega (arith, c .before .before .before .before .before .before .before .before .pre)))
+    let c8 = c .before .before .before .before .before .before .before .before in
+    (omega (arith, c .before .before .before .before .put-length .ensures .most, c8 .pre), simp (part-to-end, length-drop) (omega (arith, c8 .pre)))
 
 returns : tie.Need-returns
 unfolding addedCodes
 returns c =
-    lays-within (lays-then (c .before .before .before .before .before .before .before .put-length .ensures) (simp part-to-end at (c .before .before .put .ensures))) 4099 (simp length-drop (omega (arith, c .before .before .before .before .before .before .before .before .before .before .before .pre)))
+    let c8 = c .before .before .before .before .before .before .before .before in
+    lays-within (lays-then (c .before .before .before .before .before .before .before .put-length .ensures) (simp part-to-end at
+    (c .before .before .put .ensures))) 4099 (simp length-drop (omega (arith, c8 .before .before .before .pre)))
 
 -- the search closes the other needs
 pub put-added-spec : {M : Type 1} → statement M

@@ -12,7 +12,8 @@ use Rattle.v7.proofs.put_closing.Tie as tie
 returns : tie.Need-returns
 unfolding v7Closing
 returns c =
-    puts-front (lays-within (lays-as (c .before .before .put .ensures) (sym (pick-true _ _ (eq-eqb _ _ (c .before .before .before .before .before .if1 .taken))))) 2 (omega arith))
+    puts-front (lays-within (lays-as (c .before .before .put .ensures) (sym (pick-true _ _ (eq-eqb _ _
+    (c .before .before .before .before .before .if1 .taken))))) 2 (omega arith))
 
 returns-2 : tie.Need-returns-2
 unfolding v7Closing

@@ -10,7 +10,9 @@ use Rattle.v7.proofs.put_error.Tie as tie
 returns : tie.Need-returns
 unfolding toLe32
 returns c =
-    lays-within (lays-then (c .before .before .before .before .before .before .before .before .put .ensures) (rw (c .before .before .before .before .before .traverse-bytes .ensures) at (c .before .before .put2 .ensures))) v7CodesLimit (omega arith)
+    let c8 = c .before .before .before .before .before .before .before .before in
+    lays-within (lays-then (c8 .put .ensures) (rw (c .before .before .before .before .before .traverse-bytes .ensures) at
+    (c .before .before .put2 .ensures))) v7CodesLimit (omega arith)
 
 -- the search closes the other needs
 pub put-error-spec : {M : Type 1} → statement M

@@ -9,9 +9,12 @@ use Rattle.v7.proofs.put_leg.Tie as tie
 returns : tie.Need-returns
 unfolding toLe32
 returns c =
-    let e = c .before .before .before .before .before .before .before .before .before .before .before .before .before .before .before .before .before .v7-dates .ensures in
-    let p = c .before .before .before .before .before .before .before .before .before .before .before .before .before .before .point-bytes .ensures in
-    lays-then (rw e at (c .before .before .before .before .before .before .before .before .before .before .before .before .put-date-if .ensures)) (lays-then (c .before .before .before .before .before .before .before .before .put-move-if .ensures) (rw p at (c .before .before .put-labelled .ensures)))
+    let c8 = c .before .before .before .before .before .before .before .before in
+    let c16 = c8 .before .before .before .before .before .before .before .before in
+    let e = c16 .before .v7-dates .ensures in
+    let p = c8 .before .before .before .before .before .before .point-bytes .ensures in
+    lays-then (rw e at (c8 .before .before .before .before .put-date-if .ensures)) (lays-then (c8 .put-move-if .ensures) (rw p at
+    (c .before .before .put-labelled .ensures)))
 
 -- the search closes the other needs
 pub put-leg-spec : {M : Type 1} → statement M

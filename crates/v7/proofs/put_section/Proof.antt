@@ -8,8 +8,10 @@ use Rattle.v7.proofs.put_section.Tie as tie
 
 returns : tie.Need-returns
 returns c =
-    let e = c .before .before .before .before .before .before .before .before .v7-dates .ensures in
-    lays-within (lays-then (rw e at (c .before .before .before .before .before .before .put-date-if .ensures)) (c .before .before .put-xsect .ensures)) v7CodesLimit (omega arith)
+    let c8 = c .before .before .before .before .before .before .before .before in
+    let e = c8 .v7-dates .ensures in
+    lays-within (lays-then (rw e at (c .before .before .before .before .before .before .put-date-if .ensures))
+    (c .before .before .put-xsect .ensures)) v7CodesLimit (omega arith)
 
 -- the search closes the other needs
 pub put-section-spec : {M : Type 1} → statement M

@@ -8,7 +8,8 @@ use Rattle.v7.proofs.put_shorten.Tie as tie
 
 returns : tie.Need-returns
 returns c =
-    lays-as (c .before .before .put-trims .ensures) (shorten-some (c .before .before .before .before .before .before .args .n) (c .before .before .before .before .before .before .args .k) (c .before .before .before .before .if1 .taken))
+    lays-as (c .before .before .put-trims .ensures) (shorten-some (c .before .before .before .before .before .before .args .n)
+    (c .before .before .before .before .before .before .args .k) (c .before .before .before .before .if1 .taken))
 
 returns-2 : tie.Need-returns-2
 returns-2 c =
@@ -16,7 +17,9 @@ returns-2 c =
 
 returns-3 : tie.Need-returns-3
 returns-3 c =
-    lays-within (lays-as (c .before .before .put .ensures) (shorten-all (c .before .before .before .before .before .before .before .before .args .n) (c .before .before .before .before .before .before .before .before .args .k) (c .before .before .before .before .before .before .if1 .left) (c .before .before .before .before .before .if2 .left))) 257 (omega arith)
+    let c8 = c .before .before .before .before .before .before .before .before in
+    lays-within (lays-as (c .before .before .put .ensures) (shorten-all (c8 .args .n) (c8 .args .k)
+    (c .before .before .before .before .before .before .if1 .left) (c .before .before .before .before .before .if2 .left))) 257 (omega arith)
 
 -- the search closes the other needs
 pub put-shorten-spec : {M : Type 1} → statement M

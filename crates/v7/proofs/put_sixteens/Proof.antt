@@ -16,12 +16,20 @@ loop-holds : tie.Need-loop-holds Inv-loop μ-loop
 loop-holds c = going-first
 
 put-requires : tie.Need-put-requires Inv-loop μ-loop
-put-requires c κs =
-    (omega (arith, c .before .before .before .loop .inv .few, c .before .before .before .loop .inv .laid .most, c .before .before .before .before .before .pre), omega arith)
+put-requires c κs = (
+  omega (
+    arith,
+    c .before .before .before .loop .inv .few,
+    c .before .before .before .loop .inv .laid .most,
+    c .before .before .before .before .before .pre,
+  ),
+  omega arith,
+)
 
 loop-again : tie.Need-loop-again Inv-loop μ-loop
 loop-again c =
-    going-next (c .before .before .before .before .before .before .loop .inv) (c .before .before .before .before .before .loop-test .taken) (c .before .before .put .ensures)
+    going-next (c .before .before .before .before .before .before .loop .inv) (c .before .before .before .before .before .loop-test .taken)
+    (c .before .before .put .ensures)
 
 returns : tie.Need-returns Inv-loop μ-loop
 returns c =

@@ -10,7 +10,8 @@ use Rattle.v7.proofs.put_station.Tie as tie
 returns : tie.Need-returns
 unfolding toLe32
 returns c =
-    lays-within (rw (c .before .before .before .before .before .before .point-bytes .ensures) at (c .before .before .put-labelled .ensures)) v7CodesLimit (omega arith)
+    lays-within (rw (c .before .before .before .before .before .before .point-bytes .ensures) at
+    (c .before .before .put-labelled .ensures)) v7CodesLimit (omega arith)
 
 -- the search closes the other needs
 pub put-station-spec : {M : Type 1} → statement M

@@ -12,12 +12,16 @@ use Rattle.v7.proofs.put_xsect.Tie as tie
 returns : tie.Need-returns
 unfolding v7SectionCodes toLe16
 returns c =
-    lays-within (lays-as (rw (c .before .before .before .before .before .short-bytes .ensures) at (c .before .before .put-labelled .ensures)) (sym (pick-true _ _ (sym (c .before .before .before .before .before .before .before .all-short .ensures) ∙ c .before .before .before .before .before .before .if1 .taken)))) 4373 (omega arith)
+    lays-within (lays-as (rw (c .before .before .before .before .before .short-bytes .ensures) at (c .before .before .put-labelled .ensures)) (sym
+    (pick-true _ _ (sym (c .before .before .before .before .before .before .before .all-short .ensures)
+    ∙ c .before .before .before .before .before .before .if1 .taken)))) 4373 (omega arith)
 
 returns-2 : tie.Need-returns-2
 unfolding v7SectionCodes toLe32
 returns-2 c =
-    lays-within (lays-as (rw (c .before .before .before .before .before .long-bytes .ensures) at (c .before .before .put-labelled2 .ensures)) (sym (pick-false _ _ (sym (c .before .before .before .before .before .before .before .all-short .ensures) ∙ c .before .before .before .before .before .before .if1 .left)))) 4373 (omega arith)
+    lays-within (lays-as (rw (c .before .before .before .before .before .long-bytes .ensures) at (c .before .before .put-labelled2 .ensures)) (sym
+    (pick-false _ _ (sym (c .before .before .before .before .before .before .before .all-short .ensures)
+    ∙ c .before .before .before .before .before .before .if1 .left)))) 4373 (omega arith)
 
 -- the search closes the other needs
 pub put-xsect-spec : {M : Type 1} → statement M

@@ -1,4 +1,6 @@
 -- `v7::unable` meets its contract. Assumes nothing.
+use Prim.Native.Nat.{_≤_, _<_}
+use native.Mathlib.Omega.{arith}
 use borrow.Author.Tests.{lt-ltb, le-ltb}
 use borrow.Author.Needs.{needs}
 use Rattle.v7.proofs.unable.Statement.{statement}
@@ -6,11 +8,13 @@ use Rattle.v7.proofs.unable.Tie as tie
 
 returns : tie.Need-returns
 returns c =
-    rw (c .before .before .fields .given .1, lt-ltb _ _ (c .if1 .taken))
+    let h : 0 < c .before .before .fields .given .0 .1 .0 = omega (arith, c .if1 .taken) in
+    rw (c .before .before .fields .given .1, lt-ltb 0 _ h)
 
 returns-2 : tie.Need-returns-2
 returns-2 c =
-    rw (c .before .before .fields .given .1, le-ltb _ _ (c .if1 .left))
+    let h : c .before .before .fields .given .0 .1 .0 ≤ 0 = omega (arith, c .if1 .left) in
+    rw (c .before .before .fields .given .1, le-ltb 0 _ h)
 
 returns-3 : tie.Need-returns-3
 returns-3 c = rw (c .before .before .fields2 .given .1)

@@ -7,9 +7,11 @@ use Rattle.write_v7.proofs.finish.Tie as tie
 
 returns : tie.Need-returns
 returns c =
-    let a = c .before .before .before .before .before .before .before .before .before .args in
+    let c8 = c .before .before .before .before .before .before .before .before in
+    let a = c8 .before .args in
     let W = c .before .before .before .before .before .before .within .ensures in
-    finish-closed v7 _ _ (record { bytes = a .total; records = a .number; fault = a .fault }) _ _ _ _ (W .0) (W .1) (c .before .before .before .put-closing .ensures) _ (c .settle .ensures)
+    finish-closed v7 _ _ (record { bytes = a .total; records = a .number; fault = a .fault }) _ _ _ _ (W .0) (W .1)
+    (c .before .before .before .put-closing .ensures) _ (c .settle .ensures)
 
 -- the search closes the other needs
 pub finish-spec : {M : Type 1} → statement M

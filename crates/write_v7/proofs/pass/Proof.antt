@@ -26,12 +26,15 @@ put-records-requires c κs =
 returns : tie.Need-returns
 returns c =
     rw (c .refused .ensures)
-    (pass-flawed v7 _ _ _ (c .before .before .before .before .version-of .ensures) (rw (c .before .enum-told .given .1) at (c .before .before .before .read-front .ensures)))
+    (pass-flawed v7 _ _ _ (c .before .before .before .before .version-of .ensures) (rw (c .before .enum-told .given .1) at
+    (c .before .before .before .read-front .ensures)))
 
 returns-2 : tie.Need-returns-2
 returns-2 c =
-    let F = front-at (c .before .before .before .before .before .before .before .before .before .before .before) in
-    pass-v7 _ _ _ _ _ _ _ _ _ _ _ (c .before .before .before .before .before .before .before .before .before .before .before .before .before .before .version-of .ensures) F (c .before .before .before .before .before .before .put-header .ensures) (c .before .before .put-records .ensures)
+    let c8 = c .before .before .before .before .before .before .before .before in
+    let F = front-at (c8 .before .before .before) in
+    pass-v7 _ _ _ _ _ _ _ _ _ _ _ (c8 .before .before .before .before .before .before .version-of .ensures) F
+    (c .before .before .before .before .before .before .put-header .ensures) (c .before .before .put-records .ensures)
 
 -- the front is in the sheet; the search closes the other needs
 pub pass-spec : {M : Type 1} → statement M

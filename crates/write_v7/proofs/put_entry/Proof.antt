@@ -10,10 +10,13 @@ use Rattle.write_v7.proofs.put_entry.Statement.{statement}
 use Rattle.write_v7.proofs.put_entry.Tie as tie
 
 -- the record that was found ends in the sheet, and its label starts in it
-sizes : (y : tie.After-entry) → (3 ≤ y .entry .given .0 .0) × (y .before .before .before .before .before .before .args .at + y .entry .given .0 .0 ≤ length (y .before .before .before .before .before .before .args .sheet .now)) × (y .entry .given .0 .1 .1 .0 ≤ y .entry .given .0 .0)
+sizes : (y : tie.After-entry) → (3 ≤ y .entry .given .0 .0) ×
+    (y .before .before .before .before .before .before .args .at + y .entry .given .0 .0 ≤ length
+    (y .before .before .before .before .before .before .args .sheet .now)) × (y .entry .given .0 .1 .1 .0 ≤ y .entry .given .0 .0)
 sizes y =
     let T = rw (y .entry .given .1) at (y .before .before .read-entry .ensures) in
-    let w = found-size _ (y .before .before .before .before .before .before .args .sheet .now) (y .before .before .before .before .before .before .args .at) (y .before .before .before .before .before .before .pre .0) _ _ _ T in
+    let w = found-size _ (y .before .before .before .before .before .before .args .sheet .now)
+    (y .before .before .before .before .before .before .args .at) (y .before .before .before .before .before .before .pre .0) _ _ _ T in
     (w .0, w .1, T .inside .from-within)
 
 returns : tie.Need-returns
@@ -37,13 +40,18 @@ part-put-record-end-2 c = omega (arith, sizes (c .before .before .before .before
 
 put-record-requires : tie.Need-put-record-requires
 put-record-requires c κs =
-    let T = rw (c .before .before .before .before .before .entry .given .1) at (c .before .before .before .before .before .before .before .read-entry .ensures) in
-    (named-short _ _ (c .before .before .before .before .before .before .before .before .before .before .before .pre .1), found-formed _ _ _ (c .before .before .before .before .before .before .before .before .before .before .before .pre .0) _ _ _ T)
+    let c8 = c .before .before .before .before .before .before .before .before in
+    let T = rw (c .before .before .before .before .before .entry .given .1) at
+    (c .before .before .before .before .before .before .before .read-entry .ensures) in
+    (named-short _ _ (c8 .before .before .before .pre .1), found-formed _ _ _ (c8 .before .before .before .pre .0) _ _ _ T)
 
 returns-2 : tie.Need-returns-2
 returns-2 c =
-    let T = rw (c .before .before .before .before .before .before .before .before .before .before .entry .given .1) at (c .before .before .before .before .before .before .before .before .before .before .before .before .read-entry .ensures) in
-    entry-turns _ _ _ _ (c .before .before .before .before .before .before .before .before .before .before .before .before .before .before .before .before .pre .0) (c .before .before .before .before .before .before .before .before .before .before .before .before .before .before .before .before .pre .1) _ _ _ T _ _ _ (c .before .before .before .before .put-record .ensures) _ (c .before .unable .ensures) _ (c .hand-after .ensures)
+    let c8 = c .before .before .before .before .before .before .before .before in
+    let c16 = c8 .before .before .before .before .before .before .before .before in
+    let T = rw (c8 .before .before .entry .given .1) at (c8 .before .before .before .before .read-entry .ensures) in
+    entry-turns _ _ _ _ (c16 .pre .0) (c16 .pre .1) _ _ _ T _ _ _ (c .before .before .before .before .put-record .ensures) _
+    (c .before .unable .ensures) _ (c .hand-after .ensures)
 
 -- the search closes the other needs
 pub put-entry-spec : {M : Type 1} → statement M

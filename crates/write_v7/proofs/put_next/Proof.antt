@@ -13,15 +13,19 @@ use Rattle.write_v7.proofs.put_next.Tie as tie
 
 -- the leg or station that was found goes on
 found-at : (y : tie.After-found) → let a = y .before .before .before .before .before .before .before .before .args in
-    FoundPlaced (Item (y .found .given .0 .0) (y .found .given .0 .1 .0) (y .found .given .0 .1 .1 .0) (y .found .given .0 .1 .1 .1 .0)) (take (length (a .sheet .now) - a .at) (drop (a .at) (a .sheet .now))) (a .hand .mark) (a .hand .setting .position) (part (a .sheet .now) (a .hand .from) (a .hand .to))
+    FoundPlaced (Item (y .found .given .0 .0) (y .found .given .0 .1 .0) (y .found .given .0 .1 .1 .0) (y .found .given .0 .1 .1 .1 .0)) (take (length
+    (a .sheet .now) - a .at) (drop (a .at) (a .sheet .now))) (a .hand .mark) (a .hand .setting .position) (part (a .sheet .now) (a .hand .from) (a .hand .to))
 found-at y = rw (y .found .given .1) at (y .before .before .find-placed .ensures)
 
-sizes-at : (y : tie.After-label-at) → let a = y .before .before .before .before .before .before .before .before .before .before .args in let f = y .before .before .found .given .0 in
+sizes-at : (y : tie.After-label-at) → let a = y .before .before .before .before .before .before .before .before .before .before .args in let f =
+    y .before .before .found .given .0 in
     Sizes (a .sheet .now) (a .at) (a .hand .from) (a .hand .to) (f .0) (f .1 .0) (y .label-at .result)
 sizes-at y =
-    let a = y .before .before .before .before .before .before .before .before .before .before .args in
-    let p = y .before .before .before .before .before .before .before .before .before .before .pre in
-    rw (y .label-at .ensures) (plain-sizes 0 (a .sheet .now) (a .at) (a .hand .mark) (a .hand .setting .position) _ _ _ _ _ _ (p .0) (p .1 .inside) (found-at (y .before .before) .3 0))
+    let y8 = y .before .before .before .before .before .before .before .before in
+    let a = y8 .before .before .args in
+    let p = y8 .before .before .pre in
+    rw (y .label-at .ensures) (plain-sizes 0 (a .sheet .now) (a .at) (a .hand .mark) (a .hand .setting .position) _ _ _ _ _ _ (p .0) (p .1 .inside)
+    (found-at (y .before .before) .3 0))
 
 add-name : tie.Need-add-name
 add-name c =
@@ -49,7 +53,8 @@ part-added-end c =
 
 sub-put-shorten : tie.Need-sub-put-shorten
 sub-put-shorten c =
-    omega (arith, sizes-at (c .before .before), c .before .before .before .before .before .before .before .before .before .before .before .before .pre .1 .ordered)
+    let c8 = c .before .before .before .before .before .before .before .before in
+    omega (arith, sizes-at (c .before .before), c8 .before .before .before .before .pre .1 .ordered)
 
 put-shorten-requires : tie.Need-put-shorten-requires
 put-shorten-requires c κs =
@@ -64,10 +69,16 @@ old-code-requires c κs =
 
 put-item-requires : tie.Need-put-item-requires
 put-item-requires c κs =
-    let F = found-at (c .before .before .before .before .before .before .before .before .before) in
+    let c8 = c .before .before .before .before .before .before .before .before in
+    let F = found-at (c8 .before) in
     let P = F .3 0 in
-    let S = sizes-at (c .before .before .before .before .before .before .before) in
-    (omega (arith, c .before .before .before .before .put-shorten .ensures .most), F .0, simp (length-take, length-drop) (omega (arith, S .few-added, S .ends, S .starts)), omega (arith, P .headed .inside, P .within))
+    let S = sizes-at (c .before .before .before .before .before .before .before) in (
+      omega (arith, c .before .before .before .before .put-shorten .ensures .most),
+      F .0,
+      simp (length-take, length-drop) (omega
+          (arith, S .few-added, S .ends, S .starts)),
+      omega (arith, P .headed .inside, P .within),
+    )
 
 hand-found-requires : tie.Need-hand-found-requires
 hand-found-requires c κs =
@@ -76,12 +87,15 @@ hand-found-requires c κs =
 
 returns-2 : tie.Need-returns-2
 returns-2 c =
-    let a = c .before .before .before .before .before .before .before .before .before .before .before .before .before .before .before .before .before .before .before .before .before .args in
-    let p = c .before .before .before .before .before .before .before .before .before .before .before .before .before .before .before .before .before .before .before .before .before .pre in
-    let F = found-at (c .before .before .before .before .before .before .before .before .before .before .before .before .before) in
-    let e = c .before .before .before .before .before .before .before .before .before .before .before .label-at .ensures in
+    let c8 = c .before .before .before .before .before .before .before .before in
+    let c16 = c8 .before .before .before .before .before .before .before .before in
+    let a = c16 .before .before .before .before .before .args in
+    let p = c16 .before .before .before .before .before .pre in
+    let F = found-at (c8 .before .before .before .before .before) in
+    let e = c8 .before .before .before .label-at .ensures in
     rw (c .hand-found .ensures, e)
-    (found-turns (a .version) (a .sheet .now) (a .at) (a .hand) (p .0) (p .1) _ _ _ _ (F .3 (a .version)) (F .2) _ _ _ _ _ (c .before .before .before .before .before .before .before .before .put-shorten .ensures) (rw (e, c .before .before .before .before .old-code .ensures) at (c .before .before .before .put-item .ensures)))
+    (found-turns (a .version) (a .sheet .now) (a .at) (a .hand) (p .0) (p .1) _ _ _ _ (F .3 (a .version)) (F .2) _ _ _ _ _ (c8 .put-shorten .ensures)
+    (rw (e, c .before .before .before .before .old-code .ensures) at (c .before .before .before .put-item .ensures)))
 
 -- the search closes the other needs
 pub put-next-spec : {M : Type 1} → statement M

@@ -1,7 +1,7 @@
--- `capi::tell_next` meets its contract. Assumes nothing.
+-- `told::tell_next` meets its contract. Assumes nothing.
 use borrow.Author.Needs.{needs}
-use Rattle.capi.proofs.tell_next.Statement.{statement}
-use Rattle.capi.proofs.tell_next.Tie as tie
+use Rattle.told.proofs.tell_next.Statement.{statement}
+use Rattle.told.proofs.tell_next.Tie as tie
 
 returns : tie.Need-returns
 returns c = rw (c .before .next .given .1)

@@ -1,7 +1,7 @@
--- `capi::refused` meets its contract. Assumes nothing.
+-- `told::refused` meets its contract. Assumes nothing.
 use borrow.Author.Needs.{needs}
-use Rattle.capi.proofs.refused.Statement.{statement}
-use Rattle.capi.proofs.refused.Tie as tie
+use Rattle.told.proofs.refused.Statement.{statement}
+use Rattle.told.proofs.refused.Tie as tie
 
 returns : tie.Need-returns
 returns c = rw (c .long .ensures)

@@ -2,7 +2,7 @@
 use lib.IntN.{ℤ}
 use Rattle.format.specs.Viewer.{ViewOutcome, viewed, unviewed}
 use Rattle.format.specs.declared.Origin.{Origin}
-use Rattle.capi.specs.declared.ViewNumbers.{ViewNumbers}
+use Rattle.told.specs.declared.ViewNumbers.{ViewNumbers}
 
 -- "an origin that the caller gives as three i32"
 abbrev pub originOf : ℤ → ℤ → ℤ → Origin

@@ -1,7 +1,7 @@
--- `capi::tell_summed` meets its contract. Assumes nothing.
+-- `told::tell_summed` meets its contract. Assumes nothing.
 use borrow.Author.Needs.{needs}
-use Rattle.capi.proofs.tell_summed.Statement.{statement}
-use Rattle.capi.proofs.tell_summed.Tie as tie
+use Rattle.told.proofs.tell_summed.Statement.{statement}
+use Rattle.told.proofs.tell_summed.Tie as tie
 
 returns : tie.Need-returns
 returns c = rw (c .before .s .given .1)

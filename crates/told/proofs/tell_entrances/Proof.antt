@@ -1,7 +1,7 @@
--- `capi::tell_entrances` meets its contract. Assumes nothing.
+-- `told::tell_entrances` meets its contract. Assumes nothing.
 use borrow.Author.Needs.{needs}
-use Rattle.capi.proofs.tell_entrances.Statement.{statement}
-use Rattle.capi.proofs.tell_entrances.Tie as tie
+use Rattle.told.proofs.tell_entrances.Statement.{statement}
+use Rattle.told.proofs.tell_entrances.Tie as tie
 
 returns : tie.Need-returns
 returns c = rw (c .before .before .e .given .1) (c .tell-next .ensures)

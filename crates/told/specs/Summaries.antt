@@ -1,8 +1,8 @@
 -- The summary of a sheet's entrances, in the numbers of the interface for C. Assumes nothing.
 use Rattle.format.specs.Summary.{SummaryOutcome, takes, untaken, EntrancesOutcome, holds, unheld}
 use Rattle.format.specs.declared.NextEntrance.the-variants.{At, Nowhere}
-use Rattle.capi.specs.declared.SummaryNumbers.{SummaryNumbers}
-use Rattle.capi.specs.declared.EntranceNumbers.{EntranceNumbers}
+use Rattle.told.specs.declared.SummaryNumbers.{SummaryNumbers}
+use Rattle.told.specs.declared.EntranceNumbers.{EntranceNumbers}
 
 -- number 0 is success, with the words that the summary takes; any other is the refusal's number, with its place
 abbrev pub summaryNumbers : SummaryOutcome → SummaryNumbers

@@ -1,7 +1,7 @@
--- `capi::tell_later` meets its contract, answer by answer. Assumes nothing.
+-- `told::tell_later` meets its contract, answer by answer. Assumes nothing.
 use borrow.Author.Needs.{needs}
-use Rattle.capi.proofs.tell_later.Statement.{statement}
-use Rattle.capi.proofs.tell_later.Tie as tie
+use Rattle.told.proofs.tell_later.Statement.{statement}
+use Rattle.told.proofs.tell_later.Tie as tie
 
 pub tell-later-spec : {M : Type 1} → statement M
 tell-later-spec =

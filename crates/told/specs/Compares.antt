@@ -1,7 +1,7 @@
 -- Comparisons in the numbers of the interface for C. Assumes nothing.
 use Rattle.format.specs.Times.{Comparison, first, second, equal, firstRefused, secondRefused}
 use Rattle.format.specs.declared.Handed.{Handed}
-use Rattle.capi.specs.declared.Compared.{Compared}
+use Rattle.told.specs.declared.Compared.{Compared}
 
 -- 1, 2 or 0: the first file is later, the second, neither, with the later line's place and length; 3 is a refusal, with the file that it names
 abbrev pub comparedOf : Comparison → Handed → Compared

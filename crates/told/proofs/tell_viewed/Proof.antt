@@ -1,7 +1,7 @@
--- `capi::tell_viewed` meets its contract. Assumes nothing.
+-- `told::tell_viewed` meets its contract. Assumes nothing.
 use borrow.Author.Needs.{needs}
-use Rattle.capi.proofs.tell_viewed.Statement.{statement}
-use Rattle.capi.proofs.tell_viewed.Tie as tie
+use Rattle.told.proofs.tell_viewed.Statement.{statement}
+use Rattle.told.proofs.tell_viewed.Tie as tie
 
 returns : tie.Need-returns
 returns c = rw (c .before .r .given .1)
