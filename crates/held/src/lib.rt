@@ -9,7 +9,9 @@ use laying::Quick;
 use step::Phase;
 use step::Stand;
 ghost use mathlib.Core.Path.{_≡_};
-ghost use Prim.Native.Nat.{_%_, _<_};
+ghost use Prim.Native.Nat.{_+_, _%_, _≤_, _<_};
+ghost use Rattle.format.specs.Label.{labelLimit};
+ghost use Rattle.held.specs.declared.Brief.the-variants.{Record as RecordBrief};
 ghost use Rattle.format.specs.declared.Position.the-variants.{Stands};
 ghost use Rattle.held.specs.Numbers.{phaseOf, dateOf, positionOf, heldOf, standsAt};
 ghost use Rattle.held.specs.Shortly.{Briefly};
@@ -267,9 +269,9 @@ fn moved_on(
     ]
 }
 
-// The same with the position that they have.
-fn passed_on(s: &[u64; STAND_NUMBERS], place: usize, len: usize) -> [u64; STAND_NUMBERS]
-    ensures { λ r. ⌜ heldOf r ≡ standsAt (heldOf (now (s .entry))) place len (heldOf (now (s .entry)) .setting .position) ⌝ }
+// Another place and label length, with the position that the numbers have.
+fn pass_on(s: &mut [u64; STAND_NUMBERS], place: usize, len: usize)
+    ensures { λ _. ⌜ heldOf (now (s .exit)) ≡ standsAt (heldOf (now (s .entry))) place len (heldOf (now (s .entry)) .setting .position) ⌝ }
 {
     let position = PlaceNumbers {
         kind: s[10],
@@ -277,15 +279,17 @@ fn passed_on(s: &[u64; STAND_NUMBERS], place: usize, len: usize) -> [u64; STAND_
         y: s[12],
         z: s[13],
     };
-    moved_on(s, place, len, position)
+    let after = moved_on(s, place, len, position);
+    *s = after;
 }
 
-// The same with the position where a leg leads.
-fn led_on(s: &[u64; STAND_NUMBERS], place: usize, len: usize, to: Point) -> [u64; STAND_NUMBERS]
-    ensures { λ r. ⌜ heldOf r ≡ standsAt (heldOf (now (s .entry))) place len (Stands to) ⌝ }
+// The same with the position where a leg or a MOVE leads.
+fn lead_on(s: &mut [u64; STAND_NUMBERS], place: usize, len: usize, to: Point)
+    ensures { λ _. ⌜ heldOf (now (s .exit)) ≡ standsAt (heldOf (now (s .entry))) place len (Stands to) ⌝ }
 {
     let position = place_numbers(Position::Stands { point: to });
-    moved_on(s, place, len, position)
+    let after = moved_on(s, place, len, position);
+    *s = after;
 }
 
 // What a step came to: a record; none; or it was not taken.
@@ -293,6 +297,15 @@ pub enum Brief {
     Other,
     Nothing,
     Record { bytes: usize, kept: usize },
+}
+
+// The record of a leg whose label has len bytes.
+fn leg_record(len: usize, kept: usize) -> Brief
+    requires { ⌜ len ≤ labelLimit ⌝ }
+    ensures { λ r. ⌜ r ≡ RecordBrief (34 + len) kept ⌝ }
+{
+    let bytes = 34 + len;
+    Brief::Record { bytes, kept }
 }
 
 // One step from the stand that the numbers say, where the item is one of the commonest and
@@ -315,10 +328,8 @@ pub fn short_step(
             to,
             kept,
         } => {
-            let after = led_on(s, stand.place + size, len, to);
-            *s = after;
-            let n = 34 + len;
-            Brief::Record { bytes: n, kept }
+            lead_on(s, stand.place + size, len, to);
+            leg_record(len, kept)
         }
         Quick::Made {
             size,
@@ -326,13 +337,15 @@ pub fn short_step(
             bytes: n,
             kept,
         } => {
-            let after = passed_on(s, stand.place + size, len);
-            *s = after;
+            pass_on(s, stand.place + size, len);
             Brief::Record { bytes: n, kept }
         }
         Quick::Trim { len } => {
-            let after = passed_on(s, stand.place + 1, len);
-            *s = after;
+            pass_on(s, stand.place + 1, len);
+            Brief::Nothing
+        }
+        Quick::Move { len, to } => {
+            lead_on(s, stand.place + 13, len, to);
             Brief::Nothing
         }
     }

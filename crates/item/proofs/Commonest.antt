@@ -17,10 +17,10 @@ use Rattle.format.specs.declared.Position.the-variants.{Stands}
 use Rattle.format.specs.declared.Setting.{Setting}
 use Rattle.wire.specs.Laid.{laid}
 use Rattle.wire.proofs.Laws.{length-laid}
-use Rattle.short.specs.Brief.{Brief, Trimmed, makeLine, makeStation, makeSection, legAt, stationAt, sectionAt, placeAt, nameAt}
-use Rattle.short.proofs.Laws.{name-length, brief-leg, brief-station, brief-section, brief-trim}
+use Rattle.short.specs.Brief.{Brief, Moves, Trimmed, makeLine, makeStation, makeSection, legAt, stationAt, sectionAt, placeAt, nameAt}
+use Rattle.short.proofs.Laws.{name-length, brief-leg, brief-station, brief-section, brief-move, brief-trim}
 use Rattle.item.specs.Seen.{Tells}
-use Rattle.item.specs.Commonest.{movedTo, extended, legStep, stationStep, sectionStep, trimStep}
+use Rattle.item.specs.Commonest.{movedTo, extended, legStep, stationStep, sectionStep, moveStep, trimStep}
 
 -- the label in its buffer: `keep` bytes of it stay, then `add` of the sixteen that are laid in
 pub label-extended : (b s : List ℕ) (len keep add : ℕ) → keep ≤ len → keep + 16 ≤ length b → add < 16 → 18 ≤ length s → take (keep + add) (extended b keep s) ≡ nameAt s keep add (take len b)
@@ -37,7 +37,7 @@ label-extended b s len keep add h1 h2 h3 h4 =
     ∙ ap (λ (y : List ℕ). take keep b ++ y) e1
     ∙ ap (λ (y : List ℕ). y ++ take add (drop 2 s)) (sym (take-take keep len b h1))
 
-module _ {version : ℕ} {s : List ℕ} {len keep add size : ℕ} {make : ℕ → List ℕ → List ℕ → Item} (B : Brief version s len keep add size make) (b : List ℕ) (w : length b ≡ labelLimit) (h : len ≤ labelLimit) where
+module _ {version : ℕ} {s : List ℕ} {len keep add k size : ℕ} {make : ℕ → List ℕ → List ℕ → Item} (B : Brief version s len keep add k size make) (b : List ℕ) (w : length b ≡ labelLimit) (h : len ≤ labelLimit) where
   abbrev text : List ℕ
   text = take len b
 
@@ -55,9 +55,9 @@ module _ {version : ℕ} {s : List ℕ} {len keep add size : ℕ} {make : ℕ �
   label-short : keep + add ≤ labelLimit
   label-short = omega (arith, B .few, B .add-few)
 
-module _ (version : ℕ) (s : List ℕ) (len keep add : ℕ) (b : List ℕ) (setting : Setting) (w : length b ≡ labelLimit) (h : len ≤ labelLimit) where
-  pub leg-told : (flags : ℕ) (from : Point) → Brief version s len keep add (14 + add) (makeLine flags) → setting .position ≡ Stands from
-      → Tells (legStep keep add setting (legAt s add flags setting from)) (extended b keep s) (next version s (stateOf setting (take len b)))
+module _ (version : ℕ) (s : List ℕ) (len keep add k size : ℕ) (b : List ℕ) (setting : Setting) (w : length b ≡ labelLimit) (h : len ≤ labelLimit) where
+  pub leg-told : (flags : ℕ) (from : Point) → Brief version s len keep add k size (makeLine flags) → setting .position ≡ Stands from
+      → Tells (legStep keep add size setting (legAt s k flags setting from)) (extended b keep s) (next version s (stateOf setting (take len b)))
   leg-told flags from B p =
       record {
         same = rw (extended-is B b w h) (sym (brief-leg B (stateOf setting (take len b)) (text-length B b w h) from p));
@@ -65,8 +65,8 @@ module _ (version : ℕ) (s : List ℕ) (len keep add : ℕ) (b : List ℕ) (set
         short = label-short B b w h;
       }
 
-  pub station-told : (flags : ℕ) → Brief version s len keep add (14 + add) (makeStation flags)
-      → Tells (stationStep keep add setting (stationAt s add flags)) (extended b keep s) (next version s (stateOf setting (take len b)))
+  pub station-told : (flags : ℕ) → Brief version s len keep add k size (makeStation flags)
+      → Tells (stationStep keep add size setting (stationAt s k flags)) (extended b keep s) (next version s (stateOf setting (take len b)))
   station-told flags B =
       record {
         same = rw (extended-is B b w h) (sym (brief-station B (stateOf setting (take len b)) (text-length B b w h)));
@@ -74,14 +74,19 @@ module _ (version : ℕ) (s : List ℕ) (len keep add : ℕ) (b : List ℕ) (set
         short = label-short B b w h;
       }
 
-  pub section-told : (size code : ℕ) → Brief version s len keep add size (makeSection code)
-      → Tells (sectionStep keep add size setting (sectionAt s add code setting)) (extended b keep s) (next version s (stateOf setting (take len b)))
-  section-told size code B =
+  pub section-told : (code : ℕ) → Brief version s len keep add k size (makeSection code)
+      → Tells (sectionStep keep add size setting (sectionAt s k code setting)) (extended b keep s) (next version s (stateOf setting (take len b)))
+  section-told code B =
       record {
         same = rw (extended-is B b w h) (sym (brief-section code B (stateOf setting (take len b)) (text-length B b w h)));
         whole = extended-length B b w h;
         short = label-short B b w h;
       }
+
+pub move-told : (version : ℕ) (s : List ℕ) (len : ℕ) (b : List ℕ) (setting : Setting) → length b ≡ labelLimit → len ≤ labelLimit → Moves version s
+    → Tells (moveStep len setting (placeAt s 1)) b (next version s (stateOf setting (take len b)))
+move-told version s len b setting w h M =
+    record { same = sym (brief-move M (stateOf setting (take len b))); whole = w; short = h }
 
 pub trim-told : (version : ℕ) (s : List ℕ) (len keep : ℕ) (b : List ℕ) (setting : Setting) → length b ≡ labelLimit → Trimmed version s len keep
     → Tells (trimStep keep setting) b (next version s (stateOf setting (take len b)))

@@ -21,14 +21,17 @@ movedTo setting p = record { style = setting .style; date = setting .date; posit
 abbrev pub extended : List ℕ → ℕ → List ℕ → List ℕ
 extended b keep s = laid b keep (take 16 (drop 2 s))
 
-abbrev pub legStep : ℕ → ℕ → Setting → Leg → Step
-legStep keep add setting g = Made (14 + add) (keep + add) (movedTo setting (g .to)) (LegFields (g .flags) (g .style) (g .date) (g .from) (g .to)) keep
+abbrev pub legStep : ℕ → ℕ → ℕ → Setting → Leg → Step
+legStep keep add size setting g = Made size (keep + add) (movedTo setting (g .to)) (LegFields (g .flags) (g .style) (g .date) (g .from) (g .to)) keep
 
-abbrev pub stationStep : ℕ → ℕ → Setting → Station → Step
-stationStep keep add setting g = Made (14 + add) (keep + add) setting (StationFields g) keep
+abbrev pub stationStep : ℕ → ℕ → ℕ → Setting → Station → Step
+stationStep keep add size setting g = Made size (keep + add) setting (StationFields g) keep
 
 abbrev pub sectionStep : ℕ → ℕ → ℕ → Setting → Section → Step
 sectionStep keep add size setting g = Made size (keep + add) setting (SectionFields (g .last) 0 (g .date) (g .size)) keep
+
+abbrev pub moveStep : ℕ → Setting → Point → Step
+moveStep len setting p = On 13 len (movedTo setting p)
 
 abbrev pub trimStep : ℕ → Setting → Step
 trimStep keep setting = On 1 keep setting

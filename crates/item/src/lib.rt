@@ -281,13 +281,12 @@ pub fn take_item(
 
 // ---- the commonest items, as the crate short finds them: what stands behind their label
 
-// The leg of a LINE that adds so many bytes to the label, from a place.
-pub fn leg_at(s: &[u8], add: usize, flags: u8, setting: Setting, from: Point) -> Leg
-    requires { ⌜ (add < 16) × (14 + add ≤ length (now s)) ⌝ }
-    ensures { λ r. ⌜ r ≡ legAt (now (s .entry)) add flags setting from ⌝ }
+// The leg of a LINE whose numbers stand from byte k on, from a place.
+pub fn leg_at(s: &[u8], k: usize, flags: u8, setting: Setting, from: Point) -> Leg
+    requires { ⌜ k + 12 ≤ length (now s) ⌝ }
+    ensures { λ r. ⌜ r ≡ legAt (now (s .entry)) k flags setting from ⌝ }
 {
-    let behind = 2 + add;
-    let to = get_point(&s[behind..]);
+    let to = get_point(&s[k..]);
     let style = setting.style;
     let date = setting.date;
     Leg {
@@ -299,28 +298,26 @@ pub fn leg_at(s: &[u8], add: usize, flags: u8, setting: Setting, from: Point) ->
     }
 }
 
-// The station of a LABEL that adds so many bytes to the label.
-pub fn station_at(s: &[u8], add: usize, flags: u8) -> Station
-    requires { ⌜ (add < 16) × (14 + add ≤ length (now s)) ⌝ }
-    ensures { λ r. ⌜ r ≡ stationAt (now (s .entry)) add flags ⌝ }
+// The station of a LABEL, the same.
+pub fn station_at(s: &[u8], k: usize, flags: u8) -> Station
+    requires { ⌜ k + 12 ≤ length (now s) ⌝ }
+    ensures { λ r. ⌜ r ≡ stationAt (now (s .entry)) k flags ⌝ }
 {
-    let behind = 2 + add;
-    let place = get_point(&s[behind..]);
+    let place = get_point(&s[k..]);
     Station { flags, place }
 }
 
-// The cross-section of an XSECT that adds so many bytes to the label.
-pub fn section_at(s: &[u8], add: usize, code: u8, setting: Setting) -> Section
-    requires { ⌜ (add < 16) × (18 + add ≤ length (now s)) ⌝ }
-    ensures { λ r. ⌜ r ≡ sectionAt (now (s .entry)) add code setting ⌝ }
+// The cross-section of an XSECT, the same.
+pub fn section_at(s: &[u8], k: usize, code: u8, setting: Setting) -> Section
+    requires { ⌜ k + 16 ≤ length (now s) ⌝ }
+    ensures { λ r. ⌜ r ≡ sectionAt (now (s .entry)) k code setting ⌝ }
 {
-    let behind = 2 + add;
     let date = setting.date;
     let last = code % 2;
     if code < 0x32 {
-        let size = short_dimensions(&s[behind..]);
+        let size = short_dimensions(&s[k..]);
         return Section { last, date, size };
     }
-    let size = long_dimensions(&s[behind..]);
+    let size = long_dimensions(&s[k..]);
     Section { last, date, size }
 }

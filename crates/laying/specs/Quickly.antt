@@ -1,23 +1,24 @@
 -- The commonest items, whose records are laid in by themselves. Assumes nothing.
-use Prim.Native.Nat.{ℕ, _+_, _^_, _≤_, _<_}
+use Prim.Native.Nat.{ℕ, _+_, _-_, _^_, _≤_, _<_}
 use mathlib.Core.Path.{_≡_}
 use mathlib.Core.List.{List}
 use lib.ListN.{length}
 use Rattle.format.specs.Label.{labelLimit}
 use Rattle.format.specs.Sheet.{recordLimit, sheetVersion, layout}
-use Rattle.format.specs.State.{Record, Next, bad, end, on, made}
+use Rattle.format.specs.State.{Record, Next, bad, end, on, made, leg}
 use Rattle.format.specs.Fields.{recordSize}
 use Rattle.format.specs.declared.Point.{Point}
 use Rattle.format.specs.declared.Setting.{Setting}
-use Rattle.short.specs.Brief.{nameAt}
+use Rattle.format.specs.declared.Position.the-variants.{Unset, Stands}
+use Rattle.short.specs.Brief.{placeAt, legAt, nameAt}
 use Rattle.format.specs.declared.Fields.{Fields}
 use Rattle.item.specs.Seen.{Tells}
-use Rattle.item.specs.Commonest.{movedTo, trimStep}
+use Rattle.item.specs.Commonest.{movedTo, extended, moveStep, trimStep}
 use Rattle.item.specs.declared.Step.the-variants.{Made as MadeStep}
 use Rattle.wire.specs.Laid.{laidIf}
 use Rattle.laying.specs.declared.Joint.{Joint}
 use Rattle.laying.specs.declared.Quick.{Quick}
-use Rattle.laying.specs.declared.Quick.the-variants.{Other, Leg, Made, Trim}
+use Rattle.laying.specs.declared.Quick.the-variants.{Other, Leg, Made, Trim, Move}
 
 -- d with the record that an item makes, if any, in it from k on, where it fits
 abbrev pub laidBy : Next → List ℕ → ℕ → List ℕ
@@ -27,12 +28,12 @@ laidBy (on n st) d k = d
 laidBy (made n r st) d k = laidIf d k (layout sheetVersion r)
 
 -- what laying one of them needs: s are the bytes from the item on, b the label's buffer
-pub record Joined (j : Joint) (s b : List ℕ) (out : ℕ) : Type 0 where
+pub record Joined (j : Joint) (s b : List ℕ) : Type 0 where
   pub there : 33 ≤ length s
   pub few : j .keep + 16 ≤ labelLimit
   pub add-few : j .add < 16
   pub whole : length b ≡ labelLimit
-  pub out-few : out < 2 ^ 62
+  pub out-few : j .out < 2 ^ 62
 
 -- the label of the record that is laid
 abbrev pub nameOf : Joint → List ℕ → List ℕ → List ℕ
@@ -48,6 +49,13 @@ ledBy j to = Leg (j .size) (j .keep + j .add) to (j .keep)
 
 abbrev pub madeBy : Joint → ℕ → Quick
 madeBy j head = Made (j .size) (j .keep + j .add) (head + (j .keep + j .add)) (j .keep)
+
+-- `lay_line`: b and d are the label's buffer and the sheet before it, b′ and d′ behind it
+pub record LaysLine (r : Quick) (j : Joint) (flags : ℕ) (setting : Setting) (s b b′ d d′ : List ℕ) : Type 0 where
+  pub unset : setting .position ≡ Unset → (r ≡ Other) × (b′ ≡ b) × (d′ ≡ d)
+  pub led : (from : Point) → setting .position ≡ Stands from
+      → (r ≡ ledBy j (placeAt s (j .size - 12))) × (b′ ≡ extended b (j .keep) s)
+      × (d′ ≡ laidFrom (j .out) (leg (legAt s (j .size - 12) flags setting from) (nameOf j s b)) d)
 
 -- an item x that makes a record and keeps `stays` bytes of the label: its size, the label's new length, the setting after it, the record's
 -- bytes and the bytes kept, with the label's buffer b and the sheet d′ after it
@@ -65,3 +73,4 @@ Quickly Other x stays setting b b′ d d′ out = (b′ ≡ b) × (d′ ≡ d)
 Quickly (Leg size m to kept) x stays setting b b′ d d′ out = LaidAs size m (movedTo setting to) (34 + m) kept x stays b′ d d′ out
 Quickly (Made size m bytes kept) x stays setting b b′ d d′ out = LaidAs size m setting bytes kept x stays b′ d d′ out
 Quickly (Trim m) x stays setting b b′ d d′ out = Tells (trimStep m setting) b′ x × (d′ ≡ d)
+Quickly (Move m to) x stays setting b b′ d d′ out = Tells (moveStep m setting to) b′ x × (d′ ≡ d)

@@ -1,20 +1,27 @@
-// The records of the commonest items, laid in by themselves. Reading and stepping each take
-// such an item apart in a function of its own: one with two callers would not be joined to
+// The records of the commonest items, laid in by themselves. Reading and stepping each tell
+// such items apart in a function of their own: one with two callers would not be joined to
 // the loop of reading. What lays the records is small enough to be joined to both.
 ghost use mathlib.Core.Path.{_≡_};
+ghost use Prim.Native.Nat.{_+_, _-_, _≤_};
 ghost use lib.ListN.{length};
+ghost use Rattle.short.specs.Brief.{placeAt, stationAt};
 ghost use Rattle.format.specs.State.{leg, station, section};
 ghost use Rattle.item.specs.Commonest.{extended};
-ghost use Rattle.laying.specs.Quickly.{Joined, nameOf, laidFrom, ledBy, madeBy};
+ghost use Rattle.laying.specs.Quickly.{Joined, LaysLine, nameOf, laidFrom, ledBy, madeBy};
 use format::LABEL_LIMIT;
 use format::Leg;
 use format::Point;
+use format::Position;
 use format::Section;
+use format::Setting;
 use format::Station;
+use item::leg_at;
+use item::station_at;
 
 // What one of the commonest items comes to: another item; a leg, with the item's size, the
 // label's new length, where it leads and how many bytes of the label were kept; a station or
-// a cross-section, with the record's bytes; or the label's length after a trim.
+// a cross-section, with the record's bytes; the label's length after a trim; or
+// the same of a MOVE, with where it leads.
 pub enum Quick {
     Other,
     Leg {
@@ -32,31 +39,48 @@ pub enum Quick {
     Trim {
         len: usize,
     },
+    Move {
+        len: usize,
+        to: Point,
+    },
 }
 
-// How many bytes of the label an item keeps, how many it adds, and the item's own size.
+// How many bytes of the label an item keeps, how many it adds, the item's own size, and where
+// in the sheet its record goes.
 pub struct Joint {
     pub keep: usize,
     pub add: usize,
     pub size: usize,
+    pub out: usize,
 }
 
-// Lays the leg of a short LINE at the front of s into the sheet from `out` on, where it
-// fits, and extends the label: what the item comes to.
-pub fn lay_leg(
+pub fn joint_of(keep: usize, add: usize, size: usize, out: usize) -> Joint
+    ensures { λ r. ⌜ r ≡ record { keep = keep; add = add; size = size; out = out } ⌝ }
+{
+    Joint {
+        keep,
+        add,
+        size,
+        out,
+    }
+}
+
+// Lays a leg into the sheet, where it fits, and extends the label by what the item at the front
+// of s adds to it: what the item comes to.
+fn lay_leg(
     s: &[u8],
     bytes: &mut [u8; LABEL_LIMIT],
     joint: Joint,
     fields: Leg,
     sheet: &mut [u8],
-    out: usize,
 ) -> Quick
-    requires { ⌜ Joined joint (now s) (now bytes) out ⌝ }
+    requires { ⌜ Joined joint (now s) (now bytes) ⌝ }
     ensures label { λ _. ⌜ now (bytes .exit) ≡ extended (now (bytes .entry)) (joint .keep) (now (s .entry)) ⌝ }
-    ensures sheet { λ _. ⌜ now (sheet .exit) ≡ laidFrom out (leg fields (nameOf joint (now (s .entry)) (now (bytes .entry)))) (now (sheet .entry)) ⌝ }
+    ensures sheet { λ _. ⌜ now (sheet .exit) ≡ laidFrom (joint .out) (leg fields (nameOf joint (now (s .entry)) (now (bytes .entry)))) (now (sheet .entry)) ⌝ }
     ensures answer { λ r. ⌜ r ≡ ledBy joint (fields .to) ⌝ }
 {
     let keep = joint.keep;
+    let out = joint.out;
     let behind = 2 + joint.add;
     record::lay_short_leg(sheet, out, fields, bytes, keep, &s[2..behind]);
     label::extend(bytes, keep, &s[2..]);
@@ -70,21 +94,44 @@ pub fn lay_leg(
     }
 }
 
-// The same of a station and a short LABEL.
-pub fn lay_station(
+// The same of a LINE, whose last twelve bytes say where the leg leads. Where the position is
+// not set, it is left to the general item.
+pub fn lay_line(
+    s: &[u8],
+    bytes: &mut [u8; LABEL_LIMIT],
+    joint: Joint,
+    flags: u8,
+    setting: Setting,
+    sheet: &mut [u8],
+) -> Quick
+    requires { ⌜ Joined joint (now s) (now bytes) × (12 ≤ joint .size) × (joint .size ≤ length (now s)) ⌝ }
+    ensures { λ r. ⌜ LaysLine r joint flags setting (now (s .entry)) (now (bytes .entry)) (now (bytes .exit)) (now (sheet .entry)) (now (sheet .exit)) ⌝ }
+{
+    let position = setting.position;
+    match position {
+        Position::Unset => Quick::Other,
+        Position::Stands { point } => {
+            let leg = leg_at(s, joint.size - 12, flags, setting, point);
+            lay_leg(s, bytes, joint, leg, sheet)
+        }
+    }
+}
+
+// A station, in the same way.
+fn lay_station(
     s: &[u8],
     bytes: &mut [u8; LABEL_LIMIT],
     joint: Joint,
     fields: Station,
     sheet: &mut [u8],
-    out: usize,
 ) -> Quick
-    requires { ⌜ Joined joint (now s) (now bytes) out ⌝ }
+    requires { ⌜ Joined joint (now s) (now bytes) ⌝ }
     ensures label { λ _. ⌜ now (bytes .exit) ≡ extended (now (bytes .entry)) (joint .keep) (now (s .entry)) ⌝ }
-    ensures sheet { λ _. ⌜ now (sheet .exit) ≡ laidFrom out (station fields (nameOf joint (now (s .entry)) (now (bytes .entry)))) (now (sheet .entry)) ⌝ }
+    ensures sheet { λ _. ⌜ now (sheet .exit) ≡ laidFrom (joint .out) (station fields (nameOf joint (now (s .entry)) (now (bytes .entry)))) (now (sheet .entry)) ⌝ }
     ensures answer { λ r. ⌜ r ≡ madeBy joint 16 ⌝ }
 {
     let keep = joint.keep;
+    let out = joint.out;
     let behind = 2 + joint.add;
     record::lay_short_station(sheet, out, fields, bytes, keep, &s[2..behind]);
     label::extend(bytes, keep, &s[2..]);
@@ -97,21 +144,38 @@ pub fn lay_station(
     }
 }
 
-// The same of a cross-section and a short XSECT.
+// The station of a LABEL, whose last twelve bytes are its place.
+pub fn lay_place(
+    s: &[u8],
+    bytes: &mut [u8; LABEL_LIMIT],
+    joint: Joint,
+    flags: u8,
+    sheet: &mut [u8],
+) -> Quick
+    requires { ⌜ Joined joint (now s) (now bytes) × (12 ≤ joint .size) × (joint .size ≤ length (now s)) ⌝ }
+    ensures label { λ _. ⌜ now (bytes .exit) ≡ extended (now (bytes .entry)) (joint .keep) (now (s .entry)) ⌝ }
+    ensures sheet { λ _. ⌜ now (sheet .exit) ≡ laidFrom (joint .out) (station (stationAt (now (s .entry)) (joint .size - 12) flags) (nameOf joint (now (s .entry)) (now (bytes .entry)))) (now (sheet .entry)) ⌝ }
+    ensures answer { λ r. ⌜ r ≡ madeBy joint 16 ⌝ }
+{
+    let station = station_at(s, joint.size - 12, flags);
+    lay_station(s, bytes, joint, station, sheet)
+}
+
+// A cross-section. (With its numbers read here, it would be too large to be joined twice.)
 pub fn lay_section(
     s: &[u8],
     bytes: &mut [u8; LABEL_LIMIT],
     joint: Joint,
     fields: Section,
     sheet: &mut [u8],
-    out: usize,
 ) -> Quick
-    requires { ⌜ Joined joint (now s) (now bytes) out ⌝ }
+    requires { ⌜ Joined joint (now s) (now bytes) ⌝ }
     ensures label { λ _. ⌜ now (bytes .exit) ≡ extended (now (bytes .entry)) (joint .keep) (now (s .entry)) ⌝ }
-    ensures sheet { λ _. ⌜ now (sheet .exit) ≡ laidFrom out (section fields (nameOf joint (now (s .entry)) (now (bytes .entry)))) (now (sheet .entry)) ⌝ }
+    ensures sheet { λ _. ⌜ now (sheet .exit) ≡ laidFrom (joint .out) (section fields (nameOf joint (now (s .entry)) (now (bytes .entry)))) (now (sheet .entry)) ⌝ }
     ensures answer { λ r. ⌜ r ≡ madeBy joint 25 ⌝ }
 {
     let keep = joint.keep;
+    let out = joint.out;
     let behind = 2 + joint.add;
     record::lay_short_section(sheet, out, fields, bytes, keep, &s[2..behind]);
     label::extend(bytes, keep, &s[2..]);

@@ -23,7 +23,7 @@ ghost use Rattle.format.specs.State.{apply, nextOf};
 ghost use Rattle.format.specs.Reading.{next, ended, itemsOf};
 ghost use Rattle.kind.specs.Kinds.{labelledBy};
 ghost use Rattle.measure.specs.Measures.{Keeps, Comes, ComesIn, Small, Tailed};
-ghost use Rattle.measure.specs.Counting.{Counts, countedAs};
+ghost use Rattle.measure.specs.Counting.{Counts, countedAs, legCounted};
 ghost use Rattle.measure.specs.Totals.{passedBy, passOf};
 ghost use Rattle.format.specs.Header.{fileLimit};
 ghost use Rattle.format.specs.Label.{labelLimit};
@@ -230,9 +230,10 @@ fn any_item(s: &[u8], len: usize, style: u8, placed: bool) -> Measured
 }
 
 // The size, the label's new length and the record's bytes, where the item is one of the
-// commonest; a short LINE needs the position set.
+// commonest and makes a record; or a MOVE.
 enum Counted {
     Other,
+    Moved,
     Record {
         size: usize,
         len: usize,
@@ -252,6 +253,17 @@ fn count_record(size: usize, len: usize, head: usize) -> Counted
     }
 }
 
+// The same of a leg, which needs the position set.
+fn count_leg(size: usize, len: usize, placed: bool) -> Counted
+    requires { ⌜ len ≤ labelLimit ⌝ }
+    ensures { λ r. ⌜ r ≡ legCounted size len placed ⌝ }
+{
+    if placed {
+        return count_record(size, len, 34);
+    }
+    Counted::Other
+}
+
 fn count_short(s: &[u8], len: usize, placed: bool) -> Counted
     ensures { λ r. ⌜ Counts r (now (s .entry)) len placed ⌝ }
 {
@@ -262,12 +274,8 @@ fn count_short(s: &[u8], len: usize, placed: bool) -> Counted
             keep,
             add,
             flags: _,
-        } => {
-            if !placed {
-                return Counted::Other;
-            }
-            count_record(14 + add, keep + add, 34)
-        }
+        } => count_leg(14 + add, keep + add, placed),
+        Short::Again { flags: _ } => count_leg(13, len, placed),
         Short::Place {
             keep,
             add,
@@ -275,6 +283,7 @@ fn count_short(s: &[u8], len: usize, placed: bool) -> Counted
         } => count_record(14 + add, keep + add, 16),
         Short::Section { keep, add, code } => count_record(2 + add + sides(code), keep + add, 25),
         Short::Trim { len: _ } => Counted::Other,
+        Short::Move => Counted::Moved,
     }
 }
 
@@ -286,6 +295,7 @@ fn measure_item(s: &[u8], len: usize, style: u8, placed: bool) -> Measured
     let short = count_short(s, len, placed);
     match short {
         Counted::Other => any_item(s, len, style, placed),
+        Counted::Moved => Measured::Moved,
         Counted::Record {
             size,
             len: m,

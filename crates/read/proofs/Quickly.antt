@@ -12,7 +12,8 @@ use Rattle.format.specs.Fields.{stateOf, recordSize}
 use Rattle.format.specs.declared.Setting.{Setting}
 use Rattle.format.specs.declared.Fields.{Fields}
 use Rattle.item.specs.Seen.{Tells}
-use Rattle.item.specs.Commonest.{trimStep}
+use Rattle.format.specs.declared.Point.{Point}
+use Rattle.item.specs.Commonest.{movedTo, moveStep, trimStep}
 use Rattle.item.specs.declared.Step.{Step}
 use Rattle.item.specs.declared.Step.the-variants.{Bad, End, On, Made}
 use Rattle.label.specs.declared.Label.{Label}
@@ -40,6 +41,11 @@ pub passes-laid : (n m bytes kept stays : ℕ) (after : Setting) (by : Moved) (b
     → Passes by after x b d d′ out
 passes-laid n m bytes kept stays after by b d d′ out x L e =
     passes-made n m bytes after (L .fields) kept by b d d′ out x (L .told) e (L .bytes-are, L .small) (L .laid)
+
+-- a MOVE
+pub passes-move : (len : ℕ) (setting : Setting) (to : Point) (by : Moved) (b d d′ : List ℕ) (out : ℕ) (x : Next) → Tells (moveStep len setting to) b x
+    → by ≡ record { size = 13; len = len; bytes = 0; records = 0 } → d′ ≡ d → Passes by (movedTo setting to) x b d d′ out
+passes-move len setting to by b d d′ out x T e q = rw q (passes-on 13 len (movedTo setting to) by b d out x T e)
 
 -- ---- a turn
 

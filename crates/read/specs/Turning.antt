@@ -12,7 +12,8 @@ use Rattle.format.specs.Sheet.{recordLimit}
 use Rattle.format.specs.Fields.{stateOf, recordSize}
 use Rattle.format.specs.declared.Setting.{Setting}
 use Rattle.item.specs.Seen.{Tells}
-use Rattle.item.specs.Commonest.{trimStep}
+use Rattle.format.specs.declared.Point.{Point}
+use Rattle.item.specs.Commonest.{movedTo, trimStep}
 use Rattle.item.specs.declared.Step.{Step}
 use Rattle.item.specs.declared.Step.the-variants.{Bad as BadStep, End as EndStep, On as OnStep, Made as MadeStep}
 use Rattle.laying.specs.Quickly.{laidBy, Quickly}
@@ -20,7 +21,7 @@ use Rattle.laying.specs.declared.Quick.{Quick}
 use Rattle.read.specs.declared.Before.{Before}
 use Rattle.read.specs.declared.Moved.{Moved}
 use Rattle.read.specs.declared.Turned.{Turned}
-use Rattle.read.specs.declared.Turned.the-variants.{Bad, End, Trim, Same, Went}
+use Rattle.read.specs.declared.Turned.the-variants.{Bad, End, Trim, Led, Same, Went}
 
 -- ---- before an item: b is the label's buffer, s the bytes from the item on
 
@@ -59,6 +60,7 @@ abbrev pub TurnsAs : Turned → Next → Setting → List ℕ → List ℕ → L
 TurnsAs (Bad k) x setting b d d′ out = Tells (BadStep k) b x × (d′ ≡ laidBy x d out)
 TurnsAs End x setting b d d′ out = Tells EndStep b x × (d′ ≡ laidBy x d out)
 TurnsAs (Trim m) x setting b d d′ out = Tells (trimStep m setting) b x × (d′ ≡ d)
+TurnsAs (Led by to) x setting b d d′ out = Passes by (movedTo setting to) x b d d′ out
 TurnsAs (Same by) x setting b d d′ out = Passes by setting x b d d′ out
 TurnsAs (Went by after) x setting b d d′ out = Passes by after x b d d′ out
 

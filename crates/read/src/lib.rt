@@ -2,7 +2,7 @@
 // sheet, a second lays the records in.
 ghost use mathlib.Core.Path.{_≡_};
 ghost use mathlib.Core.List.{List, []};
-ghost use Prim.Native.Nat.{ℕ, _+_, _≤_};
+ghost use Prim.Native.Nat.{ℕ, _+_, _^_, _≤_, _<_};
 ghost use lib.ListN.{length};
 ghost use Rattle.format.specs.Reading.{itemsOf, readOutcome, readBuffer};
 ghost use Rattle.format.specs.Answers.{answerOf};
@@ -12,28 +12,30 @@ ghost use Rattle.read.specs.Turning.{Ready, Shortly, Turns};
 ghost use Rattle.read.specs.Salvage.{reportNumber, reportPlace, salvageOutcome, salvageBuffer, salvagedOf, SalvagesTo};
 ghost use Rattle.format.specs.Bytes.{over};
 ghost use Rattle.format.specs.Header.{fileLimit};
+ghost use Rattle.format.specs.Label.{labelLimit};
+ghost use Rattle.short.specs.Brief.{Finds};
 ghost use Rattle.format.specs.Sheet.{frontLimit};
+use decode::get_point;
 use format::Answer;
 use format::LABEL_LIMIT;
-use format::Position;
+use format::Point;
 use format::Setting;
 use format::Verdict;
 use header::Head;
 use item::Step;
-use item::leg_at;
 use item::section_at;
-use item::station_at;
 use item::with_position;
-use laying::Joint;
 use laying::Quick;
-use laying::lay_leg;
+use laying::joint_of;
+use laying::lay_line;
+use laying::lay_place;
 use laying::lay_section;
-use laying::lay_station;
 use measure::Passed;
 use measure::ended;
 use measure::stopped;
 use short::Short;
-use short::short_item;
+use short::new_item;
+use short::old_item;
 use short::sides;
 
 // Where a pass stands, in numbers: the file's version, the label's length, and where the next
@@ -54,14 +56,28 @@ struct Moved {
 }
 
 // What an item comes to in a pass: a refusal; the end; the label's length after a trim; how far it
-// takes the pass, with the setting as it was; the same with the setting after it. (A setting that
-// is handed back is copied: the commonest items would pay for it.)
+// takes the pass, with the position that it leads to; the same with the setting as it was; the
+// same with the setting after it. (A setting that is handed back is copied: the commonest items
+// would pay for it.)
 enum Turned {
     Bad { number: u8 },
     End,
     Trim { len: usize },
+    Led { by: Moved, to: Point },
     Same { by: Moved },
     Went { by: Moved, setting: Setting },
+}
+
+// The item at the front of s, after a label of len bytes, where it is one of the commonest.
+// (`short_item` has other callers, and so is not joined to the loop.)
+fn find_short(version: u8, s: &[u8], len: usize) -> Short
+    requires { ⌜ len ≤ labelLimit ⌝ }
+    ensures { λ r. ⌜ Finds r version (now (s .entry)) len ⌝ }
+{
+    if version < 8 {
+        return old_item(version, s, len);
+    }
+    new_item(s, len)
 }
 
 // The item at the front of s, in the state of a setting and a label, where it is one of
@@ -77,29 +93,32 @@ fn lay_short(
     ensures { λ r. ⌜ Shortly r before setting (now (s .entry)) (now (bytes .entry)) (now (bytes .exit)) (now (sheet .entry)) (now (sheet .exit)) ⌝ }
 {
     let out = before.out;
-    let position = setting.position;
-    let it = short_item(before.version, s, before.len);
+    let len = before.len;
+    let it = find_short(before.version, s, len);
     match it {
         Short::Other => Quick::Other,
-        Short::Line { keep, add, flags } => match position {
-            Position::Unset => Quick::Other,
-            Position::Stands { point } => {
-                let leg = leg_at(s, add, flags, setting, point);
-                let size = 14 + add;
-                lay_leg(s, bytes, Joint { keep, add, size }, leg, sheet, out)
-            }
-        },
+        Short::Line { keep, add, flags } => {
+            let joint = joint_of(keep, add, 14 + add, out);
+            lay_line(s, bytes, joint, flags, setting, sheet)
+        }
+        Short::Again { flags } => {
+            let joint = joint_of(len, 0, 13, out);
+            lay_line(s, bytes, joint, flags, setting, sheet)
+        }
         Short::Place { keep, add, flags } => {
-            let station = station_at(s, add, flags);
-            let size = 14 + add;
-            lay_station(s, bytes, Joint { keep, add, size }, station, sheet, out)
+            let joint = joint_of(keep, add, 14 + add, out);
+            lay_place(s, bytes, joint, flags, sheet)
         }
         Short::Section { keep, add, code } => {
-            let section = section_at(s, add, code, setting);
-            let size = 2 + add + sides(code);
-            lay_section(s, bytes, Joint { keep, add, size }, section, sheet, out)
+            let joint = joint_of(keep, add, 2 + add + sides(code), out);
+            let section = section_at(s, 2 + add, code, setting);
+            lay_section(s, bytes, joint, section, sheet)
         }
         Short::Trim { len: m } => Quick::Trim { len: m },
+        Short::Move => {
+            let to = get_point(&s[1..]);
+            Quick::Move { len, to }
+        }
     }
 }
 
@@ -172,8 +191,7 @@ fn pass_item(
             kept: _,
         } => {
             let by = moved_by(size, len, 34 + len, 1);
-            let after = with_position(setting, to);
-            Turned::Went { by, setting: after }
+            Turned::Led { by, to }
         }
         Quick::Made {
             size,
@@ -185,6 +203,66 @@ fn pass_item(
             Turned::Same { by }
         }
         Quick::Trim { len } => Turned::Trim { len },
+        Quick::Move { len, to } => {
+            let by = moved_by(13, len, 0, 0);
+            Turned::Led { by, to }
+        }
+    }
+}
+
+// How far a pass has come: the next item's place, where the next record goes, how many records
+// there were, and the label's length.
+struct Progress {
+    at: usize,
+    out: usize,
+    records: usize,
+    len: usize,
+}
+
+fn outset(place: usize, front: usize) -> Progress
+    ensures { λ r. ⌜ r ≡ record { at = place; out = front; records = 0; len = 0 } ⌝ }
+{
+    Progress {
+        at: place,
+        out: front,
+        records: 0,
+        len: 0,
+    }
+}
+
+fn before_item(version: u8, here: Progress) -> Before
+    ensures { λ r. ⌜ r ≡ record { version = version; len = here .len; out = here .out } ⌝ }
+{
+    Before {
+        version,
+        len: here.len,
+        out: here.out,
+    }
+}
+
+// Behind an item that goes so far.
+fn ahead(here: Progress, by: Moved) -> Progress
+    requires { ⌜ (here .at + by .size < 2 ^ 62) × (here .out + by .bytes < 2 ^ 62) × (here .records + by .records < 2 ^ 62) ⌝ }
+    ensures { λ r. ⌜ r ≡ record { at = here .at + by .size; out = here .out + by .bytes; records = here .records + by .records; len = by .len } ⌝ }
+{
+    Progress {
+        at: here.at + by.size,
+        out: here.out + by.bytes,
+        records: here.records + by.records,
+        len: by.len,
+    }
+}
+
+// Behind a trim that leaves so many bytes of the label.
+fn trimmed(here: Progress, len: usize) -> Progress
+    requires { ⌜ here .at < 2 ^ 62 ⌝ }
+    ensures { λ r. ⌜ r ≡ record { at = here .at + 1; out = here .out; records = here .records; len = len } ⌝ }
+{
+    Progress {
+        at: here.at + 1,
+        out: here.out,
+        records: here.records,
+        len,
     }
 }
 
@@ -195,37 +273,33 @@ fn pass(file: &[u8], version: u8, place: usize, sheet: &mut [u8], front: usize) 
     ensures answer { λ r. ⌜ r ≡ passOf front 0 (itemsOf version place (now (file .entry))) ⌝ }
     ensures sheet { λ _. ⌜ now (sheet .exit) ≡ lay (now (sheet .entry)) front (itemsOf version place (now (file .entry)) .records) ⌝ }
 {
-    let mut at = place;
-    let mut out = front;
-    let mut records: usize = 0;
     let mut label = label::blank();
     let mut setting = format::start_setting();
+    let mut here = outset(place, front);
     loop {
+        let at = here.at;
         let rest = &file[at..];
-        let len = label.len;
-        let before = Before { version, len, out };
+        let before = before_item(version, here);
         let it = pass_item(before, rest, &mut label.bytes, setting, sheet);
         match it {
             Turned::Bad { number } => {
-                return stopped(Verdict::Refusal { number, place: at }, out, records);
+                let verdict = Verdict::Refusal { number, place: at };
+                return stopped(verdict, here.out, here.records);
             }
-            Turned::End => return ended(at, rest, out, records),
-            Turned::Trim { len: m } => {
-                label.len = m;
-                at += 1;
+            Turned::End => return ended(at, rest, here.out, here.records),
+            Turned::Trim { len } => {
+                here = trimmed(here, len);
+            }
+            Turned::Led { by, to } => {
+                setting = with_position(setting, to);
+                here = ahead(here, by);
             }
             Turned::Same { by } => {
-                label.len = by.len;
-                out += by.bytes;
-                records += by.records;
-                at += by.size;
+                here = ahead(here, by);
             }
             Turned::Went { by, setting: after } => {
-                label.len = by.len;
                 setting = after;
-                out += by.bytes;
-                records += by.records;
-                at += by.size;
+                here = ahead(here, by);
             }
         }
     }

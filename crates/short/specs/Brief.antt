@@ -1,4 +1,5 @@
--- A LINE, a LABEL or an XSECT with a label part of one byte, and the code that drops some bytes of the label. Assumes nothing.
+-- A LINE, a LABEL or an XSECT with a label part of one byte, a LINE with the same label, a MOVE, and the code that drops some bytes of the
+-- label. Assumes nothing.
 use Prim.Native.Nat.{ℕ, _+_, _-_, _/_, _%_, _≤_, _<_}
 use mathlib.Core.Path.{_≡_}
 use mathlib.Core.List.{List, _++_}
@@ -6,7 +7,7 @@ use lib.ListN.{length, getD, take, drop}
 use lib.Dec.{ltb}
 use Rattle.format.specs.Bytes.{pick, le16, le32, widened}
 use Rattle.format.specs.Label.{labelLimit}
-use Rattle.format.specs.Items.{Item, Shorten, Label as labelItem, Line as lineItem, Xsect, whole, itemOf, pointOf, dimensionsOf}
+use Rattle.format.specs.Items.{Item, Shorten, Move as moveTo, Label as labelItem, Line as lineItem, Xsect, whole, itemOf, pointOf, dimensionsOf}
 use Rattle.format.specs.declared.Cut.the-variants.{Trim as trimCut}
 use Rattle.format.specs.declared.Point.{Point}
 use Rattle.format.specs.declared.Dimensions.{Dimensions}
@@ -17,7 +18,7 @@ use Rattle.format.specs.declared.Setting.{Setting}
 use Rattle.short.specs.declared.Part.{Part}
 use Rattle.short.specs.declared.Part.the-variants.{Long, Brief as BriefPart}
 use Rattle.short.specs.declared.Short.{Short}
-use Rattle.short.specs.declared.Short.the-variants.{Other, Line, Place, Section, Trim}
+use Rattle.short.specs.declared.Short.the-variants.{Other, Line, Again, Place, Section, Trim, Move}
 
 -- ---- the label part
 
@@ -63,31 +64,36 @@ sizeOf code rest = pick (ltb code 0x32) (dimensionsOf 2 (λ s. widened (le16 s))
 abbrev pub makeSection : ℕ → ℕ → List ℕ → List ℕ → Item
 makeSection code d added rest = Xsect (code % 2) (sizeOf code rest) d added
 
--- the records of a LINE, a LABEL and an XSECT at the front of s that add so many bytes to the label, but for their labels
+-- the records of a LINE, a LABEL and an XSECT at the front of s whose numbers stand from byte k on, but for their labels
 abbrev pub placeAt : List ℕ → ℕ → Point
-placeAt s add = pointOf le32 (drop (2 + add) s)
+placeAt s k = pointOf le32 (drop k s)
 
 abbrev pub legAt : List ℕ → ℕ → ℕ → Setting → Point → Leg
-legAt s add flags setting from = record { flags = flags; style = setting .style; date = setting .date; from = from; to = placeAt s add }
+legAt s k flags setting from = record { flags = flags; style = setting .style; date = setting .date; from = from; to = placeAt s k }
 
 abbrev pub stationAt : List ℕ → ℕ → ℕ → Station
-stationAt s add flags = record { flags = flags; place = placeAt s add }
+stationAt s k flags = record { flags = flags; place = placeAt s k }
 
 abbrev pub sectionAt : List ℕ → ℕ → ℕ → Setting → SectionFields
-sectionAt s add code setting = record { last = code % 2; date = setting .date; size = sizeOf code (drop (2 + add) s) }
+sectionAt s k code setting = record { last = code % 2; date = setting .date; size = sizeOf code (drop k s) }
 
 -- the label after them
 abbrev pub nameAt : List ℕ → ℕ → ℕ → List ℕ → List ℕ
 nameAt s keep add l = take keep l ++ take add (drop 2 s)
 
 -- ---- THE law: after every label of len bytes, the item at the front of s is this one, and its label step succeeds.
--- What it comes to in a state follows: `brief-leg`, `brief-station`, `brief-section`, `brief-kept` of the proofs.
-pub record Brief (version : ℕ) (s : List ℕ) (len keep add size : ℕ) (make : ℕ → List ℕ → List ℕ → Item) : Type 0 where
+-- Its numbers stand from byte k on. What it comes to in a state follows: `brief-leg`, `brief-station`, `brief-section`, `leg-kept` of the proofs.
+pub record Brief (version : ℕ) (s : List ℕ) (len keep add k size : ℕ) (make : ℕ → List ℕ → List ℕ → Item) : Type 0 where
   pub there : 33 ≤ length s
   pub kept : keep ≤ len
   pub few : keep + 16 ≤ labelLimit
   pub add-few : add < 16
-  pub item : itemOf version s ≡ whole size (make (len - keep) (take add (drop 2 s)) (drop (2 + add) s))
+  pub item : itemOf version s ≡ whole size (make (len - keep) (take add (drop 2 s)) (drop k s))
+
+-- and of a MOVE
+pub record Moves (version : ℕ) (s : List ℕ) : Type 0 where
+  pub there : 33 ≤ length s
+  pub item : itemOf version s ≡ whole 13 (moveTo (placeAt s 1))
 
 -- and of the code that drops some bytes: "Dropping must leave at least one byte"
 pub record Trimmed (version : ℕ) (s : List ℕ) (len keep : ℕ) : Type 0 where
@@ -107,21 +113,40 @@ pub record TrimCode (code len keep : ℕ) : Type 0 where
 abbrev pub Trims : Short → ℕ → ℕ → Type 0
 Trims Other code len = Unit
 Trims (Line keep add flags) code len = ⊥
+Trims (Again flags) code len = ⊥
 Trims (Place keep add flags) code len = ⊥
 Trims (Section keep add c) code len = ⊥
 Trims (Trim m) code len = TrimCode code len m
+Trims Move code len = code ≡ 0x0f
+
+-- `same_label`: of its code alone too
+pub record RepeatCode (code len flags : ℕ) : Type 0 where
+  pub high : code < 0x68
+  pub flags-are : flags ≡ code - 0x60
+  pub few : len + 16 ≤ labelLimit
+
+abbrev pub Repeats : Short → ℕ → ℕ → Type 0
+Repeats Other code len = Unit
+Repeats (Line keep add flags) code len = ⊥
+Repeats (Again flags) code len = RepeatCode code len flags
+Repeats (Place keep add flags) code len = ⊥
+Repeats (Section keep add c) code len = ⊥
+Repeats (Trim m) code len = ⊥
+Repeats Move code len = ⊥
 
 -- ---- an answer tells the item
 
 abbrev pub Finds : Short → ℕ → List ℕ → ℕ → Type 0
 Finds Other version s len = Unit
-Finds (Line keep add flags) version s len = Brief version s len keep add (14 + add) (makeLine flags)
-Finds (Place keep add flags) version s len = Brief version s len keep add (14 + add) (makeStation flags)
-Finds (Section keep add code) version s len = Brief version s len keep add (2 + add + sidesOf code) (makeSection code)
+Finds (Line keep add flags) version s len = Brief version s len keep add (2 + add) (14 + add) (makeLine flags)
+Finds (Again flags) version s len = Brief version s len len 0 1 13 (makeLine flags)
+Finds (Place keep add flags) version s len = Brief version s len keep add (2 + add) (14 + add) (makeStation flags)
+Finds (Section keep add code) version s len = Brief version s len keep add (2 + add) (2 + add + sidesOf code) (makeSection code)
 Finds (Trim m) version s len = Trimmed version s len m
+Finds Move version s len = Moves version s
 
 abbrev pub FindsNew : Short → List ℕ → ℕ → Type 0
 FindsNew r s len = (version : ℕ) → 8 ≤ version → Finds r version s len
 
-abbrev pub FindsOld : Short → List ℕ → ℕ → Type 0
-FindsOld r s len = (version : ℕ) → version < 8 → Finds r version s len
+abbrev pub FindsOld : Short → ℕ → List ℕ → ℕ → Type 0
+FindsOld r version s len = version < 8 → Finds r version s len

@@ -12,11 +12,11 @@ use Rattle.format.specs.Fields.{stateOf}
 use Rattle.format.specs.declared.Setting.{Setting}
 use Rattle.format.specs.declared.Stepped.the-variants.{Record as RecordStep, Nothing}
 use Rattle.item.specs.Seen.{Tells}
-use Rattle.item.specs.Commonest.{movedTo, trimStep}
+use Rattle.item.specs.Commonest.{movedTo}
 use Rattle.item.specs.declared.Step.the-variants.{On, Made}
 use Rattle.laying.specs.Quickly.{laidBy, LaidAs, Quickly}
 use Rattle.laying.specs.declared.Quick.{Quick}
-use Rattle.laying.specs.declared.Quick.the-variants.{Other, Leg as QuickLeg, Made as QuickMade, Trim}
+use Rattle.laying.specs.declared.Quick.the-variants.{Other, Leg as QuickLeg, Made as QuickMade, Trim, Move}
 use Rattle.step.specs.Standing.{lesser, behindItem, Steps}
 use Rattle.step.specs.Shortly.{Took, Shortly}
 use Rattle.step.specs.declared.Phase.the-variants.{Going}
@@ -46,13 +46,14 @@ module _ (h : Held) (label file old : List ℕ) (g : h .phase ≡ Going) (full :
             (record { answer = rw (L .bytes-are); stand = refl; buffer = L .laid ∙ ap (λ (y : Next). laidBy y old 0) (sym (L .told .same)) });
       }
 
-  took-trim : (m : ℕ) (b new : List ℕ) → Tells (trimStep m (h .setting)) b item → new ≡ old → Took h label file old 1 m (h .setting) Nothing b new
-  took-trim m b new T e =
+  -- no record: the label has m bytes then
+  took-on : (size m : ℕ) (after : Setting) (b new : List ℕ) → Tells (On size m after) b item → new ≡ old → Took h label file old size m after Nothing b new
+  took-on size m after b new T e =
       record {
         going = g;
-        within = step-within h label file old g full b (On 1 m (h .setting)) T few;
+        within = step-within h label file old g full b (On size m after) T few;
         short = T .short;
-        steps = step-after h label file old g full b (On 1 m (h .setting)) T tt (ample-room (length old) ample _ _ _) _ refl _ new (refl, refl, e);
+        steps = step-after h label file old g full b (On size m after) T tt (ample-room (length old) ample _ _ _) _ refl _ new (refl, refl, e);
       }
 
   -- whatever the answer is
@@ -60,4 +61,5 @@ module _ (h : Held) (label file old : List ℕ) (g : h .phase ≡ Going) (full :
   shortly Other b new Q = Q
   shortly (QuickLeg size m to kept) b new Q = took-made size m (movedTo (h .setting) to) (34 + m) kept b new Q
   shortly (QuickMade size m bytes kept) b new Q = took-made size m (h .setting) bytes kept b new Q
-  shortly (Trim m) b new Q = took-trim m b new (Q .0) (Q .1)
+  shortly (Trim m) b new Q = took-on 1 m (h .setting) b new (Q .0) (Q .1)
+  shortly (Move m to) b new Q = took-on 13 m (movedTo (h .setting) to) b new (Q .0) (Q .1)

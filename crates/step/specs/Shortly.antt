@@ -8,7 +8,7 @@ use Rattle.format.specs.declared.Stepped.{Stepped}
 use Rattle.format.specs.declared.Stepped.the-variants.{Record as RecordStep, Nothing}
 use Rattle.item.specs.Commonest.{movedTo}
 use Rattle.laying.specs.declared.Quick.{Quick}
-use Rattle.laying.specs.declared.Quick.the-variants.{Other, Leg, Made, Trim}
+use Rattle.laying.specs.declared.Quick.the-variants.{Other, Leg, Made, Trim, Move}
 use Rattle.step.specs.Standing.{sliceLimit, behindItem, Steps}
 use Rattle.step.specs.declared.Phase.the-variants.{Going}
 use Rattle.step.specs.declared.Stand.{Stand as Held}
@@ -26,3 +26,4 @@ Shortly Other h label file old label′ new = (label′ ≡ label) × (new ≡ o
 Shortly (Leg size m to kept) h label file old label′ new = Took h label file old size m (movedTo (h .setting) to) (RecordStep (34 + m) kept) label′ new
 Shortly (Made size m bytes kept) h label file old label′ new = Took h label file old size m (h .setting) (RecordStep bytes kept) label′ new
 Shortly (Trim m) h label file old label′ new = Took h label file old 1 m (h .setting) Nothing label′ new
+Shortly (Move m to) h label file old label′ new = Took h label file old 13 m (movedTo (h .setting) to) Nothing label′ new

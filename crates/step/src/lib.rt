@@ -14,28 +14,28 @@ ghost use Rattle.step.specs.Going.{Goes};
 ghost use Rattle.step.specs.Shortly.{Shortly};
 ghost use Rattle.laying.specs.Quickly.{Quickly};
 ghost use Rattle.format.specs.Items.{itemOf};
+ghost use Rattle.short.specs.Brief.{Finds};
 ghost use Rattle.format.specs.Outline.{dropLeaves};
 ghost use Rattle.step.specs.declared.Phase.the-variants.{Going};
 use decode::Item;
+use decode::get_point;
 use format::Fields;
 use format::Kept;
 use format::LABEL_LIMIT;
 use format::Opened;
-use format::Position;
 use format::Setting;
 use format::Stepped;
 use header::Head;
 use item::Step;
-use item::leg_at;
 use item::section_at;
-use item::station_at;
-use laying::Joint;
 use laying::Quick;
-use laying::lay_leg;
+use laying::joint_of;
+use laying::lay_line;
+use laying::lay_place;
 use laying::lay_section;
-use laying::lay_station;
 use short::Short;
-use short::short_item;
+use short::new_item;
+use short::old_item;
 use short::sides;
 
 // Whether a reader goes on; or is at the end, or at a refusal, for good.
@@ -340,6 +340,18 @@ fn full(bytes: &[u8; LABEL_LIMIT]) -> usize
     whole.len()
 }
 
+// The item at the front of s, after a label of len bytes, where it is one of the commonest.
+// (`short_item` has other callers, and so would not be joined to a step.)
+fn find_short(version: u8, s: &[u8], len: usize) -> Short
+    requires { ⌜ len ≤ labelLimit ⌝ }
+    ensures { λ r. ⌜ Finds r version (now (s .entry)) len ⌝ }
+{
+    if version < 8 {
+        return old_item(version, s, len);
+    }
+    new_item(s, len)
+}
+
 // The item at the front of s, in the state of a setting and a label, where it is one of
 // the commonest: its record, where it makes one, is laid over the front of `out`.
 fn lay_short(
@@ -353,29 +365,31 @@ fn lay_short(
     requires { ⌜ (len ≤ labelLimit) × (length (now bytes) ≡ labelLimit) ⌝ }
     ensures { λ r. ⌜ Quickly r (next version (now (s .entry)) (stateOf setting (take len (now (bytes .entry))))) (dropLeaves (take len (now (bytes .entry))) (itemOf version (now (s .entry)))) setting (now (bytes .entry)) (now (bytes .exit)) (now (out .entry)) (now (out .exit)) 0 ⌝ }
 {
-    let position = setting.position;
-    let it = short_item(version, s, len);
+    let it = find_short(version, s, len);
     match it {
         Short::Other => Quick::Other,
-        Short::Line { keep, add, flags } => match position {
-            Position::Unset => Quick::Other,
-            Position::Stands { point } => {
-                let leg = leg_at(s, add, flags, setting, point);
-                let size = 14 + add;
-                lay_leg(s, bytes, Joint { keep, add, size }, leg, out, 0)
-            }
-        },
+        Short::Line { keep, add, flags } => {
+            let joint = joint_of(keep, add, 14 + add, 0);
+            lay_line(s, bytes, joint, flags, setting, out)
+        }
+        Short::Again { flags } => {
+            let joint = joint_of(len, 0, 13, 0);
+            lay_line(s, bytes, joint, flags, setting, out)
+        }
         Short::Place { keep, add, flags } => {
-            let station = station_at(s, add, flags);
-            let size = 14 + add;
-            lay_station(s, bytes, Joint { keep, add, size }, station, out, 0)
+            let joint = joint_of(keep, add, 14 + add, 0);
+            lay_place(s, bytes, joint, flags, out)
         }
         Short::Section { keep, add, code } => {
-            let section = section_at(s, add, code, setting);
-            let size = 2 + add + sides(code);
-            lay_section(s, bytes, Joint { keep, add, size }, section, out, 0)
+            let joint = joint_of(keep, add, 2 + add + sides(code), 0);
+            let section = section_at(s, 2 + add, code, setting);
+            lay_section(s, bytes, joint, section, out)
         }
         Short::Trim { len: m } => Quick::Trim { len: m },
+        Short::Move => {
+            let to = get_point(&s[1..]);
+            Quick::Move { len, to }
+        }
     }
 }
 

@@ -108,7 +108,7 @@ fn take_next(
     let Short::Place { keep, add, flags } = it else {
         return item::take_item(version, s, bytes, len, setting);
     };
-    let station = station_at(s, add, flags);
+    let station = station_at(s, 2 + add, flags);
     label::extend(bytes, keep, &s[2..]);
     Step::Made {
         size: 14 + add,

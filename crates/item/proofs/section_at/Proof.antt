@@ -10,10 +10,6 @@ use Rattle.item.proofs.section_at.Lts as lts
 use Rattle.decode.proofs.long_dimensions.Reads as long-dimensions-reads
 use Rattle.decode.proofs.short_dimensions.Reads as short-dimensions-reads
 
--- src/lib.rt:317:18
-add-behind : tie.Need-add-behind
-add-behind c = search needs
-
 -- src/lib.rt:321:37
 sub-short-dimensions : tie.Need-sub-short-dimensions
 sub-short-dimensions c = search needs
@@ -62,7 +58,6 @@ pub section-at-spec : {M : Type 1} → statement M
 section-at-spec =
     tie.close
     (tie.spec
-    add-behind
     sub-short-dimensions
     part-short-dimensions-start
     part-short-dimensions-end
