@@ -1,13 +1,13 @@
 -- What the lister prints, case by case, and that the listing of the sheet that a file is read into is the listing of its header and
--- records. Assumes nothing.
+-- records: for a program that reads the file, and for one that steps through it. Assumes nothing.
 use mathlib.Core.Path.{_≡_, refl, sym, ap, _∙_}
-use mathlib.Core.List.{List}
-use Prim.Native.Nat.{ℕ, _≤_, _<_}
+use mathlib.Core.List.{List, [], _∷_}
+use Prim.Native.Nat.{ℕ, zero, suc, _≤_, _<_}
 use native.Mathlib.Omega.{arith}
 use borrow.Author.Tests.{lt-ltb, le-ltb}
 use lib.ListN.{length, take, drop}
 use lib.Seq.{take-at}
-use Rattle.format.specs.Bytes.{pick, over}
+use Rattle.format.specs.Bytes.{Bytes, pick, over}
 use Rattle.format.specs.Header.{Header, Opening, shut, opened, openingOf}
 use Rattle.format.specs.State.{Record}
 use Rattle.format.specs.Sheet.{sheetVersion, frontHeader, sheetResult, sheetOf}
@@ -16,6 +16,8 @@ use Rattle.format.specs.declared.Verdict.the-variants.{Good, Refusal}
 use Rattle.format.specs.WellFormed.{AllWellFormed, GoodHeader}
 use Rattle.format.specs.Reading.{itemsOf, readFrom, sheetFrom, readOutcome, readBuffer}
 use Rattle.format.proofs.SheetLaws.{sheet-records}
+use Rattle.format.proofs.HeaderLaws.{opening-fits}
+use Rattle.format.proofs.GoodRecords.{items-formed}
 use Rattle.format.proofs.RoundTrip.{accepted-means}
 use Rattle.listing.specs.Lines.{refusalLine, tooLongLine, inputLimit, listerSheetLimit, listingLimit, listingFrom, listerText, listingOf, sheetListing}
 
@@ -74,3 +76,40 @@ sheet-read file sheet b n w e = go (openingOf file) refl
         let s : readBuffer file sheet ≡ over S sheet = ap (λ (y : Outcome). bufferOf y (sheetFrom (openingOf file) file) sheet) (sym e)
         ∙ ap (λ (y : Opening). over (sheetFrom y file) sheet) q in
         ap (take b) s ∙ take-at S (drop (length S) sheet) b (sym (A .bytes-are)) ∙ ap (λ (y : Opening). sheetFrom y file) (sym q)
+
+-- ---- for a file, by its opening and its items
+
+-- the front of bytes is bytes
+pub bytes-take : (n : ℕ) (s : List ℕ) → Bytes s → Bytes (take n s)
+bytes-take zero s b i = omega arith
+bytes-take (suc n) [] b i = omega arith
+bytes-take (suc n) (x ∷ s) b zero = b 0
+bytes-take (suc n) (x ∷ s) b (suc i) = bytes-take n s (λ j. b (suc j)) i
+
+module _ (file : List ℕ) (fits : length file ≤ inputLimit) where
+  pub prints-shut : {n p : ℕ} → openingOf file ≡ shut n p → listerText file ≡ refusalLine n p
+  unfolding readOutcome
+  prints-shut o = prints-refusal file fits (rw o)
+
+  module _ {v p : ℕ} {h : Header} (o : openingOf file ≡ opened v p h) where
+    abbrev x : Result
+    x = itemsOf v p file
+
+    abbrev sheet : List ℕ
+    sheet = sheetOf sheetVersion h (x .records)
+
+    pub prints-refused : {n q : ℕ} → x .verdict ≡ Refusal n q → listerText file ≡ refusalLine n q
+    unfolding readOutcome
+    prints-refused e = prints-refusal file fits (rw (o, e))
+
+    -- "a sheet over 49,152 bytes gives 11"
+    pub prints-small : x .verdict ≡ Good → listerSheetLimit < length sheet → listerText file ≡ refusalLine 11 (length sheet)
+    unfolding readOutcome pick
+    prints-small e l = prints-refusal file fits (simp (o, e, lt-ltb _ _ l))
+
+    pub prints-whole : Bytes file → x .verdict ≡ Good → length sheet ≤ listerSheetLimit → listerText file ≡ sheetListing v sheet
+    unfolding readOutcome pick
+    prints-whole bytes e l =
+        prints-listing file fits {b = length sheet} {n = length (x .records)} {v = v} (simp (o, e, le-ltb _ _ l))
+        ∙ ap (λ (y : Opening). listingFrom y file) o
+        ∙ sym (sheet-listing v h (opening-fits file o .header) (x .records) (items-formed v p file bytes) (omega (arith, l)))

@@ -1,11 +1,16 @@
 //! The examples that list a file, in C, C++, Rust and Python, print the same,
-//! and what the proved lister prints. Those in C run under the sanitizers.
+//! and what the proved lister prints. Those in C run under the sanitizers. The
+//! proved program that lists a file by steps prints what the lister does.
 
+use generate::coder::{Coder, Form};
+use generate::files;
 use interface::tools::{
     compiled, folder, make, printed, root, run, survex_files, SANITIZERS, WARNINGS,
 };
+use interface::wanted;
 use std::env;
 use std::fs;
+use std::io::Write;
 use std::path::{Path, PathBuf};
 use std::process::{Command, Stdio};
 
@@ -114,20 +119,66 @@ fn lists_in_python() {
     });
 }
 
-/// The lister is a program in Rattle, which `rt` has built and run by the time
-/// the gate comes here.
+/// A program in Rattle, which `rt` has built and run by the time the gate comes
+/// here. Elsewhere it may be missing.
+fn proved(name: &str) -> Option<PathBuf> {
+    let program = root().join("target/bin").join(name);
+    let there = program.exists() || env::var_os("CI").is_some();
+    if !there {
+        println!("there is no {}: `rt check {name}` builds it", program.display());
+    }
+    there.then_some(program)
+}
+
+/// What a program prints for these bytes. It reads no more of them than it takes,
+/// so not all may be written.
+fn fed(program: &Path, bytes: &[u8]) -> Vec<u8> {
+    let mut command = Command::new(program);
+    let mut child = command.stdin(Stdio::piped()).stdout(Stdio::piped()).spawn().expect("it runs");
+    let _ = child.stdin.take().expect("its input").write_all(bytes);
+    child.wait_with_output().expect("it ends").stdout
+}
+
 #[test]
 fn the_proved_lister_prints_the_same() {
-    let lister = root().join("target/bin/lister");
-    if !lister.exists() && env::var_os("CI").is_none() {
-        println!("there is no {}: `rt check lister` builds it", lister.display());
-        return;
-    }
+    let Some(lister) = proved("lister") else { return };
     for path in survex_files() {
-        let mut command = Command::new(&lister);
-        command.stdin(Stdio::from(fs::File::open(&path).expect("a file")));
-        let lines = command.output().expect("the lister runs").stdout;
-        let due = interface::list::list(&fs::read(&path).expect("a file")).expect("a good file");
-        assert_eq!(String::from_utf8_lossy(&lines), due, "{path:?}");
+        let file = fs::read(&path).expect("a file");
+        let due = interface::list::list(&file).expect("a good file");
+        assert_eq!(String::from_utf8_lossy(&fed(&lister, &file)), due, "{path:?}");
     }
+}
+
+/// Sixteen stations of one label, the last of which has so many bytes more: their
+/// sheet takes 49,146 bytes and those.
+fn stations(more: usize) -> Vec<u8> {
+    let mut file = Coder::short(8);
+    file.station(4, (0, &[b'a'; 3055], Form::Least), [1, 2, 3]);
+    for _ in 0..14 {
+        file.station(4, (0, b"", Form::Least), [4, 5, 6]);
+    }
+    file.station(4, (0, &vec![b'b'; more], Form::Least), [7, 8, 9]).close().bytes.clone()
+}
+
+/// Whole files, damaged ones, and sheets and inputs at the program's limits and
+/// past them.
+#[test]
+fn the_lister_by_steps_prints_the_same() {
+    let (Some(lister), Some(steps)) = (proved("lister"), proved("steplister")) else { return };
+    let mut inputs: Vec<_> =
+        survex_files().iter().map(|path| fs::read(path).expect("a file")).collect();
+    let rounds = (0..24).flat_map(|round| files::round(wanted::seed(), round));
+    inputs.extend(rounds.map(|(_, file)| file));
+    inputs.extend([0, 6, 7, 1000].map(stations));
+    inputs.extend([16384, 16385, 70000].map(|size| vec![b'S'; size]));
+    let mut seen = [0; 4];
+    for input in &inputs {
+        let [due, text] = [&lister, &steps].map(|program| fed(program, input));
+        assert!(text == due, "{input:02x?}: {}", String::from_utf8_lossy(&text));
+        let kinds: [&[u8]; 4] = [b"version", b"refused 11 at", b"refused", b"too long"];
+        let kind = kinds.iter().position(|kind| due.starts_with(kind));
+        seen[kind.expect("a text of the lister")] += 1;
+    }
+    println!("{} inputs: listed, 11, refused, too long: {seen:?}", inputs.len());
+    assert!(seen.iter().all(|&count| count > 0), "{seen:?}");
 }

@@ -4,9 +4,9 @@ use mathlib.Core.Path.{sym, _∙_}
 use lib.ListN.{take, length-take}
 use lib.Seq.{length-take-le}
 use Rattle.read.proofs.Room.{read-room}
-use Rattle.listing.proofs.Lister.{prints-too-long}
+use Rattle.listing.proofs.Lister.{prints-too-long, bytes-take}
 use Rattle.listing.proofs.Stores.{wrote-front}
-use Rattle.lister.proofs.Laws.{bytes-take, text-refused, text-listing}
+use Rattle.lister.proofs.Laws.{text-refused, text-listing}
 use borrow.Author.Needs.{needs}
 use Rattle.lister.proofs.text_of.Statement.{statement}
 use Rattle.lister.proofs.text_of.Tie as tie
