@@ -1,32 +1,76 @@
 -- A turn of the judging loop, on plain values: what is left of the file, with what the index knows, comes to the same verdict as the whole. Assumes
 -- nothing.
 use mathlib.Core.Path.{_≡_, refl, sym, ap, _∙_}
-use mathlib.Core.List.{List, [], _∷_}
+use mathlib.Core.List.{List, [], _∷_, _++_, append-nil}
 use Prim.Native.Nat.{ℕ, _+_, _-_, _≤_, _<_}
 use native.Mathlib.Omega.{arith}
-use lib.ListN.{length, take, drop}
-use borrow.Author.Tests.{lt-ltb, le-ltb}
-use Rattle.format.specs.Bytes.{pick}
-use Rattle.format.specs.State.{State, startSetting, start, Record, Next}
-use Rattle.format.specs.Refusals.{Result, stop, also}
+use lib.ListN.{length, take, drop, replicate}
+use lib.Seq.{length-take-le, take-length, drop-length}
+use borrow.Rule.Slice.PartAt.{part-to-end}
+use Rattle.format.specs.State.{State, startSetting, start, Record, Next, bad, end, on, made}
+use Rattle.format.specs.Refusals.{Result, also}
 use Rattle.format.specs.Reading.{next, ended}
-use Rattle.format.specs.Fields.{recordOf, stateOf}
-use Rattle.format.specs.declared.Fields.{Fields}
+use Rattle.format.specs.Fields.{stateOf}
 use Rattle.format.specs.declared.Setting.{Setting}
 use Rattle.format.specs.declared.Verdict.{Verdict}
-use Rattle.format.specs.declared.Verdict.the-variants.{Good, Refusal}
+use Rattle.format.specs.declared.Verdict.the-variants.{Refusal}
 use Rattle.format.proofs.ReadingLaws.{Within, there-within}
 use Rattle.item.specs.Seen.{seen, Tells}
 use Rattle.item.specs.declared.Step.{Step}
-use Rattle.item.specs.declared.Step.the-variants.{Bad, End, On, Made}
 use Rattle.label.specs.declared.Label.{Label}
 use Rattle.table.specs.Entries.{entriesOf, lookup, roomOf}
 use Rattle.table.specs.Told.{Holds}
 use Rattle.table.specs.declared.Index.{Index}
 use Rattle.strict.specs.Strict.{searched, taken, Judgement, fine, faulty, judged, Stand, unless, afterStrictly, strictRun, strictItems}
-use Rattle.strict.specs.Indexed.{asSearched, Knows, JudgedTo, JudgesIn}
-use Rattle.strict.specs.declared.Judged.the-variants.{Faulty, Fine}
+use Rattle.strict.specs.Indexed.{Knows, unlessFaulty, strictNext, Goes, behind, TurnedTo, TurnsIn}
+use Rattle.strict.specs.declared.Turned.{Turned}
+use Rattle.strict.specs.declared.Turned.the-variants.{Bad, End, Went}
 use Rattle.strict.proofs.StrictLaws.{strict-left}
+
+-- ---- the verdict goes by what an item comes to strictly
+
+module _ (room at : ℕ) (s : List ℕ) (earlier : List Record) (go : ℕ → Stand → Result) where
+  abbrev pub verdictBy : Next → Verdict
+  verdictBy (bad k) = Refusal k at
+  verdictBy end = ended at s
+  verdictBy (on n st) = go n (record { state = st; earlier = earlier }) .verdict
+  verdictBy (made n r st) = go n (record { state = st; earlier = r ∷ earlier }) .verdict
+
+  pub after-next : (x : Next) → afterStrictly x room at s earlier go .verdict ≡ verdictBy (strictNext room earlier x)
+  after-next (bad k) = refl
+  after-next end = refl
+  after-next (on n st) = refl
+  after-next (made n r st) = by-judgement (judged room earlier r)
+    where
+      by-judgement : (j : Judgement)
+          → unless j at (also r (go n (record { state = st; earlier = r ∷ earlier }))) .verdict ≡ verdictBy (unlessFaulty j (made n r st))
+      by-judgement fine = refl
+      by-judgement (faulty k) = refl
+
+  pub goes-verdict : (x : Next) (n : ℕ) (st : State) → Goes x n st → verdictBy x ≡ go n (record { state = st; earlier = behind x earlier }) .verdict
+  goes-verdict (bad k) n st g = absurd g
+  goes-verdict end n st g = absurd g
+  goes-verdict (on k s) n st g = rw (g .0, g .1)
+  goes-verdict (made k r s) n st g = rw (g .0, g .1)
+
+-- the item's bytes are there, and it makes one record at most
+module _ (room m at : ℕ) (earlier : List Record) where
+  pub next-within : (x : Next) → Within m at x → Within m at (strictNext room earlier x)
+  next-within (bad k) z = z
+  next-within end z = z
+  next-within (on n st) z = z
+  next-within (made n r st) z = by-judgement (judged room earlier r)
+    where
+      by-judgement : (j : Judgement) → Within m at (unlessFaulty j (made n r st))
+      by-judgement fine = z
+      by-judgement (faulty k) = tt
+
+  pub goes-within : (x : Next) (n : ℕ) (st : State) → Within m at x → Goes x n st
+      → (1 ≤ n) × (at + n ≤ m) × (length (behind x earlier) ≤ length earlier + 1)
+  goes-within (bad k) n st z g = absurd g
+  goes-within end n st z g = absurd g
+  goes-within (on k s) n st z g = (omega (arith, z, g .0), omega (arith, z, g .0), omega arith)
+  goes-within (made k r s) n st z g = (omega (arith, z, g .0), omega (arith, z, g .0), omega arith)
 
 abbrev pub text : Label → List ℕ
 text label = take (label .len) (label .bytes)
@@ -50,9 +94,9 @@ knows-none : (room : List ℕ) (i : Index) → Holds room i → entriesOf room (
 unfolding searched taken lookup roomOf
 knows-none room i h e z = record { holds = h; answers = λ name. rw e; takes = rw e; few = omega arith }
 
-pub going-first : (version : ℕ) (file : List ℕ) (place : ℕ) (room : List ℕ) (label : Label) (setting : Setting) (i : Index) → setting ≡ startSetting → label .len ≡ 0
-    → place ≤ length file → length (label .bytes) ≡ 4096 → Holds room i → entriesOf room (i .count) ≡ [] → i .count ≡ 0
-    → Going version file place room room place label setting i
+pub going-first : (version : ℕ) (file : List ℕ) (place : ℕ) (room : List ℕ) (label : Label) (setting : Setting) (i : Index)
+    → setting ≡ startSetting → label .len ≡ 0 → place ≤ length file → length (label .bytes) ≡ 4096
+    → Holds room i → entriesOf room (i .count) ≡ [] → i .count ≡ 0 → Going version file place room room place label setting i
 unfolding strictItems
 going-first version file place room label setting i f z h w g e n =
     let s : stateOf setting (text label) ≡ start = rw (f, z) in
@@ -79,62 +123,62 @@ module _ (version : ℕ) (file : List ℕ) (place : ℕ) (room₀ room : List �
   abbrev pub Told : Step → List ℕ → Type 0
   Told it b = Tells it b (next version (take (length file - at) (drop at file)) state)
 
-  -- by what the item comes to
-  turn : (it : Step) (b : List ℕ) → Told it b
-      → afterStrictly (seen it b) (length room₀) at (drop at file) (G .earlier) (λ n z. strictRun version (length room₀) (at + n) (drop (at + n) file) z) .verdict ≡ whole
-  turn it b T = sym (ap (λ (x : Result). x .verdict) (strict-left version (length room₀) file at (record { state = state; earlier = G .earlier }) (T .same))) ∙ G .same
+  -- the index has room for one more in its counts
+  pub count-few : length file ≤ 16777216 → 2 ≤ place → i .count < 16777215
+  count-few h k = omega (arith, G .inside, G .few, G .knows .few)
 
-  pub ends-bad : (k : ℕ) (b : List ℕ) → Told (Bad k) b → Refusal k at ≡ whole
-  ends-bad k b T = turn (Bad k) b T
+  module _ (it : Step) (b : List ℕ) (T : Told it b) where
+    abbrev onto : ℕ → Stand → Result
+    onto n z = strictRun version (length room₀) (at + n) (drop (at + n) file) z
 
-  pub ends-after : (b : List ℕ) → Told End b → 1 < length (drop at file) → Refusal 10 (at + 1) ≡ whole
-  unfolding ended pick
-  ends-after b T h = simp (lt-ltb _ _ h) at (turn End b T)
+    abbrev x : Next
+    x = strictNext (length room₀) (G .earlier) (seen it b)
 
-  pub ends-done : (b : List ℕ) → Told End b → length (drop at file) ≤ 1 → Good ≡ whole
-  unfolding ended pick
-  ends-done b T h = simp (le-ltb _ _ h) at (turn End b T)
+    -- by what the item comes to
+    turn : verdictBy (length room₀) at (drop at file) (G .earlier) onto x ≡ whole
+    turn =
+        let l = strict-left version (length room₀) file at (record { state = state; earlier = G .earlier }) (T .same) in
+        sym (after-next (length room₀) at (drop at file) (G .earlier) onto (seen it b)) ∙ (sym (ap (λ (y : Result). y .verdict) l) ∙ G .same)
 
-  -- the item's bytes are there; which buffer they are seen by is all one
-  pub item-within : (it : Step) (b : List ℕ) → Told it b → Within (length file) at (seen it [])
-  item-within (Bad k) b T = tt
-  item-within End b T = tt
-  item-within (On n m st) b T = there-within version file at state (G .inside) (T .same)
-  item-within (Made n m st f own) b T = there-within version file at state (G .inside) (T .same)
+    -- what its judgement tells
+    due : (a : Turned) (room′ : List ℕ) → TurnsIn a room room′ i b (seen it b) → TurnedTo a room′ b (G .earlier) x
+    due a room′ S = rw (G .kept) at (S (G .earlier) (G .knows))
 
-  pub going-on : (n m : ℕ) (st : Setting) (b : List ℕ) → Told (On n m st) b → Going version file place room₀ room (at + n) (record { bytes = b; len = m }) st i
-  going-on n m st b T =
-      let z = item-within (On n m st) b T in
-      record { earlier = G .earlier; knows = G .knows; inside = z .1; short = T .short; whole = T .whole; kept = G .kept; few = omega (arith, G .few); same = turn (On n m st) b T }
+    -- where it ends, the index after it is all one
+    pub ends-bad : (k : ℕ) → TurnsIn (Bad k) room room i b (seen it b) → Refusal k at ≡ whole
+    ends-bad k S = sym (ap (verdictBy (length room₀) at (drop at file) (G .earlier) onto) (due (Bad k) room S)) ∙ turn
 
-  -- an item that makes a record, and the judgement of it
-  module _ (n m : ℕ) (st : Setting) (f : Fields) (own : ℕ) (b : List ℕ) (T : Told (Made n m st f own) b) where
-    abbrev r : Record
-    r = recordOf f (take m b)
+    pub ends-end : TurnsIn End room room i b (seen it b) → ended at (take (length file - at) (drop at file)) ≡ whole
+    ends-end S = rw (part-to-end file at) (sym (ap (verdictBy (length room₀) at (drop at file) (G .earlier) onto) (due End room S)) ∙ turn)
 
-    due : judged (length room) (G .earlier) r ≡ judged (length room₀) (G .earlier) r
-    due = ap (λ (k : ℕ). judged k (G .earlier) r) (G .kept)
+    pub onward : (n m : ℕ) (st : Setting) (j : Index) (room′ : List ℕ) → length room′ ≡ length room → TurnsIn (Went n m st j) room room′ i b (seen it b)
+        → (1 ≤ n) × (at + n ≤ length file) × Going version file place room₀ room′ (at + n) (record { bytes = b; len = m }) st j
+    onward n m st j room′ l S =
+        let d = due (Went n m st j) room′ S in
+        let y = there-within version file at state (G .inside) (T .same) in
+        let w = next-within (length room₀) (length file) at (G .earlier) (seen it b) y in
+        let z = goes-within (length room₀) (length file) at (G .earlier) x n (stateOf st (take m b)) w (d .0) in
+        let e = goes-verdict (length room₀) at (drop at file) (G .earlier) onto x n (stateOf st (take m b)) (d .0) in (
+          z .0,
+          z .1,
+          record {
+            earlier = behind x (G .earlier);
+            knows = d .2;
+            inside = z .1;
+            short = d .1;
+            whole = T .whole;
+            kept = l ∙ G .kept;
+            few = omega (arith, z .0, z .2, G .few);
+            same = sym e ∙ turn;
+          },
+        )
 
-    -- the index has room for one more in its counts
-    pub count-few : length file ≤ 16777216 → 2 ≤ place → i .count < 16777215
-    count-few h k = let z = item-within (Made n m st f own) b T in omega (arith, G .few, G .knows .few)
+-- ---- the room cleared
 
-    pub ends-faulty : (k : ℕ) → ((earlier : List Record) → Knows room i earlier → judged (length room) earlier r ≡ faulty k) → Refusal k at ≡ whole
-    ends-faulty k J = let e = sym due ∙ J (G .earlier) (G .knows) in rw e at (turn (Made n m st f own) b T)
+-- its first k bytes are so many
+pub counted : (x : List ℕ) (k : ℕ) → k ≤ length x → k ≡ length (take k x)
+counted x k h = sym (length-take-le k x h)
 
-    pub going-fine : (j : Index) (room′ : List ℕ) → length room′ ≡ length room → JudgesIn (Fine j) room room′ i r
-        → Going version file place room₀ room′ (at + n) (record { bytes = b; len = m }) st j
-    going-fine j room′ l J =
-        let z = item-within (Made n m st f own) b T in
-        let d = J (G .earlier) (G .knows) in
-        let e = sym due ∙ d .0 in
-        record {
-          earlier = r ∷ G .earlier;
-          knows = d .1;
-          inside = z .1;
-          short = T .short;
-          whole = T .whole;
-          kept = l ∙ G .kept;
-          few = omega (arith, G .few);
-          same = rw e at (turn (Made n m st f own) b T);
-        }
+-- zeros in as many of them as there are
+pub all-cleared : (x zeros : List ℕ) (n : ℕ) → zeros ≡ replicate (length (take (length x) x)) 0 → length x ≡ n → zeros ++ drop (length x) x ≡ replicate n 0
+all-cleared x zeros n z l = rw (drop-length x, append-nil zeros) (z ∙ rw (take-length x, l))

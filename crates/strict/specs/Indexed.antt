@@ -2,18 +2,20 @@
 use Prim.Native.Nat.{ℕ, _≤_}
 use mathlib.Core.Path.{_≡_}
 use mathlib.Core.List.{List, _∷_}
-use lib.ListN.{length}
-use Rattle.format.specs.State.{Record, station, section}
-use Rattle.format.specs.Answers.{answerOf}
-use Rattle.format.specs.declared.Answer.{Answer}
+use lib.ListN.{length, take}
+use Rattle.format.specs.Fields.{stateOf}
+use Rattle.format.specs.Label.{labelLimit}
+use Rattle.format.specs.State.{State, Record, station, section, Next, bad, end, on, made}
 use Rattle.format.specs.declared.Point.{Point}
 use Rattle.format.specs.declared.Section.{Section}
 use Rattle.table.specs.Entries.{Answer as Looked, somewhere, nowhere, lookup, roomOf, entriesOf}
 use Rattle.table.specs.Told.{Holds}
 use Rattle.table.specs.declared.Index.{Index}
-use Rattle.strict.specs.Strict.{Searched, found, unknown, searched, taken, Judgement, fine, faulty, judged, strictOutcome, strictBuffer}
+use Rattle.strict.specs.Strict.{Searched, found, unknown, searched, taken, Judgement, fine, faulty, judged}
 use Rattle.strict.specs.declared.Judged.{Judged}
 use Rattle.strict.specs.declared.Judged.the-variants.{Faulty, Fine}
+use Rattle.strict.specs.declared.Turned.{Turned}
+use Rattle.strict.specs.declared.Turned.the-variants.{Bad, End, Went}
 
 abbrev pub asSearched : Looked → Searched
 asSearched (somewhere p) = found p
@@ -42,7 +44,40 @@ JudgesStation a before after i name p = (flags : ℕ) → JudgesIn a before afte
 abbrev pub JudgesSection : Judged → List ℕ → Index → List ℕ → Type 0
 JudgesSection a room i name = (g : Section) → JudgesIn a room room i (section g name)
 
--- an answer and the sheet after it are what strict reading gives
-pub record StrictlyTo (file old : List ℕ) (index : ℕ) (a : Answer) (sheet : List ℕ) : Type 0 where
-  pub answer : answerOf a ≡ strictOutcome file index (length old)
-  pub buffer : sheet ≡ strictBuffer file index old
+-- ---- an item
+
+-- one that makes a faulty record is refused
+abbrev pub unlessFaulty : Judgement → Next → Next
+unlessFaulty fine x = x
+unlessFaulty (faulty k) x = bad k
+
+-- what an item comes to after the records made so far, where reading says what it comes to, with so much room for names
+abbrev pub strictNext : ℕ → List Record → Next → Next
+strictNext room earlier (made n r st) = unlessFaulty (judged room earlier r) (made n r st)
+strictNext room earlier (on n st) = on n st
+strictNext room earlier (bad k) = bad k
+strictNext room earlier end = end
+
+-- an item of n bytes, with this state after it
+abbrev pub Goes : Next → ℕ → State → Type 0
+Goes (bad k) n st = ⊥
+Goes end n st = ⊥
+Goes (on k s) n st = (k ≡ n) × (s ≡ st)
+Goes (made k r s) n st = (k ≡ n) × (s ≡ st)
+
+-- the records made after it
+abbrev pub behind : Next → List Record → List Record
+behind (made n r st) earlier = r ∷ earlier
+behind (bad k) earlier = earlier
+behind end earlier = earlier
+behind (on n st) earlier = earlier
+
+-- what an item comes to, and the index after it: b is the label's buffer
+abbrev pub TurnedTo : Turned → List ℕ → List ℕ → List Record → Next → Type 0
+TurnedTo (Bad k) room b earlier x = x ≡ bad k
+TurnedTo End room b earlier x = x ≡ end
+TurnedTo (Went n m st i) room b earlier x = Goes x n (stateOf st (take m b)) × (m ≤ labelLimit) × Knows room i (behind x earlier)
+
+-- whatever came earlier, where the index knows it
+abbrev pub TurnsIn : Turned → List ℕ → List ℕ → Index → List ℕ → Next → Type 0
+TurnsIn a before after i b x = (earlier : List Record) → Knows before i earlier → TurnedTo a after b earlier (strictNext (length before) earlier x)
