@@ -297,6 +297,24 @@ fn put_line(
 
 // ---- the codes of a record, from the front of out on
 
+fn leg_of(
+    flags: u8,
+    style: u8,
+    date: format::Dated,
+    from: format::Point,
+    to: format::Point,
+) -> format::Leg
+    ensures { λ r. ⌜ r ≡ record { flags = flags; style = style; date = date; from = from; to = to } ⌝ }
+{
+    format::Leg {
+        flags,
+        style,
+        date,
+        from,
+        to,
+    }
+}
+
 fn put_leg(
     out: &mut [u8],
     setting: format::Setting,
@@ -424,13 +442,7 @@ pub fn put_record(
             from,
             to,
         } => {
-            let leg = format::Leg {
-                flags,
-                style,
-                date,
-                from,
-                to,
-            };
+            let leg = leg_of(flags, style, date, from, to);
             put_leg(out, setting, last, name, leg)
         }
         format::Fields::Station { station } => put_station(out, last, name, station),
