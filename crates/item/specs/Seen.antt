@@ -3,11 +3,13 @@ use Prim.Native.Nat.{ℕ, _≤_}
 use mathlib.Core.Path.{_≡_}
 use mathlib.Core.List.{List}
 use lib.ListN.{length, take}
-use Rattle.format.specs.Label.{labelLimit}
+use Rattle.format.specs.Label.{Labelled, labelLimit}
 use Rattle.format.specs.declared.Kept.{Kept}
 use Rattle.format.specs.declared.Kept.the-variants.{Keeps}
-use Rattle.format.specs.State.{State, station, section, named, Next, bad, end, on, made, legFrom}
+use Rattle.format.specs.State.{State, station, section, named, Next, bad, end, on, made, onLabel, legFrom}
 use Rattle.format.specs.Fields.{recordOf, stateOf}
+use Rattle.label.specs.Seen.{Tells as LabelTells, TellsKept as LabelTellsKept}
+use Rattle.label.specs.declared.Relabelled.{Relabelled}
 use Rattle.decode.specs.declared.Body.{Body}
 use Rattle.decode.specs.declared.Body.the-variants.{Only, Section as SectionBody, Station as StationBody, Line as LineBody}
 use Rattle.item.specs.declared.Step.{Step}
@@ -60,3 +62,9 @@ madeOf (LineBody flags place) st n l = legFrom (st .setting .position) n st flag
 pub record Does (r : Step) (f : List ℕ → Next) (len : ℕ) : Type 0 where
   pub same : (b : List ℕ) → seen r b ≡ f b
   pub short : len ≤ labelLimit → Short r
+
+-- ---- a step behind a label step: what the label step tells of a buffer, it tells of the item, and how many bytes stayed
+
+pub record Follows (r : Step) (after : Relabelled) (go : List ℕ → Next) : Type 0 where
+  pub tells : (b : List ℕ) (x : Labelled) → LabelTells after b x → Tells r b (onLabel x go)
+  pub stays : (x : Kept) → LabelTellsKept after x → TellsStayed r x

@@ -6,7 +6,6 @@ use decode::decode;
 use decode::get_point;
 use decode::long_dimensions;
 use decode::short_dimensions;
-use format::Cut;
 use format::Dated;
 use format::Fields;
 use format::LABEL_LIMIT;
@@ -16,6 +15,7 @@ use format::Position;
 use format::Section;
 use format::Setting;
 use format::Station;
+use format::Traverse;
 use label::Relabelled;
 use label::label_step;
 ghost use mathlib.Core.Path.{_≡_};
@@ -23,13 +23,14 @@ ghost use mathlib.Core.List.{[]};
 ghost use Prim.Native.Nat.{ℕ, _+_, _≤_, _<_};
 ghost use lib.ListN.{length, take, drop};
 ghost use Rattle.format.specs.Items.{Style as styleItem, Date as dateItem, itemOf};
-ghost use Rattle.format.specs.Label.{keptOf, labelStep, labelLimit};
+ghost use Rattle.format.specs.Label.{labelLimit};
 ghost use Rattle.format.specs.Outline.{dropLeaves};
-ghost use Rattle.format.specs.State.{dateOf, apply, onLabel};
+ghost use Rattle.format.specs.State.{dateOf, apply};
 ghost use Rattle.format.specs.Fields.{stateOf};
+ghost use Rattle.format.specs.declared.Fields.the-variants.{Error as errorFields};
 ghost use Rattle.format.specs.Reading.{next};
 ghost use Rattle.short.specs.Brief.{legAt, stationAt, sectionAt};
-ghost use Rattle.item.specs.Seen.{Does, Tells, TellsKept, TellsStayed, madeOf};
+ghost use Rattle.item.specs.Seen.{Does, Tells, TellsKept, Follows, madeOf};
 
 // What an item comes to: a refusal; the end; its size and the label's new length,
 // with the setting after it; the same with a record, and how many bytes of the label
@@ -201,27 +202,34 @@ pub fn made_step(size: usize, len: usize, setting: Setting, body: Body, kept: us
     }
 }
 
-// An item that changes the label: 6 and 7 before all else.
-fn relabel_step(
-    s: &[u8],
-    bytes: &mut [u8; LABEL_LIMIT],
-    len: usize,
-    setting: Setting,
-    size: usize,
-    cut: Cut,
-    from: usize,
-    count: usize,
-    body: Body,
-) -> Step
-    requires { ⌜ (len ≤ labelLimit) × (length (now bytes) ≡ labelLimit) × (from + count ≤ length (now s)) ⌝ }
-    ensures { λ r. ⌜ Tells r (now (bytes .exit)) (onLabel (labelStep (take len (now (bytes .entry))) cut (take count (drop from (now (s .entry))))) (λ l. madeOf body (stateOf setting []) size l)) × TellsStayed r (keptOf (take len (now (bytes .entry))) cut) ⌝ }
+// An item that changes the label, by what its label step came to: 6 and 7 before all else.
+fn relabel_step(after: Relabelled, size: usize, setting: Setting, body: Body) -> Step
+    ensures { λ r. ⌜ Follows r after (λ l. madeOf body (stateOf setting []) size l) ⌝ }
 {
-    let to = from + count;
-    let after = label_step(bytes, len, cut, &s[from..to]);
     match after {
         Relabelled::TooShort => Step::Bad { number: 6 },
         Relabelled::TooLong => Step::Bad { number: 7 },
-        Relabelled::Fits { len: m, kept } => made_step(size, m, setting, body, kept),
+        Relabelled::Fits { len, kept } => made_step(size, len, setting, body, kept),
+    }
+}
+
+// An item that makes no record.
+fn on_step(size: usize, len: usize, setting: Setting) -> Step
+    ensures { λ r. ⌜ r ≡ Step.On size len setting ⌝ }
+{
+    Step::On { size, len, setting }
+}
+
+// An error record.
+fn error_step(len: usize, setting: Setting, traverse: Traverse) -> Step
+    ensures { λ r. ⌜ r ≡ Step.Made 21 len setting (errorFields traverse) 0 ⌝ }
+{
+    Step::Made {
+        size: 21,
+        len,
+        setting,
+        fields: Fields::Error { traverse },
+        kept: 0,
     }
 }
 
@@ -244,38 +252,24 @@ pub fn take_item(
             if len == 0 {
                 return Step::End;
             }
-            Step::On {
-                size: 1,
-                len: 0,
-                setting,
-            }
+            on_step(1, 0, setting)
         }
         Item::Style { style } => style_step(style, len, setting),
-        Item::Move { place } => Step::On {
-            size: 13,
-            len,
-            setting: with_position(setting, place),
-        },
-        Item::NoDate => Step::On {
-            size: 1,
-            len,
-            setting: with_date(setting, Dated::Undated),
-        },
+        Item::Move { place } => on_step(13, len, with_position(setting, place)),
+        Item::NoDate => on_step(1, len, with_date(setting, Dated::Undated)),
         Item::Date { size, first, last } => date_step(size, first, last, len, setting),
-        Item::Error { traverse } => Step::Made {
-            size: 21,
-            len,
-            setting,
-            fields: Fields::Error { traverse },
-            kept: 0,
-        },
+        Item::Error { traverse } => error_step(len, setting, traverse),
         Item::Relabel {
             size,
             cut,
             from,
             count,
             body,
-        } => relabel_step(s, bytes, len, setting, size, cut, from, count, body),
+        } => {
+            let to = from + count;
+            let after = label_step(bytes, len, cut, &s[from..to]);
+            relabel_step(after, size, setting, body)
+        }
     }
 }
 
