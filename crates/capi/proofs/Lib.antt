@@ -1,3 +1,3 @@
-mod Stands
+mod Goings
 mod Digests
 mod Tells

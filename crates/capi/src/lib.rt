@@ -28,8 +28,6 @@ ghost use Rattle.told.specs.Summaries.{summaryNumbers, entranceNumbers};
 use format::LABEL_LIMIT;
 use format::Origin;
 use format::Reached;
-use format::Stepped;
-use held::Brief;
 use held::STAND_NUMBERS;
 use read::Salvaged;
 use sha256::BLOCK;
@@ -221,26 +219,6 @@ pub extern "C" fn cockledrift_open(file: &[u8], state: &mut [u64; STAND_NUMBERS]
     told::tell_open(o)
 }
 
-// One step by the general way.
-fn any_step(
-    file: &[u8],
-    state: &mut [u64; STAND_NUMBERS],
-    label: &mut [u8; LABEL_LIMIT],
-    out: &mut [u8],
-) -> StepNumbers
-    ensures answer { λ r. ⌜ r ≡ stepNumbers (stepOf (stateStand (now (state .entry)) (now (label .entry))) (now (file .entry)) (length (now (out .entry))) .answer) ⌝ }
-    ensures stand { λ _. ⌜ stateStand (now (state .exit)) (now (label .exit)) ≡ stepOf (stateStand (now (state .entry)) (now (label .entry))) (now (file .entry)) (length (now (out .entry))) .stand ⌝ }
-    ensures record { λ _. ⌜ now (out .exit) ≡ stepBuffer (stateStand (now (state .entry)) (now (label .entry))) (now (file .entry)) (now (out .entry)) ⌝ }
-{
-    let stand = held::held_of(state);
-    let t = step::step_at(file, stand, label, out);
-    let next = t.stand;
-    let answer = t.answer;
-    let numbers = held::numbers_of(next);
-    *state = numbers;
-    told::tell_step(answer)
-}
-
 // One step of a reader, from whatever the state and the label's buffer hold: exactly one
 // item, or the end or the refusal again.
 #[no_mangle]
@@ -254,15 +232,12 @@ pub extern "C" fn cockledrift_step(
     ensures stand { λ _. ⌜ stateStand (now (state .exit)) (now (label .exit)) ≡ stepOf (stateStand (now (state .entry)) (now (label .entry))) (now (file .entry)) (length (now (out .entry))) .stand ⌝ }
     ensures record { λ _. ⌜ now (out .exit) ≡ stepBuffer (stateStand (now (state .entry)) (now (label .entry))) (now (file .entry)) (now (out .entry)) ⌝ }
 {
-    let short = held::short_step(file, state, label, out);
-    match short {
-        Brief::Record { bytes, kept } => told::tell_step(Stepped::Record { bytes, kept }),
-        Brief::Nothing => told::tell_step(Stepped::Nothing),
-        Brief::Other => any_step(file, state, label, out),
-    }
+    let answer = held::one_step(file, state, label, out);
+    told::tell_step(answer)
 }
 
-// Steps on to the next record, the end or a refusal: never answers 2.
+// Steps on to the next record, the end or a refusal: never answers 2. Each item on the way
+// takes a byte of the file, so there are no more steps than bytes and one.
 #[no_mangle]
 pub extern "C" fn cockledrift_next(
     file: &[u8],
@@ -274,13 +249,17 @@ pub extern "C" fn cockledrift_next(
     ensures stand { λ _. ⌜ stateStand (now (state .exit)) (now (label .exit)) ≡ nextRecord (stateStand (now (state .entry)) (now (label .entry))) (now (file .entry)) (length (now (out .entry))) .stand ⌝ }
     ensures record { λ _. ⌜ now (out .exit) ≡ nextBuffer (stateStand (now (state .entry)) (now (label .entry))) (now (file .entry)) (now (out .entry)) ⌝ }
 {
-    let stand = held::held_of(state);
-    let t = step::next_at(file, stand, label, out);
-    let reached = t.stand;
-    let found = t.answer;
-    let numbers = held::numbers_of(reached);
-    *state = numbers;
-    told::tell_step(found)
+    let mut left = file.len();
+    loop {
+        let answer = cockledrift_step(file, state, label, out);
+        if answer.what != 2 {
+            return answer;
+        }
+        if left == 0 {
+            return answer;
+        }
+        left -= 1;
+    }
 }
 
 // Writes the SHA-256 of bytes to the lent digest.

@@ -5,16 +5,18 @@ use format::LABEL_LIMIT;
 use format::Point;
 use format::Position;
 use format::Setting;
+use format::Stepped;
 use laying::Quick;
 use step::Phase;
 use step::Stand;
 ghost use mathlib.Core.Path.{_≡_};
 ghost use Prim.Native.Nat.{_+_, _%_, _≤_, _<_};
 ghost use Rattle.format.specs.Label.{labelLimit};
+ghost use Rattle.format.specs.Answers.{steppedOf};
 ghost use Rattle.held.specs.declared.Brief.the-variants.{Record as RecordBrief};
 ghost use Rattle.format.specs.declared.Position.the-variants.{Stands};
 ghost use Rattle.held.specs.Numbers.{phaseOf, dateOf, positionOf, heldOf, standsAt};
-ghost use Rattle.held.specs.Shortly.{Briefly};
+ghost use Rattle.held.specs.Shortly.{Briefly, StepsOn};
 
 // How many numbers a stand takes.
 pub const STAND_NUMBERS: usize = 14;
@@ -348,5 +350,43 @@ pub fn short_step(
             lead_on(s, stand.place + 13, len, to);
             Brief::Nothing
         }
+    }
+}
+
+// ---- one step over any item
+
+// One step by the general way.
+fn any_step(
+    file: &[u8],
+    s: &mut [u64; STAND_NUMBERS],
+    bytes: &mut [u8; LABEL_LIMIT],
+    out: &mut [u8],
+) -> Stepped
+    ensures { λ r. ⌜ StepsOn (steppedOf r) (now (s .entry)) (now (bytes .entry)) (now (file .entry)) (now (out .entry)) (now (s .exit)) (now (bytes .exit)) (now (out .exit)) ⌝ }
+{
+    let stand = held_of(s);
+    let t = step::step_at(file, stand, bytes, out);
+    let next = t.stand;
+    let answer = t.answer;
+    let numbers = numbers_of(next);
+    *s = numbers;
+    answer
+}
+
+// One step from the stand that the numbers say: exactly one item, one of the commonest by
+// its arm, or the end or the refusal again.
+pub fn one_step(
+    file: &[u8],
+    s: &mut [u64; STAND_NUMBERS],
+    bytes: &mut [u8; LABEL_LIMIT],
+    out: &mut [u8],
+) -> Stepped
+    ensures { λ r. ⌜ StepsOn (steppedOf r) (now (s .entry)) (now (bytes .entry)) (now (file .entry)) (now (out .entry)) (now (s .exit)) (now (bytes .exit)) (now (out .exit)) ⌝ }
+{
+    let brief = short_step(file, s, bytes, out);
+    match brief {
+        Brief::Record { bytes: n, kept } => Stepped::Record { bytes: n, kept },
+        Brief::Nothing => Stepped::Nothing,
+        Brief::Other => any_step(file, s, bytes, out),
     }
 }
