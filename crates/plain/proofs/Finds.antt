@@ -4,7 +4,8 @@ use mathlib.Core.Path.{_≡_, sym, ap, _∙_}
 use mathlib.Core.List.{List, _∷_, _++_}
 use mathlib.Core.Bool.{true, false, _&&_}
 use native.Mathlib.Omega.{arith}
-use lib.ListN.{length, drop, length-take, length-drop}
+use lib.ListN.{length, take, drop, length-take, length-drop}
+use lib.Seq.{drop-drop, drop-at, take-add, length-take-le}
 use lib.Dec.{leb}
 use borrow.Author.Tests.{leb-true, le-ltb}
 use Rattle.format.specs.Bytes.{same}
@@ -16,7 +17,7 @@ use Rattle.format.proofs.Basics.{both, less-or-not}
 use Rattle.wire.proofs.Laws.{common-within}
 use Rattle.part.proofs.Labels.{first-longer, second-longer, part-short}
 use Rattle.sheet.specs.Seen.{labelOf}
-use Rattle.plain.specs.Plainly.{labelAt, tailOf, Goes, Headed, Plainly}
+use Rattle.plain.specs.Plainly.{labelAt, tailOf, Goes, Headed, Plainly, plainCodes}
 use Rattle.plain.specs.declared.Form.{Form}
 
 unequal : false ≡ true → ⊥
@@ -45,6 +46,13 @@ differ l m e =
     let y : length m - common l m ≤ 0 = omega arith in
     absurd (unequal (rw (le-ltb 0 (length l - common l m) x, le-ltb 0 (length m - common l m) y) at
     (both (leb (length l - common l m) 15 && leb (length m - common l m) 15) _ e .1)))
+
+-- what is left of a front of m
+pub drop-take : (k m : ℕ) (l : List ℕ) → k ≤ m → m ≤ length l → drop k (take m l) ≡ take (m - k) (drop k l)
+drop-take k m l h j =
+    let z : k + (m - k) ≡ m = omega arith in
+    ap (λ (i : ℕ). drop k (take i l)) (sym z) ∙ ap (drop k) (take-add k (m - k) l)
+    ∙ drop-at (take k l) (take (m - k) (drop k l)) k (length-take-le k l (omega arith))
 
 module _ (version : ℕ) (s : List ℕ) (mark : ℕ) (position : Position) (last : List ℕ) (size kept code : ℕ) (form : Form) where
   abbrev pub name : List ℕ
@@ -82,6 +90,20 @@ module _ (version : ℕ) (s : List ℕ) (mark : ℕ) (position : Position) (last
         rw (← (P .kept-is), name-long (P .within))
         (ap (λ (x : List ℕ). x ++ drop kept name) (sym (part-short (length last - kept) (size - labelAt form - kept) (sym (P .short)))))
 
-    pub plain-codes : codes (stateOf setting last) (recordOf (G .fields) name) ≡ code ∷ (16 * (length last - kept) + (size - labelAt form - kept)) ∷
+    plain-codes : codes (stateOf setting last) (recordOf (G .fields) name) ≡ code ∷ (16 * (length last - kept) + (size - labelAt form - kept)) ∷
         (drop kept name ++ tailOf form s)
     plain-codes = G .codes-are last name (P .other) ∙ ap (λ (x : List ℕ). code ∷ (x ++ tailOf form s)) label-is
+
+    -- the same, where the bytes that are added stand in the record
+    added-is : drop kept name ≡ take (size - (labelAt form + kept)) (drop (labelAt form + kept) s)
+    added-is =
+        let z : size - labelAt form - kept ≡ size - (labelAt form + kept) = omega arith in
+        drop-take kept (size - labelAt form) (drop (labelAt form) s) (omega (arith, P .kept-second)) (simp length-drop (omega (arith, P .within)))
+        ∙ rw (drop-drop kept (labelAt form) s, z)
+
+    pub plain-item : codes (stateOf setting last) (recordOf (G .fields) name)
+        ≡ plainCodes (record { size = size; kept = kept; code = code; form = form }) (length last) s
+    plain-item =
+        let n : length (take (size - (labelAt form + kept)) (drop (labelAt form + kept) s)) ≡ size - labelAt form - kept =
+        simp (length-take, length-drop) (omega (arith, P .within)) in
+        rw n (rw added-is at plain-codes)

@@ -4,21 +4,15 @@ use mathlib.Core.Path.{_≡_, sym, ap, _∙_}
 use mathlib.Core.List.{List}
 use native.Mathlib.Omega.{arith}
 use lib.ListN.{length, take, drop, length-take, length-drop}
-use lib.Seq.{drop-drop, drop-at, take-add, length-take-le}
+use lib.Seq.{drop-drop}
 use borrow.Rule.Slice.PartAt.{part-to-end}
 use Rattle.format.specs.declared.Position.{Position}
 use Rattle.sheet.specs.Seen.{labelOf}
 use Rattle.sheet.proofs.EntryAt.{part}
+use Rattle.plain.proofs.Finds.{drop-take}
 use Rattle.plain.specs.Plainly.{labelAt, Plainly}
 use Rattle.plain.specs.declared.Form.{Form}
 use Rattle.plain.specs.declared.Form.the-variants.{Leg, Station, Narrow, Wide}
-
--- what is left of a front of m
-drop-take : (k m : ℕ) (l : List ℕ) → k ≤ m → m ≤ length l → drop k (take m l) ≡ take (m - k) (drop k l)
-drop-take k m l h j =
-    let z : k + (m - k) ≡ m = omega arith in
-    ap (λ (i : ℕ). drop k (take i l)) (sym z) ∙ ap (drop k) (take-add k (m - k) l)
-    ∙ drop-at (take k l) (take (m - k) (drop k l)) k (length-take-le k l (omega arith))
 
 label-some : (form : Form) → (16 ≤ labelAt form) × (labelAt form ≤ 34)
 label-some Leg = (omega arith, omega arith)

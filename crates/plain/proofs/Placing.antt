@@ -22,7 +22,7 @@ use Rattle.plain.specs.declared.Form.the-variants.{Leg, Station, Narrow,
 use Rattle.plain.specs.declared.Head.{Head}
 use Rattle.plain.specs.declared.Head.the-variants.{Other as NoHead, Known}
 use Rattle.plain.specs.declared.Plain.{Plain}
-use Rattle.plain.specs.declared.Plain.the-variants.{Other, Item}
+use Rattle.plain.specs.declared.Plain.the-variants.{Other, One}
 use Rattle.plain.proofs.Finds.{plainly, name-long}
 
 -- ---- a head, and a label behind it
@@ -35,9 +35,9 @@ module _ (s : List ℕ) (mark : ℕ) (position : Position) (size : ℕ) (e : siz
   pub found-by : (version : ℕ) (r : Plain) (h : Head) (last : List ℕ) → size ≤ length s → HeadTold h version s mark position → Labelled r h s size last
       → Found r version s mark position last
   found-by version Other h last w H L = tt
-  found-by version (Item n kept code form) h last w H L =
-      let K : Headed version s mark position (2 + be16 s) code form = rw (L .1) at H in
-      rw (L .0) (plainly version s mark position last size kept code form (rw e K) w (L .2) (L .3))
+  found-by version (One item) h last w H L =
+      let K : Headed version s mark position (2 + be16 s) (item .code) (item .form) = rw (L .1) at H in
+      rw (L .0) (plainly version s mark position last size (item .kept) (item .code) (item .form) (rw e K) w (L .2) (L .3))
 
 -- ---- legs and stations
 
@@ -58,9 +58,9 @@ placed-told (Known code form) s mark position T version = T .3 version
 pub placed-by : (s : List ℕ) (mark : ℕ) (position : Position) (size : ℕ) → size ≡ 2 + be16 s → (r : Plain) (h : Head) (last : List ℕ) → size ≤ length s
     → PlacedTold h s mark position → Labelled r h s size last → FoundPlaced r s mark position last
 placed-by s mark position size e Other h last w T L = tt
-placed-by s mark position size e (Item n kept code form) h last w T L =
-    let K : PlacedTold (Known code form) s mark position = rw (L .1) at T in
-    (K .0, K .1, K .2, λ version. found-by s mark position size e version (Item n kept code form) h last w (placed-told h s mark position T version) L)
+placed-by s mark position size e (One item) h last w T L =
+    let K : PlacedTold (Known (item .code) (item .form)) s mark position = rw (L .1) at T in
+    (K .0, K .1, K .2, λ version. found-by s mark position size e version (One item) h last w (placed-told h s mark position T version) L)
 
 -- the place that ends their codes
 pub place-tail : (form : Form) → Placed form → (s : List ℕ) → pointBytes toLe32 (pointOf be32 (drop (placeAt form) s)) ≡ tailOf form s

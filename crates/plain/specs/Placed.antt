@@ -8,7 +8,7 @@ use Rattle.plain.specs.declared.Form.the-variants.{Leg, Station, Narrow,
 use Rattle.plain.specs.declared.Head.{Head}
 use Rattle.plain.specs.declared.Head.the-variants.{Other as NoHead, Known}
 use Rattle.plain.specs.declared.Plain.{Plain}
-use Rattle.plain.specs.declared.Plain.the-variants.{Other, Item}
+use Rattle.plain.specs.declared.Plain.the-variants.{Other, One}
 use Rattle.plain.specs.Plainly.{Headed, Plainly}
 
 abbrev pub Placed : Form → Type 0
@@ -32,5 +32,6 @@ PlacedTold (Known code form) s mark position =
 
 abbrev pub FoundPlaced : Plain → List ℕ → ℕ → Position → List ℕ → Type 0
 FoundPlaced Other s mark position last = Unit
-FoundPlaced (Item size kept code form) s mark position last =
-    Placed form × (0x40 ≤ code) × (code ≤ 0x9f) × ((version : ℕ) → Plainly version s mark position last size kept code form)
+FoundPlaced (One item) s mark position last =
+    Placed (item .form) × (0x40 ≤ item .code) × (item .code ≤ 0x9f)
+    × ((version : ℕ) → Plainly version s mark position last (item .size) (item .kept) (item .code) (item .form))

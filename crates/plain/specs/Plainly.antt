@@ -4,7 +4,7 @@ use Prim.Native.Nat.{ℕ, _+_, _-_, _*_, _/_, _%_, _≤_}
 use mathlib.Core.Path.{_≡_}
 use mathlib.Core.List.{List, _∷_, _++_}
 use mathlib.Core.Bool.{true, false, _&&_}
-use lib.ListN.{length, getD, drop}
+use lib.ListN.{length, getD, take, drop}
 use lib.Dec.{ltb}
 use Rattle.format.specs.Bytes.{be16, be32, toLe16, toLe32, same}
 use Rattle.format.specs.Items.{pointOf, dimensionsOf}
@@ -26,7 +26,8 @@ use Rattle.plain.specs.declared.Form.the-variants.{Leg, Station, Narrow,
 use Rattle.plain.specs.declared.Head.{Head}
 use Rattle.plain.specs.declared.Head.the-variants.{Other as NoHead, Known}
 use Rattle.plain.specs.declared.Plain.{Plain}
-use Rattle.plain.specs.declared.Plain.the-variants.{Other, Item}
+use Rattle.plain.specs.declared.Plain.the-variants.{Other, One}
+use Rattle.plain.specs.declared.Item.{Item}
 
 -- ---- style and date as one number: the six bytes of a leg's record, the lowest first
 
@@ -137,7 +138,7 @@ pub record Plainly (version : ℕ) (s : List ℕ) (mark : ℕ) (position : Posit
 
 abbrev pub Found : Plain → ℕ → List ℕ → ℕ → Position → List ℕ → Type 0
 Found Other version s mark position last = Unit
-Found (Item size kept code form) version s mark position last = Plainly version s mark position last size kept code form
+Found (One item) version s mark position last = Plainly version s mark position last (item .size) (item .kept) (item .code) (item .form)
 
 -- ---- between the two: a head that is known, and a label behind it
 
@@ -149,6 +150,23 @@ HeadFits (Known code form) size = labelAt form ≤ size
 -- the item is that of the head, and the label part takes one byte
 abbrev pub Labelled : Plain → Head → List ℕ → ℕ → List ℕ → Type 0
 Labelled Other found s size last = Unit
-Labelled (Item n kept code form) found s size last =
-    (n ≡ size) × (found ≡ Known code form) × (kept ≡ common last (labelOf size (labelAt form) s))
-    × (shortPart (length last - kept) (length (labelOf size (labelAt form) s) - kept) ≡ true)
+Labelled (One item) found s size last =
+    (item .size ≡ size) × (found ≡ Known (item .code) (item .form)) × (item .kept ≡ common last (labelOf size (labelAt (item .form)) s))
+    × (shortPart (length last - item .kept) (length (labelOf size (labelAt (item .form)) s) - item .kept) ≡ true)
+
+-- ---- its codes
+
+-- what `Plainly` says of numbers, behind a label of so many bytes
+pub record Fitting (item : Item) (long : ℕ) (s : List ℕ) : Type 0 where
+  pub within : item .size ≤ length s
+  pub kept-first : item .kept ≤ long
+  pub kept-second : labelAt (item .form) + item .kept ≤ item .size
+  pub few-dropped : long - item .kept ≤ 15
+  pub few-added : item .size - labelAt (item .form) - item .kept ≤ 15
+
+-- the bytes of the record that are added to the label
+abbrev pub addedOf : Item → List ℕ → List ℕ
+addedOf item s = take (item .size - (labelAt (item .form) + item .kept)) (drop (labelAt (item .form) + item .kept) s)
+
+abbrev pub plainCodes : Item → ℕ → List ℕ → List ℕ
+plainCodes item long s = item .code ∷ (16 * (long - item .kept) + length (addedOf item s)) ∷ (addedOf item s ++ tailOf (item .form) s)

@@ -14,7 +14,7 @@ ghost use Rattle.format.specs.Codes.{shortPart};
 ghost use Rattle.format.specs.Items.{pointOf, dimensionsOf};
 ghost use Rattle.format.specs.Sheet.{framed, pointBytes, dimensionBytes};
 ghost use Rattle.part.specs.Lays.{Puts};
-ghost use Rattle.plain.specs.Plainly.{markOf, markFrom, labelAt, tailSize, tailOf, positionAfter, LegTold, StationTold, SectionTold, HeadTold, Found, HeadFits, Labelled};
+ghost use Rattle.plain.specs.Plainly.{markOf, markFrom, labelAt, tailSize, tailOf, positionAfter, LegTold, StationTold, SectionTold, HeadTold, Found, HeadFits, Labelled, Fitting, plainCodes};
 ghost use Rattle.plain.specs.Placed.{Placed, placeAt, PlacedTold, FoundPlaced};
 
 // What kind of record it is, and so what ends its codes: a place, or dimensions as i16
@@ -32,15 +32,18 @@ enum Head {
     Known { code: u8, form: Form },
 }
 
-// A record of so many bytes that keeps so many of the previous label, or another.
+// A record of so many bytes that keeps so many of the previous label, and its item's code.
+pub struct Item {
+    pub size: usize,
+    pub kept: usize,
+    pub code: u8,
+    pub form: Form,
+}
+
+// Such a record, or another.
 pub enum Plain {
     Other,
-    Item {
-        size: usize,
-        kept: usize,
-        code: u8,
-        form: Form,
-    },
+    One { item: Item },
 }
 
 // ---- style and date as one number
@@ -192,12 +195,13 @@ fn with_label(s: &[u8], size: usize, found: Head, last: &[u8]) -> Plain
     if !part::one_byte(last.len() - kept, name.len() - kept) {
         return Plain::Other;
     }
-    Plain::Item {
+    let item = Item {
         size,
         kept,
         code,
         form,
-    }
+    };
+    Plain::One { item }
 }
 
 // The record at the front of s, in a sheet of the version, where the state has this mark,
@@ -349,18 +353,23 @@ fn put_all(out: &mut [u8], code: u8, part: u8, added: &[u8], form: Form, s: &[u8
     put_tail(form, s, &mut out[end..]);
 }
 
-// The same for a label that drops so many bytes, written where it fits; answers the
-// length.
-pub fn put(out: &mut [u8], code: u8, drop: usize, added: &[u8], form: Form, s: &[u8]) -> usize
-    requires { ⌜ (drop ≤ 15) × (length (now added) ≤ 15) × (labelAt form ≤ length (now s)) ⌝ }
-    ensures { λ r. ⌜ Puts (now (out .entry)) (now (out .exit)) (code ∷ (16 * drop + length (now (added .entry))) ∷ (now (added .entry) ++ tailOf form (now (s .entry)))) 33 r ⌝ }
+// The codes of the record s that goes on behind a label of so many bytes, written over the
+// front of out where they fit; answers their length.
+pub fn put(out: &mut [u8], item: Item, long: usize, s: &[u8]) -> usize
+    requires { ⌜ Fitting item long (now s) ⌝ }
+    ensures { λ r. ⌜ Puts (now (out .entry)) (now (out .exit)) (plainCodes item long (now (s .entry))) 33 r ⌝ }
 {
+    let form = item.form;
+    let from = label_at(form) + item.kept;
+    let end = item.size;
+    let drop = long - item.kept;
+    let added = &s[from..end];
     let n = 2 + added.len() + tail_size(form);
     if out.len() < n {
         return n;
     }
     let part = (16 * drop + added.len()) as u8;
-    put_all(out, code, part, added, form, s);
+    put_all(out, item.code, part, added, form, s);
     n
 }
 

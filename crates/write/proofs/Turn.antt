@@ -1,8 +1,10 @@
--- A turn of the loop over a sheet's records, on plain values. Assumes nothing.
-use Prim.Native.Nat.{ℕ, _+_, _-_, _*_, _≤_, _<_}
+-- A turn of the loop over a sheet's records, on plain values. What the loop keeps (`Going`) is what a loop of any writer keeps (`Standing`), with
+-- the state in a hand and a position: it holds at first, at the end it gives the answer, a record that is not well-formed gives refusal 12, and it
+-- goes on over a record that is read the general way (`going-told`) and over one that goes on from the last (`going-plain`). Assumes nothing.
+use Prim.Native.Nat.{ℕ, _+_, _-_, _≤_, _<_}
 use mathlib.Core.Path.{_≡_, refl, sym, ap, _∙_}
 use mathlib.Core.Bool.{false}
-use mathlib.Core.List.{List, [], _∷_, _++_}
+use mathlib.Core.List.{List, [], _++_}
 use native.Mathlib.Omega.{arith}
 use lib.ListN.{length, take, drop, length-append, length-take, length-drop}
 use Rattle.format.specs.State.{State, startSetting, Record}
@@ -15,20 +17,19 @@ use Rattle.format.specs.Header.{fileLimit}
 use Rattle.format.specs.Bytes.{pick, over}
 use Rattle.format.specs.Fields.{recordOf}
 use Rattle.format.specs.declared.Position.{Position}
+use Rattle.format.specs.declared.Position.the-variants.{Unset}
 use Rattle.format.specs.declared.Setting.{Setting}
 use Rattle.format.specs.declared.Fields.{Fields}
 use Rattle.format.specs.declared.Fields.the-variants.{Leg, Station, Section, Error}
 use Rattle.format.specs.declared.Verdict.{Verdict}
 use Rattle.format.proofs.Basics.{pick-false}
-use lib.Seq.{drop-drop, drop-at, take-add, length-take-le}
-use borrow.Rule.Slice.PartAt.{part-to-end}
-use Rattle.plain.specs.Plainly.{labelAt, tailOf, positionAfter, Goes, Plainly}
-use Rattle.plain.specs.declared.Form.{Form}
-use Rattle.plain.specs.declared.Form.the-variants.{Leg as PlainLeg, Station as PlainStation, Narrow, Wide}
-use Rattle.plain.proofs.Finds.{plain-codes}
-use Rattle.sheet.specs.Seen.{labelOf, EntryTold}
+use Rattle.plain.specs.Plainly.{labelAt, positionAfter, Goes, Plainly, plainCodes}
+use Rattle.plain.specs.declared.Item.{Item}
+use Rattle.plain.proofs.Finds.{plain-item}
+use Rattle.plain.proofs.InSheet.{last-long, name-is}
+use Rattle.sheet.specs.Seen.{EntryTold}
 use Rattle.sheet.specs.declared.Entry.the-variants.{Flawed, Whole}
-use Rattle.sheet.proofs.EntryAt.{part, found-size, found-formed}
+use Rattle.sheet.proofs.EntryAt.{part, found-formed}
 use Rattle.part.specs.Lays.{Puts}
 use Rattle.tally.specs.Tallies.{bounded, Adds, restOutcome}
 use Rattle.tally.specs.declared.Tally.{Tally}
@@ -40,7 +41,8 @@ use Rattle.write.proofs.Standing.{counted, Standing, standing-end, stan
 
 -- ---- where in the sheet the loop stands
 
-pub record Going (version : ℕ) (sheet : List ℕ) (begin head : ℕ) (d₀ d : List ℕ) (at total number : ℕ) (fault : Verdict) (hand : Hand) (position : Position) : Type 0 where
+pub record Going (version : ℕ) (sheet : List ℕ) (begin head : ℕ) (d₀ d : List ℕ) (at total number : ℕ) (fault : Verdict) (hand : Hand)
+    (position : Position) : Type 0 where
   pub place : ℕ
   pub inside : at ≤ length sheet
   pub few-records : number ≤ at
@@ -55,7 +57,7 @@ pub named-short : (sheet : List ℕ) (hand : Hand) → Named sheet hand → leng
 named-short sheet hand n = simp (length-take, length-drop) (omega (arith, n .short))
 
 pub going-none : (version : ℕ) (sheet : List ℕ) (begin head : ℕ) (d : List ℕ) → begin ≤ length sheet → head ≤ 8192
-    → Going version sheet begin head d d begin head 0 Good (handOf startSetting 0 0) (startSetting .position)
+    → Going version sheet begin head d d begin head 0 Good (handOf startSetting 0 0) Unset
 unfolding recordsOf
 going-none version sheet begin head d hb hh =
     record {
@@ -86,44 +88,6 @@ named-after sheet hand position (Station s) a b n h i j w =
 named-after sheet hand position (Section last unused date size) a b n h i j w =
     record { ordered = h; inside = i; short = j; style-fits = n .style-fits; date-fits = w .date-fits; marked = refl }
 named-after sheet hand position (Error traverse) a b n h i j w = n
-
--- what is left of a front of m
-drop-take : (k m : ℕ) (l : List ℕ) → k ≤ m → m ≤ length l → drop k (take m l) ≡ take (m - k) (drop k l)
-drop-take k m l h j =
-    let z : k + (m - k) ≡ m = omega arith in
-    ap (λ (i : ℕ). drop k (take i l)) (sym z) ∙ ap (drop k) (take-add k (m - k) l) ∙ drop-at (take k l) (take (m - k) (drop k l)) k
-    (length-take-le k l (omega arith))
-
-label-some : (form : Form) → 16 ≤ labelAt form
-label-some PlainLeg = omega arith
-label-some PlainStation = omega arith
-label-some Narrow = omega arith
-label-some Wide = omega arith
-
--- where a record that goes on ends in the sheet, and what its label part has
-pub record PlainSizes (sheet : List ℕ) (at from to size kept label : ℕ) : Type 0 where
-  pub ends : at + size ≤ length sheet
-  pub starts : label + kept ≤ size
-  pub long : 16 ≤ label
-  pub first : kept ≤ to - from
-  pub few-dropped : to - from - kept ≤ 15
-  pub few-added : size - label - kept ≤ 15
-
-pub plain-sizes : (version : ℕ) (sheet : List ℕ) (at : ℕ) (hand : Hand) (position : Position) (size kept code : ℕ) (form : Form) → Named sheet hand
-    → at < length sheet
-    → Plainly version (take (length sheet - at) (drop at sheet)) (hand .mark) position (part sheet (hand .from) (hand .to)) size kept code form
-    → PlainSizes sheet at (hand .from) (hand .to) size kept (labelAt form)
-plain-sizes version sheet at hand position size kept code form N h P =
-    let s : length (take (length sheet - at) (drop at sheet)) ≡ length sheet - at = simp (length-take, length-drop) (omega arith) in
-    let l : length (part sheet (hand .from) (hand .to)) ≡ hand .to - hand .from = simp (length-take, length-drop) (omega (arith, N .inside)) in
-    record {
-      ends = omega (arith, P .within, s);
-      starts = P .kept-second;
-      long = label-some form;
-      first = omega (arith, P .kept-first, l);
-      few-dropped = rw l at (P .few-dropped);
-      few-added = P .few-added;
-    }
 
 -- a part that was lent comes back as long as it was
 pub rejoined : (d y : List ℕ) (from : ℕ) → from ≤ length d → length y ≡ length (take (length d - from) (drop from d))
@@ -179,7 +143,7 @@ module _ (version : ℕ) (sheet : List ℕ) (begin head : ℕ) (d₀ d : List �
       abbrev x : Setting
       x = settingAfter (settingIn hand position) (recordOf f [])
 
-      pub going-more : Going version sheet begin head d₀ d′ (at + n) (bounded total size) (number + 1) fault′ (handAfter hand x f (at + k) (at + n))
+      going-more : Going version sheet begin head d₀ d′ (at + n) (bounded total size) (number + 1) fault′ (handAfter hand x f (at + k) (at + n))
           (x .position)
       going-more =
           let i = T .inside in
@@ -195,79 +159,62 @@ module _ (version : ℕ) (sheet : List ℕ) (begin head : ℕ) (d₀ d : List �
             left = rw (← (state-after sheet hand position f (at + k) (at + n))) (S .left);
           }
 
+      -- the same where what it leaves is told
+      pub going-told : (hand′ : Hand) (position′ : Position) → hand′ ≡ handAfter hand x f (at + k) (at + n) → position′ ≡ x .position
+          → Going version sheet begin head d₀ d′ (at + n) (bounded total size) (number + 1) fault′ hand′ position′
+      going-told hand′ position′ l p = rw (l, p) going-more
+
     -- the plain arm: the same for a record that goes on, whose codes are known
-    module _ (size kept code : ℕ) (form : Form) (P : Plainly version (take (length sheet - at) (drop at sheet)) (hand .mark) position
-        (part sheet (hand .from) (hand .to)) size kept code form)
+    module _ (item : Item) (P : Plainly version (take (length sheet - at) (drop at sheet)) (hand .mark) position (part sheet (hand .from) (hand .to))
+        (item .size) (item .kept) (item .code) (item .form))
         (from : ℕ) (y : List ℕ) (bytes : ℕ) (inside : from ≤ length d) (q : total ≤ length d → from ≡ total)
-        (W : Puts (take (length d - from) (drop from d)) y
-        (code ∷ (16 * (hand .to - hand .from - kept) + length (part sheet (at + labelAt form + kept) (at + size)))
-        ∷ (part sheet (at + labelAt form + kept) (at + size) ++ tailOf form (take (length sheet - at) (drop at sheet)))) 33 bytes) where
+        (W : Puts (take (length d - from) (drop from d)) y (plainCodes item (hand .to - hand .from) (take (length sheet - at) (drop at sheet))) 33 bytes) where
       abbrev s : List ℕ
       s = take (length sheet - at) (drop at sheet)
 
-      G′ : Goes version s (settingIn hand position) size code form
+      abbrev a : ℕ
+      a = at + labelAt (item .form)
+
+      abbrev b : ℕ
+      b = at + item .size
+
+      G′ : Goes version s (settingIn hand position) (item .size) (item .code) (item .form)
       G′ = P .headed .goes (hand .style) (hand .date) (G .named .style-fits) (G .named .date-fits) (G .named .marked)
 
       abbrev f : Fields
       f = G′ .fields
 
-      -- its label and the bytes that are added to it, where they stand in the sheet
-      name-is : labelOf size (labelAt form) s ≡ part sheet (at + labelAt form) (at + size)
-      name-is = let z : at + size - (at + labelAt form) ≡ size - labelAt form = omega arith in rw (part-to-end sheet at, drop-drop (labelAt form) at sheet, z)
-
-      added-is : drop kept (labelOf size (labelAt form) s) ≡ part sheet (at + labelAt form + kept) (at + size)
-      added-is =
-          let z : at + size - (at + labelAt form) - kept ≡ at + size - (at + labelAt form + kept) = omega arith in
-          let b = found-size version sheet at h size (G′ .fields) (labelAt form) (G′ .told) .1 in
-          ap (drop kept) name-is
-          ∙ drop-take kept (at + size - (at + labelAt form)) (drop (at + labelAt form) sheet) (omega (arith, P .kept-second))
-          (simp length-drop (omega (arith, b)))
-          ∙ rw (drop-drop kept (at + labelAt form) sheet, z)
-
-      last-long : length (part sheet (hand .from) (hand .to)) ≡ hand .to - hand .from
-      last-long = simp (length-take, length-drop) (omega (arith, G .named .inside))
-
-      added-long : length (part sheet (at + labelAt form + kept) (at + size)) ≡ size - labelAt form - kept
-      added-long = let b = P .within in let l = length-drop at sheet in simp (length-take, length-drop)
-          (omega (arith, G .inside, found-size version sheet at h size (G′ .fields) (labelAt form) (G′ .told) .1))
-
-      abbrev r′ : Record
-      r′ = recordOf (G′ .fields) (part sheet (at + labelAt form) (at + size))
-
-      codes-are : codes st r′ ≡ code ∷ (16 * (hand .to - hand .from - kept) + length (part sheet (at + labelAt form + kept) (at + size)))
-          ∷ (part sheet (at + labelAt form + kept) (at + size) ++ tailOf form s)
+      codes-are : codes st (recordOf f (part sheet a b)) ≡ plainCodes item (hand .to - hand .from) s
       codes-are =
-          let e = plain-codes version s (hand .mark) position (part sheet (hand .from) (hand .to)) size kept code form P (settingIn hand position) G′ in
-          rw added-long (rw (added-is, name-is, last-long) at e)
+          let last = part sheet (hand .from) (hand .to) in
+          let i = G .named .inside in
+          let n = last-long version sheet at (hand .mark) position (hand .from) (hand .to) _ _ _ _ h i P in
+          let m = name-is version sheet at (hand .mark) position (hand .from) (hand .to) _ _ _ _ h i P in
+          rw (m, n) at (plain-item version s (hand .mark) position last _ _ _ _ P (settingIn hand position) G′)
 
       abbrev d″ : List ℕ
       d″ = take from d ++ (y ++ drop (length d - from) (drop from d))
 
-      abbrev t″ : Tally
-      t″ = counted (bounded total bytes) (number + 1) fault
-
       no-fault : fault ≡ orElse fault (pick (unsayable (hand .style) (recordOf f [])) (Refusal 13 number) Good)
       no-fault = rw (pick-false (Refusal 13 number) Good (G′ .sayable [])) (or-good fault)
 
-      plain-adds : Adds v8 st r′ d d″ t t″
+      plain-adds : Adds v8 st (recordOf f (part sheet a b)) d d″ t (counted (bounded total bytes) (number + 1) fault)
       plain-adds =
-          adds-next d t (settingIn hand position) (part sheet (hand .from) (hand .to)) (part sheet (at + labelAt form) (at + size)) f from y bytes
-          (bounded total bytes) fault inside q
+          adds-next d t (settingIn hand position) (part sheet (hand .from) (hand .to)) (part sheet a b) f from y bytes (bounded total bytes) fault inside q
           (record {
             size = W .size ∙ ap length (sym codes-are);
             most = omega (arith, W .most);
             kept = W .kept;
-            written = λ z. W .written z ∙ ap
-                (λ (x : List ℕ). over x (take (length d - from) (drop from d))) (sym codes-are);
+            written = λ z. W .written z ∙ ap (λ (x : List ℕ). over x (take (length d - from) (drop from d))) (sym codes-are);
           })
           refl no-fault
 
-      pub going-plain : Going version sheet begin head d₀ d″ (at + size) (bounded total bytes) (number + 1) fault
-          (record { style = hand .style; date = hand .date; mark = hand .mark; from = at + labelAt form; to = at + size }) (positionAfter form s position)
+      pub going-plain : Going version sheet begin head d₀ d″ b (bounded total bytes) (number + 1) fault
+          (record { style = hand .style; date = hand .date; mark = hand .mark; from = a; to = b }) (positionAfter (item .form) s position)
       going-plain =
           let i = G′ .told .inside in
-          let S = standing-more v8 false version sheet begin head d₀ d at total number fault st standing h size f (labelAt form) (G′ .told) d″ bytes fault
-          plain-adds in
+          let S = standing-more v8 false version sheet begin head d₀ d at total number fault st standing h (item .size) f (labelAt (item .form)) (G′ .told) d″
+          bytes fault plain-adds in
           record {
             place = S .place;
             inside = S .inside;
@@ -283,5 +230,5 @@ module _ (version : ℕ) (sheet : List ℕ) (begin head : ℕ) (d₀ d : List �
                   date-fits = G .named .date-fits;
                   marked = G .named .marked;
                 };
-            left = rw (← (G′ .leaves (part sheet (hand .from) (hand .to)) (part sheet (at + labelAt form) (at + size)))) (S .left);
+            left = rw (← (G′ .leaves (part sheet (hand .from) (hand .to)) (part sheet a b))) (S .left);
           }

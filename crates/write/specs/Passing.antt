@@ -1,11 +1,11 @@
 -- What a pass over a sheet keeps from record to record. Assumes nothing.
 use Prim.Native.Nat.{ℕ, _+_, _-_, _≤_}
 use mathlib.Core.Path.{_≡_}
-use mathlib.Core.List.{List}
+use mathlib.Core.List.{List, []}
 use lib.ListN.{length, take, drop}
 use Rattle.format.specs.State.{State}
 use Rattle.format.specs.Fields.{recordOf, stateOf}
-use Rattle.format.specs.Codes.{codesLimit, codes}
+use Rattle.format.specs.Codes.{codesLimit, codes, settingAfter}
 use Rattle.format.specs.WellFormed.{GoodDated}
 use Rattle.format.specs.declared.Position.{Position}
 use Rattle.format.specs.declared.Setting.{Setting}
@@ -16,6 +16,7 @@ use Rattle.sheet.specs.declared.Entry.the-variants.{Flawed as NoEntry, Whole}
 use Rattle.part.specs.Lays.{Puts}
 use Rattle.plain.specs.Plainly.{markOf}
 use Rattle.write.specs.declared.Hand.{Hand}
+use Rattle.write.specs.declared.Coded.{Coded}
 use Rattle.write.specs.declared.Entered.{Entered}
 use Rattle.write.specs.declared.Entered.the-variants.{Flawed, Put}
 
@@ -45,11 +46,20 @@ pub record Named (sheet : List ℕ) (hand : Hand) : Type 0 where
   pub date-fits : GoodDated (hand .date)
   pub marked : hand .mark ≡ markOf (hand .style) (hand .date)
 
--- the record at a place of the sheet, and its codes over the front of d where they fit, which leaves d′
-pub record Written (version : ℕ) (sheet : List ℕ) (at : ℕ) (hand : Hand) (setting : Setting) (d d′ : List ℕ) (n : ℕ) (f : Fields) (k r : ℕ) : Type 0 where
-  pub told : EntryTold (Whole n f k) version (take (length sheet - at) (drop at sheet))
-  pub puts : Puts d d′ (codes (stateIn sheet hand setting) (recordOf f (take (at + n - (at + k)) (drop (at + k) sheet)))) codesLimit r
+-- what the record leaves of a setting
+abbrev pub left : Hand → Position → Fields → Setting
+left hand position f = settingAfter (settingIn hand position) (recordOf f [])
 
-abbrev pub EnteredTold : Entered → ℕ → List ℕ → ℕ → Hand → Setting → List ℕ → List ℕ → Type 0
-EnteredTold Flawed version sheet at hand setting d d′ = EntryTold NoEntry version (take (length sheet - at) (drop at sheet)) × (length d′ ≡ length d)
-EnteredTold (Put n f k r) version sheet at hand setting d d′ = Written version sheet at hand setting d d′ n f k r
+-- the record at a place of the sheet, whose label starts at `from` of it: its codes over the front of d where they fit, which leaves d′, and what it
+-- leaves
+pub record Written (version : ℕ) (sheet : List ℕ) (at : ℕ) (hand : Hand) (position : Position) (d d′ : List ℕ) (coded : Coded) (f : Fields) : Type 0 where
+  pub from : ℕ
+  pub told : EntryTold (Whole (coded .size) f from) version (take (length sheet - at) (drop at sheet))
+  pub puts : Puts d d′ (codes (stateIn sheet hand (settingIn hand position))
+      (recordOf f (take (at + coded .size - (at + from)) (drop (at + from) sheet)))) codesLimit (coded .bytes)
+  pub leaves : coded .hand ≡ handAfter hand (left hand position f) f (at + from) (at + coded .size)
+  pub stands : coded .position ≡ left hand position f .position
+
+abbrev pub EnteredTold : Entered → ℕ → List ℕ → ℕ → Hand → Position → List ℕ → List ℕ → Type 0
+EnteredTold Flawed version sheet at hand position d d′ = EntryTold NoEntry version (take (length sheet - at) (drop at sheet)) × (length d′ ≡ length d)
+EnteredTold (Put coded f) version sheet at hand position d d′ = Written version sheet at hand position d d′ coded f

@@ -1,5 +1,6 @@
 // The v8 file of a sheet, in two passes. The codes are written where they fit, so the
 // same pass measures when it is lent no bytes.
+use format::Answer;
 use format::Fields;
 use format::Position;
 use format::Setting;
@@ -8,6 +9,7 @@ ghost use Prim.Native.Nat.{_≤_, _<_};
 ghost use lib.ListN.{length, drop};
 ghost use Rattle.format.specs.Sheet.{recordsOf, frontHeader, sheetResult};
 ghost use Rattle.format.specs.Answers.{answerOf};
+ghost use Rattle.format.specs.declared.Answer.the-variants.{Refused};
 ghost use Rattle.format.specs.Writing.{v8, writeOutcome, writeBuffer};
 ghost use Rattle.tally.specs.Tallies.{Rest, Passed};
 ghost use Rattle.write.specs.Passing.{settingIn, handOf, handAfter, Named, EnteredTold};
@@ -74,16 +76,19 @@ fn hand_after(hand: Hand, setting: Setting, fields: Fields, from: usize, to: usi
     }
 }
 
-// The record at a place of a sheet: none that is well-formed; or its size, fields and
-// where its label starts, and the bytes of its codes.
+// What a record of so many bytes comes to: how many its codes take, and what it leaves.
+struct Coded {
+    size: usize,
+    bytes: usize,
+    hand: Hand,
+    position: Position,
+}
+
+// The record at a place of a sheet: none that is well-formed, or one that is, with its
+// fields.
 enum Entered {
     Flawed,
-    Put {
-        size: usize,
-        fields: Fields,
-        from: usize,
-        bytes: usize,
-    },
+    Put { coded: Coded, fields: Fields },
 }
 
 // The codes of the record at `at`, written over the front of out where they fit.
@@ -92,11 +97,11 @@ fn put_entry(
     version: u8,
     at: usize,
     hand: Hand,
-    setting: Setting,
+    position: Position,
     out: &mut [u8],
 ) -> Entered
     requires { ⌜ (at < length (now sheet)) × Named (now sheet) hand ⌝ }
-    ensures { λ r. ⌜ EnteredTold r version (now (sheet .entry)) at hand setting (now (out .entry)) (now (out .exit)) ⌝ }
+    ensures { λ r. ⌜ EnteredTold r version (now (sheet .entry)) at hand position (now (out .entry)) (now (out .exit)) ⌝ }
 {
     let entry = sheet::read_entry(&sheet[at..], version);
     let sheet::Entry::Whole { size, fields, from } = entry else {
@@ -106,24 +111,29 @@ fn put_entry(
     let end = at + size;
     let first = hand.from;
     let last = hand.to;
+    let setting = setting_of(hand, position);
     let bytes = codes::put_record(out, setting, &sheet[first..last], &sheet[name..end], fields);
-    Entered::Put {
+    let after = tally::setting_after(setting, fields);
+    let position = after.position;
+    let hand = hand_after(hand, after, fields, name, end);
+    let coded = Coded {
         size,
-        fields,
-        from,
         bytes,
-    }
+        hand,
+        position,
+    };
+    Entered::Put { coded, fields }
+}
+
+fn refused(number: u8, place: usize) -> Answer
+    ensures { λ r. ⌜ r ≡ Refused number place ⌝ }
+{
+    Answer::Refused { number, place }
 }
 
 // The records of a sheet of the version from `begin` on and the closing codes, written
 // where they fit into out from `head` on: the answer, for room enough.
-fn put_records(
-    sheet: &[u8],
-    version: u8,
-    begin: usize,
-    out: &mut [u8],
-    head: usize,
-) -> format::Answer
+fn put_records(sheet: &[u8], version: u8, begin: usize, out: &mut [u8], head: usize) -> Answer
     requires { ⌜ (begin ≤ length (now sheet)) × (head ≤ 8192) ⌝ }
     ensures { λ r. ⌜ Rest v8 (recordsOf version (drop begin (now (sheet .entry)))) head (now (out .entry)) (now (out .exit)) r ⌝ }
 {
@@ -131,57 +141,35 @@ fn put_records(
     let mut total = head;
     let mut number: usize = 0;
     let mut fault = format::Verdict::Good;
-    let start = format::start_setting();
-    let mut position = start.position;
-    let mut hand = hand_of(start, 0, 0);
+    let mut position = Position::Unset;
+    let mut hand = hand_of(format::start_setting(), 0, 0);
     while at < sheet.len() {
+        let room = tally::within(total, out.len());
+        let s = &sheet[at..];
         let first = hand.from;
         let last = hand.to;
-        let mark = hand.mark;
-        let room = tally::within(total, out.len());
-        let found = plain::find(&sheet[at..], version, mark, position, &sheet[first..last]);
-        if let plain::Plain::Item {
-            size,
-            kept,
-            code,
-            form,
-        } = found {
-            let name = at + plain::label_at(form);
-            let end = at + size;
-            let added = &sheet[name + kept..end];
-            let drop = last - first - kept;
-            let n = plain::put(&mut out[room..], code, drop, added, form, &sheet[at..]);
+        let found = plain::find(s, version, hand.mark, position, &sheet[first..last]);
+        if let plain::Plain::One { item } = found {
+            let n = plain::put(&mut out[room..], item, last - first, s);
+            let form = item.form;
             total = tally::more(total, n);
-            position = plain::position_after(form, &sheet[at..], position);
-            hand.from = name;
-            hand.to = end;
+            position = plain::position_after(form, s, position);
+            hand.from = at + plain::label_at(form);
+            at += item.size;
+            hand.to = at;
             number += 1;
-            at = end;
             continue;
         }
-        let setting = setting_of(hand, position);
-        let entered = put_entry(sheet, version, at, hand, setting, &mut out[room..]);
-        let Entered::Put {
-            size,
-            fields,
-            from,
-            bytes,
-        } = entered
-        else {
-            return format::Answer::Refused {
-                number: 12,
-                place: number,
-            };
+        let entered = put_entry(sheet, version, at, hand, position, &mut out[room..]);
+        let Entered::Put { coded, fields } = entered else {
+            return refused(12, number);
         };
-        let name = at + from;
-        let end = at + size;
-        total = tally::more(total, bytes);
+        total = tally::more(total, coded.bytes);
         fault = tally::first_fault(fault, hand.style, fields, number);
-        let setting = tally::setting_after(setting, fields);
-        position = setting.position;
-        hand = hand_after(hand, setting, fields, name, end);
+        position = coded.position;
+        hand = coded.hand;
         number += 1;
-        at = end;
+        at += coded.size;
     }
     tally::finish(out, hand.style, total, number, fault)
 }

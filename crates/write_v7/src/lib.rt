@@ -189,20 +189,16 @@ fn put_next(sheet: &[u8], version: u8, at: usize, hand: Hand, out: &mut [u8]) ->
     let position = old.position;
     let s = &sheet[at..];
     let found = plain::find_placed(s, hand.mark, position, &sheet[first..last]);
-    let plain::Plain::Item {
-        size,
-        kept,
-        code,
-        form,
-    } = found
-    else {
+    let plain::Plain::One { item } = found else {
         return put_entry(sheet, version, at, hand, out);
     };
+    let form = item.form;
+    let size = item.size;
     let name = at + plain::label_at(form);
     let end = at + size;
-    let added = &sheet[name + kept..end];
-    let a = v7::put_shorten(out, 0, last - first, kept);
-    let bytes = put_item(out, a, old_code(form, code), added, form, s);
+    let added = &sheet[name + item.kept..end];
+    let a = v7::put_shorten(out, 0, last - first, item.kept);
+    let bytes = put_item(out, a, old_code(form, item.code), added, form, s);
     let next = hand_found(hand, form, s, name, end);
     Turned::Put {
         size,

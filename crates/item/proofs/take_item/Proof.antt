@@ -38,10 +38,11 @@ returns-4 : tie.Need-returns-4
 returns-4 c =
     let a = c .before .before .before .before .before .before in
     let l = take (a .args .len) (a .args .bytes .now) in
-    let D = c .style-step .ensures in
-    (comes-does _ _ _ (a .args .len) _ (a .pre .1) (a .pre .0) _ _ _ _ refl (reads-at (c .before .before .before .before) _ (c .before .before .it2 .given .1)) D,
-    style-kept (c .style-step .result) (a .args .bytes .now) l (a .args .setting) (c .before .before .it2 .given .0 .0)
-    (dropLeaves l (itemOf (a .args .version) (a .args .s .now))) (D .same (a .args .bytes .now)))
+    let D = c .style-step .ensures in (
+      comes-does _ _ _ (a .args .len) _ (a .pre .1) (a .pre .0) _ _ _ _ refl (reads-at (c .before .before .before .before) _ (c .before .before .it2 .given .1)) D,
+      style-kept (c .style-step .result) (a .args .bytes .now) l (a .args .setting) (c .before .before .it2 .given .0 .0)
+          (dropLeaves l (itemOf (a .args .version) (a .args .s .now))) (D .same (a .args .bytes .now)),
+    )
 
 returns-5 : tie.Need-returns-5
 returns-5 c =
@@ -60,10 +61,11 @@ returns-7 c =
     let a = c .before .before .before .before .before .before in
     let l = take (a .args .len) (a .args .bytes .now) in
     let D = c .date-step .ensures in
-    let v = c .before .before .it4 .given .0 in
-    (comes-does _ _ _ (a .args .len) _ (a .pre .1) (a .pre .0) _ _ _ _ refl (reads-at (c .before .before .before .before) _ (c .before .before .it4 .given .1)) D,
-    date-kept (c .date-step .result) (a .args .bytes .now) l (a .args .setting) (v .0) (v .1 .0) (v .1 .1 .0)
-    (dropLeaves l (itemOf (a .args .version) (a .args .s .now))) (D .same (a .args .bytes .now)))
+    let v = c .before .before .it4 .given .0 in (
+      comes-does _ _ _ (a .args .len) _ (a .pre .1) (a .pre .0) _ _ _ _ refl (reads-at (c .before .before .before .before) _ (c .before .before .it4 .given .1)) D,
+      date-kept (c .date-step .result) (a .args .bytes .now) l (a .args .setting) (v .0) (v .1 .0) (v .1 .1 .0)
+          (dropLeaves l (itemOf (a .args .version) (a .args .s .now))) (D .same (a .args .bytes .now)),
+    )
 
 returns-8 : tie.Need-returns-8
 returns-8 c =
@@ -78,9 +80,10 @@ returns-9 c =
     let R = reads-at (c .before .before .before .before .before .before .before) _ (c .before .before .before .before .before .it6 .given .1) in
     let z : v .1 .1 .0 + v .1 .1 .1 .0 - v .1 .1 .0 ≡ v .1 .1 .1 .0 = omega arith in
     let L = rw z at (c .before .label-step .ensures) in
-    let T = c .relabel-step .ensures .tells _ _ (L .0) in
-    (comes-relabelled (a .args .version) (a .args .s .now) (a .args .setting) _ _ _ _ _ _ _ _ R T,
-    relabelled-kept (a .args .version) (a .args .s .now) (a .args .setting) _ _ _ _ _ _ _ _ R T (c .relabel-step .ensures .stays _ (L .1)))
+    let T = c .relabel-step .ensures .tells _ _ (L .0) in (
+      comes-relabelled (a .args .version) (a .args .s .now) (a .args .setting) _ _ _ _ _ _ _ _ R T,
+      relabelled-kept (a .args .version) (a .args .s .now) (a .args .setting) _ _ _ _ _ _ _ _ R T (c .relabel-step .ensures .stays _ (L .1)),
+    )
 
 -- the search closes the other needs
 pub take-item-spec : {M : Type 1} → statement M

@@ -1,17 +1,17 @@
 -- `write::put_records` meets its contract: what is written, what is counted and what is left of the sheet come to the whole (`Going`), through
--- a record that goes on from the last (`plain-at`) and through one that is read the general way (`told-at`). Assumes nothing.
+-- a record that goes on from the last (`plain-at`) and through one that is read the general way (`written-at`). Assumes nothing.
 use Prim.Native.Nat.{_+_, _-_, _≤_}
 use mathlib.Core.Path.{_∙_}
 use Rattle.format.specs.Writing.{v8}
 use native.Mathlib.Omega.{arith}
-use lib.ListN.{length, take, drop, length-take, length-drop}
+use lib.ListN.{length, take, drop}
 use Rattle.sheet.proofs.EntryAt.{part, found-size}
-use Rattle.plain.specs.Plainly.{Plainly}
+use Rattle.plain.specs.Plainly.{Plainly, labelAt}
+use Rattle.plain.proofs.InSheet.{Sizes, plain-sizes}
 use Rattle.tally.proofs.Left.{rest-refused, left-end}
-use Rattle.sheet.specs.Seen.{EntryTold}
-use Rattle.sheet.specs.declared.Entry.the-variants.{Whole}
+use Rattle.write.specs.Passing.{Written}
+use Rattle.write.proofs.Turn.{Going, rejoined, going-none, going-end, going-flawed, going-told, going-plain}
 use borrow.Author.Needs.{needs}
-use Rattle.write.proofs.Turn.{Going, PlainSizes, plain-sizes, rejoined, going-none, going-end, going-flawed, going-more, going-plain}
 use Rattle.write.proofs.put_records.Statement.{statement}
 use Rattle.write.proofs.put_records.Tie as tie
 
@@ -24,102 +24,106 @@ abbrev μ-loop : tie.MeasureT-loop
     length sheet - at
 
 -- the record that was found goes on
-plain-at : (y : tie.After-found Inv-loop μ-loop) → Plainly (y .before .before .before .before .before .before .before .before .before .before .before .before .args .version) (take (length (y .before .before .before .before .before .before .before .before .before .before .before .before .args .sheet .now) - y .before .before .before .before .before .before .before .loop .at) (drop (y .before .before .before .before .before .before .before .loop .at) (y .before .before .before .before .before .before .before .before .before .before .before .before .args .sheet .now))) (y .before .before .before .before .before .before .before .loop .hand .mark) (y .before .before .before .before .before .before .before .loop .position) (part (y .before .before .before .before .before .before .before .before .before .before .before .before .args .sheet .now) (y .before .before .before .before .before .before .before .loop .hand .from) (y .before .before .before .before .before .before .before .loop .hand .to)) (y .found .given .0 .0) (y .found .given .0 .1 .0) (y .found .given .0 .1 .1 .0) (y .found .given .0 .1 .1 .1 .0)
+plain-at : (y : tie.After-found Inv-loop μ-loop) → let a = y .before .before .before .before .before .before .before .before .before .before .before .before .args in let l = y .before .before .before .before .before .before .before .loop in let i = y .found .given .0 .0 in
+    Plainly (a .version) (take (length (a .sheet .now) - l .at) (drop (l .at) (a .sheet .now))) (l .hand .mark) (l .position)
+    (part (a .sheet .now) (l .hand .from) (l .hand .to)) (i .size) (i .kept) (i .code) (i .form)
 plain-at y = rw (y .found .given .1) at (y .before .before .find .ensures)
 
-sizes-at : (y : tie.After-label-at Inv-loop μ-loop) → PlainSizes (y .before .before .before .before .before .before .before .before .before .before .before .before .before .before .args .sheet .now) (y .before .before .before .before .before .before .before .before .before .loop .at) (y .before .before .before .before .before .before .before .before .before .loop .hand .from) (y .before .before .before .before .before .before .before .before .before .loop .hand .to) (y .before .before .found .given .0 .0) (y .before .before .found .given .0 .1 .0) (y .label-at .result)
-sizes-at y = rw (y .label-at .ensures) (plain-sizes _ _ _ _ _ _ _ _ _ (y .before .before .before .before .before .before .before .before .before .loop .inv .named) (y .before .before .before .before .before .before .before .before .loop-test .taken) (plain-at (y .before .before)))
+sizes-at : (y : tie.After-found Inv-loop μ-loop) → let l = y .before .before .before .before .before .before .before .loop in let i = y .found .given .0 .0 in
+    Sizes (y .before .before .before .before .before .before .before .before .before .before .before .before .args .sheet .now) (l .at) (l .hand .from) (l .hand .to) (i .size) (i .kept) (labelAt (i .form))
+sizes-at y =
+    plain-sizes _ _ _ _ _ _ _ _ _ _ _ (y .before .before .before .before .before .before .loop-test .taken) (y .before .before .before .before .before .before .before .loop .inv .named .inside) (plain-at y)
 
 -- the record that was found the general way
-told-at : (y : tie.After-entered Inv-loop μ-loop) → EntryTold (Whole (y .entered .given .0 .0) (y .entered .given .0 .1 .0) (y .entered .given .0 .1 .1 .0)) (y .before .before .before .before .before .before .before .before .before .before .before .before .before .before .before .before .before .before .before .args .version) (take (length (y .before .before .before .before .before .before .before .before .before .before .before .before .before .before .before .before .before .before .before .args .sheet .now) - y .before .before .before .before .before .before .before .before .before .before .before .before .before .before .loop .at) (drop (y .before .before .before .before .before .before .before .before .before .before .before .before .before .before .loop .at) (y .before .before .before .before .before .before .before .before .before .before .before .before .before .before .before .before .before .before .before .args .sheet .now)))
-told-at y = (rw (y .entered .given .1) at (y .before .before .before .before .put-entry .ensures)) .told
+written-at : (y : tie.After-entered Inv-loop μ-loop) → let a = y .before .before .before .before .before .before .before .before .before .before .before .before .before .before .before .before .before .before .args in let l = y .before .before .before .before .before .before .before .before .before .before .before .before .before .loop in
+    let o = y .before .before .before .before .before .before .before .before .before .before .before .within .result in
+    Written (a .version) (a .sheet .now) (l .at) (l .hand) (l .position) (take (length (l .out) - o) (drop o (l .out)))
+    (y .before .before .before .before .put-entry .last .1 .1 .1 .1 .1 .0) (y .entered .given .0 .0) (y .entered .given .0 .1 .0)
+written-at y = rw (y .entered .given .1) at (y .before .before .before .before .put-entry .ensures)
 
-ends-at : (y : tie.After-entered Inv-loop μ-loop) → (3 ≤ y .entered .given .0 .0) × (y .before .before .before .before .before .before .before .before .before .before .before .before .before .before .loop .at + y .entered .given .0 .0 ≤ length (y .before .before .before .before .before .before .before .before .before .before .before .before .before .before .before .before .before .before .before .args .sheet .now)) × (y .entered .given .0 .1 .1 .0 ≤ y .entered .given .0 .0)
+ends-at : (y : tie.After-entered Inv-loop μ-loop) → let n = y .entered .given .0 .0 .size in
+    (3 ≤ n) × (y .before .before .before .before .before .before .before .before .before .before .before .before .before .loop .at + n ≤ length (y .before .before .before .before .before .before .before .before .before .before .before .before .before .before .before .before .before .before .args .sheet .now))
 ends-at y =
-    let T = told-at y in
-    let w = found-size _ (y .before .before .before .before .before .before .before .before .before .before .before .before .before .before .before .before .before .before .before .args .sheet .now) (y .before .before .before .before .before .before .before .before .before .before .before .before .before .before .loop .at) (y .before .before .before .before .before .before .before .before .before .before .before .before .before .loop-test .taken) _ _ _ T in
-    (w .0, w .1, T .inside .from-within)
+    let T = written-at y .told in
+    let w = found-size _ (y .before .before .before .before .before .before .before .before .before .before .before .before .before .before .before .before .before .before .args .sheet .now) (y .before .before .before .before .before .before .before .before .before .before .before .before .before .loop .at) (y .before .before .before .before .before .before .before .before .before .before .before .before .loop-test .taken) _ _ _ T in
+    (w .0, w .1)
 
 loop-holds : tie.Need-loop-holds Inv-loop μ-loop
 loop-holds c =
     rw (c .hand-of .ensures, c .before .start-setting .ensures) (going-none _ _ _ _ _ (c .before .before .before .before .pre .0) (c .before .before .before .before .pre .1))
 
-sub-drop : tie.Need-sub-drop Inv-loop μ-loop
-sub-drop c =
-    let N = c .before .before .before .before .before .before .before .before .before .before .loop .inv .named in omega (arith, sizes-at (c .before), N .ordered)
-
-sub-drop-2 : tie.Need-sub-drop-2 Inv-loop μ-loop
-sub-drop-2 c =
-    let N = c .before .before .before .before .before .before .before .before .before .before .loop .inv .named in omega (arith, sizes-at (c .before), N .ordered)
-
 put-requires : tie.Need-put-requires Inv-loop μ-loop
 put-requires c κs =
-    let S = sizes-at (c .before .before .before) in
-    let P = plain-at (c .before .before .before .before .before) in
-    (omega (arith, S .few-dropped), simp (length-take, length-drop) (omega (arith, S .few-added, S .ends, S .starts)), omega (arith, P .headed .inside, P .within))
+    let P = plain-at (c .before .before) in
+    let S = sizes-at (c .before .before) in
+    record { within = P .within; kept-first = S .first; kept-second = S .starts; few-dropped = S .few-dropped; few-added = S .few-added }
 
 more-requires : tie.Need-more-requires Inv-loop μ-loop
 more-requires c κs =
-    omega (arith, c .before .before .before .before .before .before .before .before .before .before .before .before .before .before .before .loop .inv .few, c .before .before .put .ensures .most)
+    omega (arith, c .before .before .before .before .before .before .before .before .before .before .before .before .loop .inv .few, c .before .before .put .ensures .most)
 
 position-after-requires : tie.Need-position-after-requires Inv-loop μ-loop
 position-after-requires c κs =
-    let P = plain-at (c .before .before .before .before .before .before .before .before .before .before) in omega (arith, P .headed .inside, P .within)
+    let P = plain-at (c .before .before .before .before .before .before) in omega (arith, P .headed .inside, P .within)
+
+add-hand : tie.Need-add-hand Inv-loop μ-loop
+add-hand c =
+    let S = sizes-at (c .before .before .before .before .before .before .before .before) in omega (arith, c .label-at .ensures, S .few, S .starts, S .ends, c .before .before .before .before .before .before .before .before .before .before .before .before .before .before .before .before .before .before .before .before .good)
+
+add-at : tie.Need-add-at Inv-loop μ-loop
+add-at c =
+    let S = sizes-at (c .before .before .before .before .before .before .before .before .before) in omega (arith, S .ends, c .before .before .before .before .before .before .before .before .before .before .before .before .before .before .before .before .before .before .before .before .before .good)
 
 add-number : tie.Need-add-number Inv-loop μ-loop
 add-number c =
-    omega (arith, c .before .before .before .before .before .before .before .before .before .before .before .before .before .before .before .before .before .before .loop .inv .few-records, c .before .before .before .before .before .before .before .before .before .before .before .before .before .before .before .before .before .loop-test .taken, c .before .before .before .before .before .before .before .before .before .before .before .before .before .before .before .before .before .before .before .before .before .before .before .good)
+    omega (arith, c .before .before .before .before .before .before .before .before .before .before .before .before .before .before .before .before .loop .inv .few-records, c .before .before .before .before .before .before .before .before .before .before .before .before .before .before .before .loop-test .taken, c .before .before .before .before .before .before .before .before .before .before .before .before .before .before .before .before .before .before .before .before .before .good)
 
 loop-again : tie.Need-loop-again Inv-loop μ-loop
 loop-again c =
-    let W = c .before .before .before .before .before .before .before .before .before .before .before .before .before .before .before .before .within .ensures in
-    let e = c .before .before .before .before .before .before .before .before .before .label-at .ensures in
-    rw (c .position-after .ensures, c .before .before .more .ensures, e)
-    (going-plain _ _ _ _ _ _ _ _ _ _ _ _ (c .before .before .before .before .before .before .before .before .before .before .before .before .before .before .before .before .before .before .loop .inv) (c .before .before .before .before .before .before .before .before .before .before .before .before .before .before .before .before .before .loop-test .taken) _ _ _ _ (plain-at (c .before .before .before .before .before .before .before .before .before .before .before)) _ _ _ (W .0) (W .1) (rw e at (c .before .before .before .before .before .put .ensures)))
+    let W = c .before .before .before .before .before .before .before .before .before .before .before .before .before .before .within .ensures in
+    rw (c .before .label-at .ensures, c .before .before .position-after .ensures, c .before .before .before .more .ensures)
+    (going-plain _ _ _ _ _ _ _ _ _ _ _ _ (c .before .before .before .before .before .before .before .before .before .before .before .before .before .before .before .before .loop .inv) (c .before .before .before .before .before .before .before .before .before .before .before .before .before .before .before .loop-test .taken) (c .before .before .before .before .before .before .before .before .before .found .given .0 .0) (plain-at (c .before .before .before .before .before .before .before .before .before))
+    _ _ _ (W .0) (W .1) (c .before .before .before .before .before .before .put .ensures))
 
 put-entry-requires : tie.Need-put-entry-requires Inv-loop μ-loop
 put-entry-requires c κs =
-    (c .before .before .before .before .before .before .before .before .loop-test .taken, c .before .before .before .before .before .before .before .before .before .loop .inv .named)
+    (c .before .before .before .before .before .before .before .loop-test .taken, c .before .before .before .before .before .before .before .before .loop .inv .named)
 
 returns : tie.Need-returns Inv-loop μ-loop
 returns c =
     let W = c .before .before .before .before .before .before .before .before .before .before .before .before .within .ensures in
-    let T = rw (c .enum-told2 .given .1) at (c .before .before .before .before .put-entry .ensures) in
-    rest-refused v8 _ _ _ _ (rejoined _ (c .before .before .before .before .put-entry .last .1 .1 .1 .1 .1 .0) _ (W .0) (T .1) ∙ c .before .before .before .before .before .before .before .before .before .before .before .before .before .before .loop .inv .kept) 12 _ (going-flawed _ _ _ _ _ _ _ _ _ _ _ _ (c .before .before .before .before .before .before .before .before .before .before .before .before .before .before .loop .inv) (c .before .before .before .before .before .before .before .before .before .before .before .before .before .loop-test .taken) (T .0))
-
-add-name-2 : tie.Need-add-name-2 Inv-loop μ-loop
-add-name-2 c = omega (arith, ends-at (c .before), c .before .before .before .before .before .before .before .before .before .before .before .before .before .before .before .before .before .before .before .before .good)
-
-add-end-2 : tie.Need-add-end-2 Inv-loop μ-loop
-add-end-2 c = omega (arith, ends-at (c .before), c .before .before .before .before .before .before .before .before .before .before .before .before .before .before .before .before .before .before .before .before .good)
+    let T = rw (c .before .enum-told2 .given .1) at (c .before .before .before .before .before .put-entry .ensures) in
+    let G = c .before .before .before .before .before .before .before .before .before .before .before .before .before .before .loop .inv in
+    let k = rejoined _ (c .before .before .before .before .before .put-entry .last .1 .1 .1 .1 .1 .0) _ (W .0) (T .1) ∙ G .kept in
+    rw (c .refused .ensures) (rest-refused v8 _ _ _ _ k 12 _ (going-flawed _ _ _ _ _ _ _ _ _ _ _ _ G (c .before .before .before .before .before .before .before .before .before .before .before .before .before .loop-test .taken) (T .0)))
 
 more-requires-2 : tie.Need-more-requires-2 Inv-loop μ-loop
 more-requires-2 c κs =
-    let T = rw (c .before .entered .given .1) at (c .before .before .before .before .before .put-entry .ensures) in
-    omega (arith, c .before .before .before .before .before .before .before .before .before .before .before .before .before .before .before .loop .inv .few, T .puts .most)
-
-first-fault-requires : tie.Need-first-fault-requires Inv-loop μ-loop
-first-fault-requires c κs =
-    omega (arith, c .before .before .before .before .before .before .before .before .before .before .before .before .before .before .before .before .loop .inv .few-records, c .before .before .before .before .before .before .before .before .before .before .before .before .before .before .before .loop-test .taken, c .before .before .before .before .before .before .before .before .before .before .before .before .before .before .before .before .before .before .before .before .before .good)
+    omega (arith, c .before .before .before .before .before .before .before .before .before .before .before .before .before .before .loop .inv .few, written-at (c .before) .puts .most)
 
 add-number-2 : tie.Need-add-number-2 Inv-loop μ-loop
 add-number-2 c =
-    omega (arith, c .before .before .before .before .before .before .before .before .before .before .before .before .before .before .before .before .before .before .before .loop .inv .few-records, c .before .before .before .before .before .before .before .before .before .before .before .before .before .before .before .before .before .before .loop-test .taken, c .before .before .before .before .before .before .before .before .before .before .before .before .before .before .before .before .before .before .before .before .before .before .before .before .good)
+    omega (arith, c .before .before .before .before .before .before .before .before .before .before .before .before .before .before .before .before .before .loop .inv .few-records, c .before .before .before .before .before .before .before .before .before .before .before .before .before .before .before .before .loop-test .taken, c .before .before .before .before .before .before .before .before .before .before .before .before .before .before .before .before .before .before .before .before .before .before .good)
+
+add-at-2 : tie.Need-add-at-2 Inv-loop μ-loop
+add-at-2 c =
+    omega (arith, ends-at (c .before .before .before .before .before), c .before .before .before .before .before .before .before .before .before .before .before .before .before .before .before .before .before .before .before .before .before .before .before .good)
 
 loop-again-2 : tie.Need-loop-again-2 Inv-loop μ-loop
 loop-again-2 c =
-    let W = c .before .before .before .before .before .before .before .before .before .before .before .before .before .before .before .before .before .within .ensures in
-    let T = rw (c .before .before .before .before .before .entered .given .1, c .before .before .before .before .before .before .before .before .before .before .before .setting-of .ensures) at (c .before .before .before .before .before .before .before .before .before .put-entry .ensures) in
-    rw (c .hand-after .ensures, c .before .setting-after .ensures, c .before .before .before .before .before .before .before .before .before .before .before .setting-of .ensures, c .before .before .before .more2 .ensures)
-    (going-more _ _ _ _ _ _ _ _ _ _ _ _ (c .before .before .before .before .before .before .before .before .before .before .before .before .before .before .before .before .before .before .before .loop .inv) (c .before .before .before .before .before .before .before .before .before .before .before .before .before .before .before .before .before .before .loop-test .taken) _ _ _ (T .told) _ _ _ _ (W .0) (W .1) (T .puts) (c .before .before .first-fault .ensures))
+    let O = c .before .before .before .before .before .before .before .before .before .before .before .before .before .before .before .before .within .ensures in
+    let W = written-at (c .before .before .before .before .before) in
+    rw (c .before .before .before .more2 .ensures)
+    (going-told _ _ _ _ _ _ _ _ _ _ _ _ (c .before .before .before .before .before .before .before .before .before .before .before .before .before .before .before .before .before .before .loop .inv) (c .before .before .before .before .before .before .before .before .before .before .before .before .before .before .before .before .before .loop-test .taken) _ _ _ (W .told) _ _ _ _ (O .0) (O .1) (W .puts)
+    (c .before .before .first-fault .ensures) _ _ (W .leaves) (W .stands))
 
 finish-requires : tie.Need-finish-requires Inv-loop μ-loop
 finish-requires c κs = c .before .before .loop .inv .few
 
 returns-2 : tie.Need-returns-2 Inv-loop μ-loop
 returns-2 c =
-    let L = going-end _ _ _ _ _ _ _ _ _ _ _ _ (c .before .before .before .before .before .loop .inv) (c .before .before .before .before .loop-test .left) in
-    left-end v8 _ _ _ _ _ _ _ _ (c .before .before .before .before .before .loop .inv .kept) L (c .before .before .finish .ensures)
+    let G = c .before .before .before .before .before .loop .inv in
+    left-end v8 _ _ _ _ _ _ _ _ (G .kept) (going-end _ _ _ _ _ _ _ _ _ _ _ _ G (c .before .before .before .before .loop-test .left)) (c .before .before .finish .ensures)
 
 -- the search closes the other needs
 pub put-records-spec : {M : Type 1} → statement M
@@ -130,22 +134,15 @@ put-records-spec =
     (λ c. let N = c .before .before .before .loop .inv .named in omega (arith, N .ordered, N .inside))
     (λ c. let N = c .before .before .before .loop .inv .named in omega (arith, N .ordered, N .inside))
     (λ c. let N = c .before .before .before .loop .inv .named in omega (arith, N .ordered, N .inside)) (λ c κs. search needs)
-    (λ c. search needs) (λ c κs. search needs)
-    (λ c. let N = c .before .before .before .before .before .before .before .before .before .loop .inv .named in omega (arith, sizes-at (c), N .ordered))
-    (λ c. let N = c .before .before .before .before .before .before .before .before .before .loop .inv .named in omega (arith, sizes-at (c), N .ordered))
-    (λ c. let N = c .before .before .before .before .before .before .before .before .before .loop .inv .named in omega (arith, sizes-at (c), N .ordered))
-    (λ c. let N = c .before .before .before .before .before .before .before .before .before .loop .inv .named in omega (arith, sizes-at (c), N .ordered))
-    (λ c. let N = c .before .before .before .before .before .before .before .before .before .loop .inv .named in omega (arith, sizes-at (c), N .ordered))
-    (λ c. let N = c .before .before .before .before .before .before .before .before .before .loop .inv .named in omega (arith, sizes-at (c), N .ordered))
-    sub-drop sub-drop-2 (λ c. omega (arith, c .before .before .before .before .before .before .before .before .within .ensures .0))
-    (λ c. omega (arith, c .before .before .before .before .before .before .before .before .within .ensures .0))
-    (λ c. omega (arith, c .before .before .before .before .before .before .before .before .within .ensures .0)) (λ c. search needs)
-    (λ c. search needs) (λ c. search needs) put-requires more-requires (λ c. search needs) (λ c. search needs) (λ c. search needs)
-    position-after-requires add-number
-    (λ c. omega (arith, sizes-at (c .before .before .before .before .before .before .before .before .before))) loop-again
-    (λ c. search needs) (λ c κs. search needs) (λ c. omega (arith, c .before .before .before .before .before .before .within .ensures .0))
+    (λ c. search needs) (λ c. omega (arith, c .before .before .before .before .before .before .within .ensures .0))
     (λ c. omega (arith, c .before .before .before .before .before .before .within .ensures .0))
-    (λ c. omega (arith, c .before .before .before .before .before .before .within .ensures .0)) put-entry-requires (λ c. search needs)
-    (λ c. search needs) (λ c. search needs) returns add-name-2 add-end-2 more-requires-2 first-fault-requires (λ c κs. search needs)
-    (λ c κs. search needs) add-number-2 (λ c. omega (arith, ends-at (c .before .before .before .before .before))) loop-again-2
-    finish-requires (λ c. search needs) returns-2)
+    (λ c. omega (arith, c .before .before .before .before .before .before .within .ensures .0))
+    (λ c. omega (arith, c .before .before .before .before .before .before .before .before .before .loop .inv .named .ordered))
+    put-requires more-requires position-after-requires (λ c κs. search needs) add-hand add-at add-number
+    (λ c. let S = sizes-at (c .before .before .before .before .before .before .before .before .before) in omega (arith, S .ends, S .some, S .starts))
+    loop-again (λ c. search needs) (λ c. omega (arith, c .before .before .before .before .before .within .ensures .0))
+    (λ c. omega (arith, c .before .before .before .before .before .within .ensures .0))
+    (λ c. omega (arith, c .before .before .before .before .before .within .ensures .0)) put-entry-requires (λ c. search needs)
+    (λ c. search needs) (λ c κs. search needs) (λ c. search needs) returns more-requires-2 (λ c κs. search needs) add-number-2
+    add-at-2 (λ c. omega (arith, ends-at (c .before .before .before .before .before))) loop-again-2 finish-requires
+    (λ c. search needs) returns-2)
