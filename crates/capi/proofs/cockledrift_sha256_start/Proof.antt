@@ -4,14 +4,9 @@ use borrow.Author.Needs.{needs}
 use Rattle.capi.proofs.cockledrift_sha256_start.Statement.{statement}
 use Rattle.capi.proofs.cockledrift_sha256_start.Tie as tie
 
-start-requires : tie.Need-start-requires
-start-requires c κs = search needs
-
-numbers-of-requires : tie.Need-numbers-of-requires
-numbers-of-requires c κs = search needs
-
 returns : tie.Need-returns
 returns c = c .numbers-of .ensures ∙ c .before .start .ensures
 
+-- the search closes the other needs
 pub cockledrift-sha256-start-spec : {M : Type 1} → statement M
-cockledrift-sha256-start-spec = tie.close (tie.spec start-requires numbers-of-requires returns)
+cockledrift-sha256-start-spec = tie.close (tie.spec (λ c κs. search needs) (λ c κs. search needs) returns)

@@ -8,15 +8,6 @@ use Rattle.format.proofs.ConversionLaws.{convert-refused, convert-written}
 use Rattle.convert.proofs.convert.Statement.{statement}
 use Rattle.convert.proofs.convert.Tie as tie
 
-read-requires : tie.Need-read-requires
-read-requires c κs = search needs
-
-enum-known-a : tie.Need-enum-known-a
-enum-known-a c = search needs
-
-enum-known-a-2 : tie.Need-enum-known-a-2
-enum-known-a-2 c = search needs
-
 slice-reshare-prefix-write : tie.Need-slice-reshare-prefix-write
 slice-reshare-prefix-write c =
     let h = read-room _ _ _ _ _ (rw (c .before .a2 .given .1) at (c .before .before .before .before .before .read .ensures .0)) in
@@ -29,24 +20,12 @@ slice-aggregate-write c =
     let k = c .before .before .before .before .before .before .read .kept .1 .0 in
     sym (length-take-le _ _ (omega arith))
 
-write-requires : tie.Need-write-requires
-write-requires c κs = search needs
-
-same-length : tie.Need-same-length
-same-length c = search needs
-
 returns : tie.Need-returns
 returns c =
     let a = c .before .before .before .before .before .before .before .before .before .before in
     let e = rw (c .before .a .given .1) at (c .before .before .before .before .before .read .ensures .0) in
     let r = convert-refused (a .args .file .now) (a .args .sheet .now) _ _ (sym e) (a .args .out .now) in
     (sym (r .0), (c .before .before .before .before .before .read .ensures .1, sym (r .1)))
-
-same-length-2 : tie.Need-same-length-2
-same-length-2 c = search needs
-
-same-length-3 : tie.Need-same-length-3
-same-length-3 c = search needs
 
 returns-2 : tie.Need-returns-2
 returns-2 c =
@@ -58,18 +37,9 @@ returns-2 c =
     let W = c .before .before .write .ensures in
     (rw (R .1) at (W .0) ∙ sym (r .0), (R .1, rw (R .1) at (W .1) ∙ sym (r .1)))
 
+-- the search closes the other needs
 pub convert-spec : {M : Type 1} → statement M
 convert-spec =
     tie.close
-    (tie.spec
-    read-requires
-    enum-known-a
-    enum-known-a-2
-    slice-reshare-prefix-write
-    slice-aggregate-write
-    write-requires
-    same-length
-    returns
-    same-length-2
-    same-length-3
-    returns-2)
+    (tie.spec (λ c κs. search needs) (λ c. search needs) (λ c. search needs) slice-reshare-prefix-write slice-aggregate-write
+    (λ c κs. search needs) (λ c. search needs) returns (λ c. search needs) (λ c. search needs) returns-2)

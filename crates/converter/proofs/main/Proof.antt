@@ -6,52 +6,20 @@ use borrow.Author.Needs.{needs}
 use Rattle.converter.proofs.main.Statement.{statement}
 use Rattle.converter.proofs.main.Tie as tie
 
-slice-aggregate-read-full : tie.Need-slice-aggregate-read-full
-slice-aggregate-read-full c = search needs
-
-read-full-requires : tie.Need-read-full-requires
-read-full-requires c κs = search needs
-
-slice-aggregate-output-of : tie.Need-slice-aggregate-output-of
-slice-aggregate-output-of c = search needs
-
-slice-aggregate-output-of-2 : tie.Need-slice-aggregate-output-of-2
-slice-aggregate-output-of-2 c = search needs
-
-slice-aggregate-output-of-3 : tie.Need-slice-aggregate-output-of-3
-slice-aggregate-output-of-3 c = search needs
-
 output-of-requires : tie.Need-output-of-requires
 output-of-requires c κs =
     let k = c .before .before .before .before .read-full .kept .1 .0 in
     let n = c .before .before .before .before .read-full .ensures in
     (omega arith, omega (arith, n), omega arith, omega arith)
 
-array-share-prefix-out : tie.Need-array-share-prefix-out
-array-share-prefix-out c = search needs
-
 slice-aggregate-write-all : tie.Need-slice-aggregate-write-all
 slice-aggregate-write-all c =
     let k = c .before .before .before .output-of .kept .1 .1 .0 in
     sym (length-take-le _ _ (omega (arith, k, c .before .before .before .output-of .ensures .0)))
 
-write-all-requires : tie.Need-write-all-requires
-write-all-requires c κs = search needs
-
-returns : tie.Need-returns
-returns c = search needs
-
+-- the search closes the other needs
 pub main-spec : {M : Type 1} → statement M
 main-spec =
     tie.close
-    (tie.spec
-    slice-aggregate-read-full
-    read-full-requires
-    slice-aggregate-output-of
-    slice-aggregate-output-of-2
-    slice-aggregate-output-of-3
-    output-of-requires
-    array-share-prefix-out
-    slice-aggregate-write-all
-    write-all-requires
-    returns)
+    (tie.spec (λ c. search needs) (λ c κs. search needs) (λ c. search needs) (λ c. search needs) (λ c. search needs)
+    output-of-requires (λ c. search needs) slice-aggregate-write-all (λ c κs. search needs) (λ c. search needs))

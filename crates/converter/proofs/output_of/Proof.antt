@@ -13,42 +13,12 @@ slice-aggregate-file : tie.Need-slice-aggregate-file
 slice-aggregate-file c =
     sym (length-take-le _ _ (c .before .before .before .before .pre .1))
 
-slice-aggregate-list : tie.Need-slice-aggregate-list
-slice-aggregate-list c = search needs
-
-list-requires : tie.Need-list-requires
-list-requires c κs = search needs
-
-same-length : tie.Need-same-length
-same-length c = search needs
-
 returns : tie.Need-returns
 returns c =
     let a = c .before .before .before .before .before .before .before .before .before .before in
     let l = length-take-le (a .args .n) (a .args .input .now) (a .pre .1) in
     let W = c .before .before .list .ensures in
     (omega (arith, W .1), wrote-front _ _ _ _ (W .0) (omega (arith, W .1, a .pre .3)) ∙ output-long (take (a .args .n) (a .args .input .now)) (omega (arith, l, c .before .before .before .before .before .if1 .taken)))
-
-convert-requires : tie.Need-convert-requires
-convert-requires c κs = search needs
-
-enum-known-a : tie.Need-enum-known-a
-enum-known-a c = search needs
-
-slice-aggregate-list-2 : tie.Need-slice-aggregate-list-2
-slice-aggregate-list-2 c = search needs
-
-list-requires-2 : tie.Need-list-requires-2
-list-requires-2 c κs = search needs
-
-enum-known-a-2 : tie.Need-enum-known-a-2
-enum-known-a-2 c = search needs
-
-same-length-2 : tie.Need-same-length-2
-same-length-2 c = search needs
-
-same-length-3 : tie.Need-same-length-3
-same-length-3 c = search needs
 
 returns-2 : tie.Need-returns-2
 returns-2 c =
@@ -59,12 +29,6 @@ returns-2 c =
     let e = rw (c .before .before .before .before .before .before .a .given .1) at (c .before .before .before .before .before .before .before .before .before .before .before .before .convert .ensures .0) in
     (omega (arith, W .1), wrote-front _ _ _ _ (W .0) (omega (arith, W .1, k, a .pre .3)) ∙ output-refused (take (a .args .n) (a .args .input .now)) (a .args .sheet .now) (a .args .out .now) (a .pre .2) (a .pre .3) (omega (arith, l, c .before .before .before .before .before .before .before .before .before .before .before .before .before .before .before .if1 .left)) _ _ e)
 
-same-length-4 : tie.Need-same-length-4
-same-length-4 c = search needs
-
-same-length-5 : tie.Need-same-length-5
-same-length-5 c = search needs
-
 returns-3 : tie.Need-returns-3
 returns-3 c =
     let a = c .before .before .before .before .before .before .before .before .before .before .before .before .before .before .before in
@@ -73,23 +37,10 @@ returns-3 c =
     let O = output-file (take (a .args .n) (a .args .input .now)) (a .args .sheet .now) (a .args .out .now) (a .pre .2) (a .pre .3) (omega (arith, l, c .before .before .before .before .before .before .before .before .before .before .if1 .left)) _ _ _ _ e (c .before .before .before .before .before .before .before .convert .ensures .1 .1) in
     (omega (arith, O .room, a .pre .3), O .text)
 
+-- the search closes the other needs
 pub output-of-spec : {M : Type 1} → statement M
 output-of-spec =
     tie.close
-    (tie.spec
-    slice-aggregate-file
-    slice-aggregate-list
-    list-requires
-    same-length
-    returns
-    convert-requires
-    enum-known-a
-    slice-aggregate-list-2
-    list-requires-2
-    enum-known-a-2
-    same-length-2
-    same-length-3
-    returns-2
-    same-length-4
-    same-length-5
-    returns-3)
+    (tie.spec slice-aggregate-file (λ c. search needs) (λ c κs. search needs) (λ c. search needs) returns (λ c κs. search needs)
+    (λ c. search needs) (λ c. search needs) (λ c κs. search needs) (λ c. search needs) (λ c. search needs) (λ c. search needs)
+    returns-2 (λ c. search needs) (λ c. search needs) returns-3)

@@ -4,12 +4,10 @@ use borrow.Author.Needs.{needs}
 use Rattle.decode.proofs.day_of_seconds.Statement.{statement}
 use Rattle.decode.proofs.day_of_seconds.Tie as tie
 
-add-result : tie.Need-add-result
-add-result c = search needs
-
 returns : tie.Need-returns
 unfolding dayOfSeconds
 returns c = search needs
 
+-- the search closes the other needs
 pub day-of-seconds-spec : {M : Type 1} → statement M
-day-of-seconds-spec = tie.close (tie.spec add-result returns)
+day-of-seconds-spec = tie.close (tie.spec (λ c. search needs) returns)

@@ -8,24 +8,6 @@ use borrow.Author.Needs.{needs}
 use Rattle.held.proofs.date_numbers.Statement.{statement}
 use Rattle.held.proofs.date_numbers.Tie as tie
 
-enum-told : tie.Need-enum-told
-enum-told c = search needs
-
-enum-known-date : tie.Need-enum-known-date
-enum-known-date c = search needs
-
-wide16-requires : tie.Need-wide16-requires
-wide16-requires c κs = search needs
-
-enum-known-date-2 : tie.Need-enum-known-date-2
-enum-known-date-2 c = search needs
-
-wide16-requires-2 : tie.Need-wide16-requires-2
-wide16-requires-2 c κs = search needs
-
-wide16-requires-3 : tie.Need-wide16-requires-3
-wide16-requires-3 c κs = search needs
-
 returns : tie.Need-returns
 unfolding dateOf pick
 returns c = sym (c .enum-told .given .1)
@@ -46,16 +28,9 @@ returns-3 c =
     let y : c .wide163 .result % 65536 ≡ c .before .before .before .date2 .given .0 .1 .0 = omega (arith, f .0, f .1) in
     rw (z, y) (sym (c .before .before .before .date2 .given .1))
 
+-- the search closes the other needs
 pub date-numbers-spec : {M : Type 1} → statement M
 date-numbers-spec =
     tie.close
-    (tie.spec
-    enum-told
-    enum-known-date
-    wide16-requires
-    enum-known-date-2
-    wide16-requires-2
-    wide16-requires-3
-    returns
-    returns-2
-    returns-3)
+    (tie.spec (λ c. search needs) (λ c. search needs) (λ c κs. search needs) (λ c. search needs) (λ c κs. search needs)
+    (λ c κs. search needs) returns returns-2 returns-3)

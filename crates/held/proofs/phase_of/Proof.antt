@@ -16,12 +16,10 @@ returns-2 : tie.Need-returns-2
 unfolding phaseOf pick
 returns-2 c = search cases
 
-low8-requires : tie.Need-low8-requires
-low8-requires c κs = search needs
-
 returns-3 : tie.Need-returns-3
 unfolding phaseOf pick
 returns-3 c = search (cases, ← c .low8 .ensures)
 
+-- the search closes the other needs
 pub phase-of-spec : {M : Type 1} → statement M
-phase-of-spec = tie.close (tie.spec returns returns-2 low8-requires returns-3)
+phase-of-spec = tie.close (tie.spec returns returns-2 (λ c κs. search needs) returns-3)

@@ -8,21 +8,6 @@ use borrow.Author.Needs.{needs}
 use Rattle.held.proofs.place_numbers.Statement.{statement}
 use Rattle.held.proofs.place_numbers.Tie as tie
 
-enum-told : tie.Need-enum-told
-enum-told c = search needs
-
-enum-known-position : tie.Need-enum-known-position
-enum-known-position c = search needs
-
-wide32-requires : tie.Need-wide32-requires
-wide32-requires c κs = search needs
-
-wide32-requires-2 : tie.Need-wide32-requires-2
-wide32-requires-2 c κs = search needs
-
-wide32-requires-3 : tie.Need-wide32-requires-3
-wide32-requires-3 c κs = search needs
-
 returns : tie.Need-returns
 unfolding positionOf pick
 returns c = sym (c .enum-told .given .1)
@@ -39,14 +24,9 @@ returns-2 c =
     let z : c .wide323 .result % 4294967296 ≡ p .z = omega (arith, g .0, g .1) in
     rw (x, y, z) (sym (c .before .before .before .before .position .given .1))
 
+-- the search closes the other needs
 pub place-numbers-spec : {M : Type 1} → statement M
 place-numbers-spec =
     tie.close
-    (tie.spec
-    enum-told
-    enum-known-position
-    wide32-requires
-    wide32-requires-2
-    wide32-requires-3
-    returns
+    (tie.spec (λ c. search needs) (λ c. search needs) (λ c κs. search needs) (λ c κs. search needs) (λ c κs. search needs) returns
     returns-2)

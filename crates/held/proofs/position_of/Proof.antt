@@ -12,20 +12,12 @@ returns : tie.Need-returns
 unfolding positionOf pick
 returns c = search cases
 
-low32-requires : tie.Need-low32-requires
-low32-requires c κs = search needs
-
-low32-requires-2 : tie.Need-low32-requires-2
-low32-requires-2 c κs = search needs
-
-low32-requires-3 : tie.Need-low32-requires-3
-low32-requires-3 c κs = search needs
-
 returns-2 : tie.Need-returns-2
 unfolding positionOf pick
 returns-2 c =
     search (cases, ← c .before .before .low32 .ensures, ← c .before .low322 .ensures, ← c .low323 .ensures)
 
+-- the search closes the other needs
 pub position-of-spec : {M : Type 1} → statement M
 position-of-spec =
-    tie.close (tie.spec returns low32-requires low32-requires-2 low32-requires-3 returns-2)
+    tie.close (tie.spec returns (λ c κs. search needs) (λ c κs. search needs) (λ c κs. search needs) returns-2)

@@ -12,16 +12,11 @@ returns-2 : tie.Need-returns-2
 returns-2 c =
     date-late _ _ _ _ (c .before .before .args .setting) (c .before .before .args .setting) (c .before .if1 .left) (c .if2 .taken)
 
-date-of-requires : tie.Need-date-of-requires
-date-of-requires c κs = search needs
-
-with-date-requires : tie.Need-with-date-requires
-with-date-requires c κs = search needs
-
 returns-3 : tie.Need-returns-3
 returns-3 c =
     date-on _ _ _ _ (c .before .before .before .before .args .setting) (c .with-date .result) (c .before .before .before .if1 .left) (c .before .before .if2 .left) (rw (c .before .date-of .ensures) at (c .with-date .ensures))
 
+-- the search closes the other needs
 pub date-step-spec : {M : Type 1} → statement M
 date-step-spec =
-    tie.close (tie.spec returns returns-2 date-of-requires with-date-requires returns-3)
+    tie.close (tie.spec returns returns-2 (λ c κs. search needs) (λ c κs. search needs) returns-3)

@@ -4,21 +4,6 @@ use mathlib.Core.Path.{refl}
 use Rattle.item.proofs.made_step.Statement.{statement}
 use Rattle.item.proofs.made_step.Tie as tie
 
-enum-told : tie.Need-enum-told
-enum-told c = search needs
-
-enum-known-body : tie.Need-enum-known-body
-enum-known-body c = search needs
-
-enum-known-body-2 : tie.Need-enum-known-body-2
-enum-known-body-2 c = search needs
-
-enum-known-body-3 : tie.Need-enum-known-body-3
-enum-known-body-3 c = search needs
-
-leg-step-requires : tie.Need-leg-step-requires
-leg-step-requires c κs = search needs
-
 returns : tie.Need-returns
 returns c =
     rw (c .enum-told .given .1) (record { same = λ b. refl; short = λ q. q }, tt)
@@ -35,16 +20,9 @@ returns-4 : tie.Need-returns-4
 returns-4 c =
     rw (c .before .before .body3 .given .1) (c .leg-step .ensures)
 
+-- the search closes the other needs
 pub made-step-spec : {M : Type 1} → statement M
 made-step-spec =
     tie.close
-    (tie.spec
-    enum-told
-    enum-known-body
-    enum-known-body-2
-    enum-known-body-3
-    leg-step-requires
-    returns
-    returns-2
-    returns-3
-    returns-4)
+    (tie.spec (λ c. search needs) (λ c. search needs) (λ c. search needs) (λ c. search needs) (λ c κs. search needs) returns returns-2
+    returns-3 returns-4)

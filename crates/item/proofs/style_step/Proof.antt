@@ -4,9 +4,6 @@ use Rattle.item.proofs.Steps.{style-other, style-first, style-end}
 use Rattle.item.proofs.style_step.Statement.{statement}
 use Rattle.item.proofs.style_step.Tie as tie
 
-with-style-requires : tie.Need-with-style-requires
-with-style-requires c κs = search needs
-
 returns : tie.Need-returns
 returns c =
     style-other _ _ (c .before .before .args .setting) (c .before .with-style .result) (c .before .with-style .ensures) (c .if1 .taken)
@@ -19,5 +16,6 @@ returns-3 : tie.Need-returns-3
 returns-3 c =
     style-end _ _ (c .before .before .before .before .args .setting) (c .before .before .before .before .args .setting) (c .before .before .if1 .left) (c .if2 .left)
 
+-- the search closes the other needs
 pub style-step-spec : {M : Type 1} → statement M
-style-step-spec = tie.close (tie.spec with-style-requires returns returns-2 returns-3)
+style-step-spec = tie.close (tie.spec (λ c κs. search needs) returns returns-2 returns-3)

@@ -6,21 +6,6 @@ use borrow.Author.Needs.{needs}
 use Rattle.lister.proofs.main.Statement.{statement}
 use Rattle.lister.proofs.main.Tie as tie
 
-slice-aggregate-read-full : tie.Need-slice-aggregate-read-full
-slice-aggregate-read-full c = search needs
-
-read-full-requires : tie.Need-read-full-requires
-read-full-requires c κs = search needs
-
-slice-aggregate-text-of : tie.Need-slice-aggregate-text-of
-slice-aggregate-text-of c = search needs
-
-slice-aggregate-text-of-2 : tie.Need-slice-aggregate-text-of-2
-slice-aggregate-text-of-2 c = search needs
-
-slice-aggregate-text-of-3 : tie.Need-slice-aggregate-text-of-3
-slice-aggregate-text-of-3 c = search needs
-
 text-of-requires : tie.Need-text-of-requires
 text-of-requires c κs =
     let k = c .before .before .before .before .read-full .kept .1 .0 in
@@ -37,23 +22,9 @@ slice-aggregate-write-all c =
     let k = c .before .before .before .text-of .kept .1 .1 .0 in
     sym (length-take-le _ _ (omega arith))
 
-write-all-requires : tie.Need-write-all-requires
-write-all-requires c κs = search needs
-
-returns : tie.Need-returns
-returns c = search needs
-
+-- the search closes the other needs
 pub main-spec : {M : Type 1} → statement M
 main-spec =
     tie.close
-    (tie.spec
-    slice-aggregate-read-full
-    read-full-requires
-    slice-aggregate-text-of
-    slice-aggregate-text-of-2
-    slice-aggregate-text-of-3
-    text-of-requires
-    array-share-prefix-out
-    slice-aggregate-write-all
-    write-all-requires
-    returns)
+    (tie.spec (λ c. search needs) (λ c κs. search needs) (λ c. search needs) (λ c. search needs) (λ c. search needs) text-of-requires
+    array-share-prefix-out slice-aggregate-write-all (λ c κs. search needs) (λ c. search needs))

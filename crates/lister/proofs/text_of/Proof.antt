@@ -15,36 +15,12 @@ slice-aggregate-file : tie.Need-slice-aggregate-file
 slice-aggregate-file c =
     sym (length-take-le _ _ (c .before .before .before .before .pre .1))
 
-slice-aggregate-list : tie.Need-slice-aggregate-list
-slice-aggregate-list c = search needs
-
-list-requires : tie.Need-list-requires
-list-requires c κs = search needs
-
-same-length : tie.Need-same-length
-same-length c = search needs
-
 returns : tie.Need-returns
 returns c =
     let p = c .before .before .before .before .before .before .before .before .before .before .pre in
     let l = length-take-le (c .before .before .before .before .before .before .before .before .before .before .args .n) (c .before .before .before .before .before .before .before .before .before .before .args .input .now) (p .1) in
     let W = c .before .before .list .ensures in
     (omega (arith, W .1), wrote-front _ _ _ _ (W .0) (omega (arith, W .1, p .3)) ∙ sym (prints-too-long (take (c .before .before .before .before .before .before .before .before .before .before .args .n) (c .before .before .before .before .before .before .before .before .before .before .args .input .now)) (omega (arith, l, c .before .before .before .before .before .if1 .taken))))
-
-read-requires : tie.Need-read-requires
-read-requires c κs = search needs
-
-enum-known-a : tie.Need-enum-known-a
-enum-known-a c = search needs
-
-slice-aggregate-list-2 : tie.Need-slice-aggregate-list-2
-slice-aggregate-list-2 c = search needs
-
-list-requires-2 : tie.Need-list-requires-2
-list-requires-2 c κs = search needs
-
-enum-known-a-2 : tie.Need-enum-known-a-2
-enum-known-a-2 c = search needs
 
 slice-reshare-prefix-list : tie.Need-slice-reshare-prefix-list
 slice-reshare-prefix-list c =
@@ -58,15 +34,6 @@ slice-aggregate-list-3 c =
     let k = c .before .before .before .before .before .before .read .kept .1 .0 in
     sym (length-take-le _ _ (omega arith))
 
-list-requires-3 : tie.Need-list-requires-3
-list-requires-3 c κs = search needs
-
-same-length-2 : tie.Need-same-length-2
-same-length-2 c = search needs
-
-same-length-3 : tie.Need-same-length-3
-same-length-3 c = search needs
-
 returns-2 : tie.Need-returns-2
 returns-2 c =
     let p = c .before .before .before .before .before .before .before .before .before .before .before .before .before .before .before .before .before .pre in
@@ -74,12 +41,6 @@ returns-2 c =
     let W = c .before .before .list2 .ensures in
     let e = rw (c .before .before .before .before .before .before .a .given .1) at (c .before .before .before .before .before .before .before .before .before .before .read .ensures .0) in
     (omega (arith, W .1), wrote-front _ _ _ _ (W .0) (omega (arith, W .1, p .3)) ∙ text-refused (take (c .before .before .before .before .before .before .before .before .before .before .before .before .before .before .before .before .before .args .n) (c .before .before .before .before .before .before .before .before .before .before .before .before .before .before .before .before .before .args .input .now)) (c .before .before .before .before .before .before .before .before .before .before .before .before .before .before .before .before .before .args .sheet .now) (p .2) (omega (arith, l, c .before .before .before .before .before .before .before .before .before .before .before .before .if1 .left)) e)
-
-same-length-4 : tie.Need-same-length-4
-same-length-4 c = search needs
-
-same-length-5 : tie.Need-same-length-5
-same-length-5 c = search needs
 
 returns-3 : tie.Need-returns-3
 returns-3 c =
@@ -91,26 +52,11 @@ returns-3 c =
     let n = simp length-take at (W .1) in
     (omega (arith, n, k, p .2), wrote-front _ _ _ _ (W .0) (omega (arith, n, k, p .2, p .3)) ∙ text-listing (take (c .before .before .before .before .before .before .before .before .before .before .before .before .before .before .before .before .before .args .n) (c .before .before .before .before .before .before .before .before .before .before .before .before .before .before .before .before .before .args .input .now)) (c .before .before .before .before .before .before .before .before .before .before .before .before .before .before .before .before .before .args .sheet .now) (p .2) (omega (arith, l, c .before .before .before .before .before .before .before .before .before .before .before .before .if1 .left)) (bytes-take (c .before .before .before .before .before .before .before .before .before .before .before .before .before .before .before .before .before .args .n) (c .before .before .before .before .before .before .before .before .before .before .before .before .before .before .before .before .before .args .input .now) (λ i. c .before .before .before .before .before .before .before .before .before .before .before .before .before .before .before .before .shared-slice-known .given i .fits)) _ _ _ _ e (c .before .before .before .before .before .before .before .before .before .before .read .ensures .1))
 
+-- the search closes the other needs
 pub text-of-spec : {M : Type 1} → statement M
 text-of-spec =
     tie.close
-    (tie.spec
-    slice-aggregate-file
-    slice-aggregate-list
-    list-requires
-    same-length
-    returns
-    read-requires
-    enum-known-a
-    slice-aggregate-list-2
-    list-requires-2
-    enum-known-a-2
-    slice-reshare-prefix-list
-    slice-aggregate-list-3
-    list-requires-3
-    same-length-2
-    same-length-3
-    returns-2
-    same-length-4
-    same-length-5
-    returns-3)
+    (tie.spec slice-aggregate-file (λ c. search needs) (λ c κs. search needs) (λ c. search needs) returns (λ c κs. search needs)
+    (λ c. search needs) (λ c. search needs) (λ c κs. search needs) (λ c. search needs) slice-reshare-prefix-list
+    slice-aggregate-list-3 (λ c κs. search needs) (λ c. search needs) (λ c. search needs) returns-2 (λ c. search needs)
+    (λ c. search needs) returns-3)

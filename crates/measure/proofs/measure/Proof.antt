@@ -24,32 +24,14 @@ within-at y r e = item-within _ _ _ _ _ _ _ _ _ (y .before .before .loop .inv) r
 loop-holds : tie.Need-loop-holds Inv-loop μ-loop
 loop-holds c = going-first _ _ _ (c .before .pre .1)
 
-sub-rest : tie.Need-sub-rest Inv-loop μ-loop
-sub-rest c = search needs
-
-part-rest-start : tie.Need-part-rest-start Inv-loop μ-loop
-part-rest-start c = search needs
-
-part-rest-end : tie.Need-part-rest-end Inv-loop μ-loop
-part-rest-end c = search needs
-
 measure-item-requires : tie.Need-measure-item-requires Inv-loop μ-loop
 measure-item-requires c κs = c .before .loop .inv .short
-
-enum-known-it : tie.Need-enum-known-it Inv-loop μ-loop
-enum-known-it c = search needs
-
-stopped-requires : tie.Need-stopped-requires Inv-loop μ-loop
-stopped-requires c κs = search needs
 
 returns : tie.Need-returns Inv-loop μ-loop
 returns c =
     let G = c .before .before .before .before .before .before .loop .inv in
     let f = rw (c .before .before .it .given .1) at (c .before .before .before .before .measure-item .ensures) in
     c .stopped .ensures ∙ ends-bad _ _ _ _ _ _ _ _ _ G _ (f .1)
-
-enum-told : tie.Need-enum-told Inv-loop μ-loop
-enum-told c = search needs
 
 ended-requires : tie.Need-ended-requires Inv-loop μ-loop
 ended-requires c κs = omega (arith, c .before .before .before .before .loop .inv .inside, c .before .before .before .before .before .before .pre .0)
@@ -59,9 +41,6 @@ returns-2 c =
     let G = c .before .before .before .before .before .loop .inv in
     let f = rw (c .before .enum-told .given .1) at (c .before .before .before .measure-item .ensures) in
     c .ended .ensures ∙ ends-end _ _ _ _ _ _ _ _ _ G (f .1)
-
-enum-known-it-2 : tie.Need-enum-known-it-2 Inv-loop μ-loop
-enum-known-it-2 c = search needs
 
 add-at : tie.Need-add-at Inv-loop μ-loop
 add-at c =
@@ -79,9 +58,6 @@ loop-again c =
     let f = rw (c .before .it2 .given .1) at (c .before .before .before .measure-item .ensures) in
     going-on _ _ _ _ _ _ _ _ _ G _ _ _ _ (found _ _ _ _ _ _ _ _ _ G (Styled _) (f .1)) (G .short)
 
-enum-told-2 : tie.Need-enum-told-2 Inv-loop μ-loop
-enum-told-2 c = search needs
-
 add-at-2 : tie.Need-add-at-2 Inv-loop μ-loop
 add-at-2 c =
     omega (arith, within-at (c .before .before) Moved (c .enum-told2 .given .1), c .before .before .before .before .before .before .pre .0)
@@ -95,9 +71,6 @@ loop-again-2 c =
     let G = c .before .before .before .before .loop .inv in
     let f = rw (c .enum-told2 .given .1) at (c .before .before .measure-item .ensures) in
     going-on _ _ _ _ _ _ _ _ _ G _ _ _ _ (found _ _ _ _ _ _ _ _ _ G Moved (f .1)) (G .short)
-
-enum-known-it-3 : tie.Need-enum-known-it-3 Inv-loop μ-loop
-enum-known-it-3 c = search needs
 
 add-at-3 : tie.Need-add-at-3 Inv-loop μ-loop
 add-at-3 c =
@@ -114,9 +87,6 @@ loop-again-3 c =
     let G = c .before .before .before .before .before .loop .inv in
     let f = rw (c .before .it3 .given .1) at (c .before .before .before .measure-item .ensures) in
     going-on _ _ _ _ _ _ _ _ _ G _ _ _ _ (found _ _ _ _ _ _ _ _ _ G (Passes _) (f .1)) (G .short)
-
-enum-known-it-4 : tie.Need-enum-known-it-4 Inv-loop μ-loop
-enum-known-it-4 c = search needs
 
 add-out : tie.Need-add-out Inv-loop μ-loop
 add-out c =
@@ -146,38 +116,11 @@ loop-again-4 c =
     let f = rw (c .before .it4 .given .1) at (c .before .before .before .measure-item .ensures) in
     going-made _ _ _ _ _ _ _ _ _ G _ _ _ (found _ _ _ _ _ _ _ _ _ G (Made _ _ _) (f .1)) (f .0 .0) (f .0 .1)
 
+-- the search closes the other needs
 pub measure-spec : {M : Type 1} → statement M
 measure-spec =
     tie.close
-    (tie.spec
-    Inv-loop
-    μ-loop
-    loop-holds
-    sub-rest
-    part-rest-start
-    part-rest-end
-    measure-item-requires
-    enum-known-it
-    stopped-requires
-    returns
-    enum-told
-    ended-requires
-    returns-2
-    enum-known-it-2
-    add-at
-    loop-less
-    loop-again
-    enum-told-2
-    add-at-2
-    loop-less-2
-    loop-again-2
-    enum-known-it-3
-    add-at-3
-    loop-less-3
-    loop-again-3
-    enum-known-it-4
-    add-out
-    add-records
-    add-at-4
-    loop-less-4
-    loop-again-4)
+    (tie.spec Inv-loop μ-loop loop-holds (λ c. search needs) (λ c. search needs) (λ c. search needs) measure-item-requires
+    (λ c. search needs) (λ c κs. search needs) returns (λ c. search needs) ended-requires returns-2 (λ c. search needs) add-at
+    loop-less loop-again (λ c. search needs) add-at-2 loop-less-2 loop-again-2 (λ c. search needs) add-at-3 loop-less-3 loop-again-3
+    (λ c. search needs) add-out add-records add-at-4 loop-less-4 loop-again-4)

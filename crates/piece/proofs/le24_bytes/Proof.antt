@@ -4,18 +4,10 @@ use borrow.Author.Needs.{needs}
 use Rattle.piece.proofs.le24_bytes.Statement.{statement}
 use Rattle.piece.proofs.le24_bytes.Tie as tie
 
-cast-t3 : tie.Need-cast-t3
-cast-t3 c = search needs
-
-cast-t6 : tie.Need-cast-t6
-cast-t6 c = search needs
-
-cast-t9 : tie.Need-cast-t9
-cast-t9 c = search needs
-
 returns : tie.Need-returns
 unfolding toLe24
 returns c = search needs
 
+-- the search closes the other needs
 pub le24-bytes-spec : {M : Type 1} → statement M
-le24-bytes-spec = tie.close (tie.spec cast-t3 cast-t6 cast-t9 returns)
+le24-bytes-spec = tie.close (tie.spec (λ c. search needs) (λ c. search needs) (λ c. search needs) returns)

@@ -7,12 +7,6 @@ use Rattle.piece.proofs.Laws.{four-same, four-other}
 use Rattle.piece.proofs.same_four.Statement.{statement}
 use Rattle.piece.proofs.same_four.Tie as tie
 
-get-le32-requires : tie.Need-get-le32-requires
-get-le32-requires c κs = search needs
-
-get-le32-requires-2 : tie.Need-get-le32-requires-2
-get-le32-requires-2 c κs = search needs
-
 returns : tie.Need-returns
 returns c =
     let x = c .before .before .before .before .before .args in
@@ -25,5 +19,6 @@ returns-2 c =
     let x = c .before .before .before .before .before .args in
     four-same (x .a .now) (x .b .now) (omega arith) (omega arith) (omega arith) (omega arith) (omega arith) (omega arith)
 
+-- the search closes the other needs
 pub same-four-spec : {M : Type 1} → statement M
-same-four-spec = tie.close (tie.spec get-le32-requires get-le32-requires-2 returns returns-2)
+same-four-spec = tie.close (tie.spec (λ c κs. search needs) (λ c κs. search needs) returns returns-2)

@@ -30,43 +30,10 @@ returns c =
     let x = c .before .before .before .args in
     sym (same-false (x .a .now) (x .b .now) (λ e. c .if1 .taken (ap (λ (s : List ℕ). length s) e)))
 
-loop-holds : tie.Need-loop-holds Inv-loop μ-loop Inv-loop2 μ-loop2
-loop-holds c = search needs
-
-sub-loop : tie.Need-sub-loop Inv-loop μ-loop Inv-loop2 μ-loop2
-sub-loop c = search needs
-
-sub-same-four : tie.Need-sub-same-four Inv-loop μ-loop Inv-loop2 μ-loop2
-sub-same-four c = search needs
-
-part-same-four-start : tie.Need-part-same-four-start Inv-loop μ-loop Inv-loop2 μ-loop2
-part-same-four-start c = search needs
-
-part-same-four-end : tie.Need-part-same-four-end Inv-loop μ-loop Inv-loop2 μ-loop2
-part-same-four-end c = search needs
-
-sub-same-four-2 : tie.Need-sub-same-four-2 Inv-loop μ-loop Inv-loop2 μ-loop2
-sub-same-four-2 c = search needs
-
-part-same-four-start-2 : tie.Need-part-same-four-start-2 Inv-loop μ-loop Inv-loop2 μ-loop2
-part-same-four-start-2 c = search needs
-
-part-same-four-end-2 : tie.Need-part-same-four-end-2 Inv-loop μ-loop Inv-loop2 μ-loop2
-part-same-four-end-2 c = search needs
-
-same-four-requires : tie.Need-same-four-requires Inv-loop μ-loop Inv-loop2 μ-loop2
-same-four-requires c κs = search needs
-
 returns-2 : tie.Need-returns-2 Inv-loop μ-loop Inv-loop2 μ-loop2
 returns-2 c =
     let x = c .before .before .before .before .before .before .before .before .before .args in
     sym (fours-other (x .a .now) (x .b .now) (c .before .before .before .before .before .loop .i) (simp part-to-end at (sym (c .before .same-four .ensures) ∙ not-true _ (c .if2 .taken))))
-
-add-i : tie.Need-add-i Inv-loop μ-loop Inv-loop2 μ-loop2
-add-i c = search needs
-
-loop-less : tie.Need-loop-less Inv-loop μ-loop Inv-loop2 μ-loop2
-loop-less c = search needs
 
 loop-again : tie.Need-loop-again Inv-loop μ-loop Inv-loop2 μ-loop2
 loop-again c =
@@ -77,22 +44,10 @@ loop-again c =
 loop2-holds : tie.Need-loop2-holds Inv-loop μ-loop Inv-loop2 μ-loop2
 loop2-holds c = c .before .loop .inv
 
-shared-slice-read-if3 : tie.Need-shared-slice-read-if3 Inv-loop μ-loop Inv-loop2 μ-loop2
-shared-slice-read-if3 c = search needs
-
-shared-slice-read-if3-2 : tie.Need-shared-slice-read-if3-2 Inv-loop μ-loop Inv-loop2 μ-loop2
-shared-slice-read-if3-2 c = search needs
-
 returns-3 : tie.Need-returns-3 Inv-loop μ-loop Inv-loop2 μ-loop2
 returns-3 c =
     let x = c .before .before .before .before .before .before .before .before .before .before .args in
     sym (same-other (x .a .now) (x .b .now) (c .before .before .before .before .loop2 .i) (c .if3 .taken))
-
-add-i-2 : tie.Need-add-i-2 Inv-loop μ-loop Inv-loop2 μ-loop2
-add-i-2 c = search needs
-
-loop2-less : tie.Need-loop2-less Inv-loop μ-loop Inv-loop2 μ-loop2
-loop2-less c = search needs
 
 loop2-again : tie.Need-loop2-again Inv-loop μ-loop Inv-loop2 μ-loop2
 loop2-again c =
@@ -109,33 +64,11 @@ returns-4 c =
     let eb : length (x .b .now) ≤ l .i = omega arith in
     rw (drop-of-length-le (x .a .now) ea, drop-of-length-le (x .b .now) eb) at (l .inv .1)
 
+-- the search closes the other needs
 pub same-name-spec : {M : Type 1} → statement M
 same-name-spec =
     tie.close
-    (tie.spec
-    Inv-loop
-    μ-loop
-    Inv-loop2
-    μ-loop2
-    returns
-    loop-holds
-    sub-loop
-    sub-same-four
-    part-same-four-start
-    part-same-four-end
-    sub-same-four-2
-    part-same-four-start-2
-    part-same-four-end-2
-    same-four-requires
-    returns-2
-    add-i
-    loop-less
-    loop-again
-    loop2-holds
-    shared-slice-read-if3
-    shared-slice-read-if3-2
-    returns-3
-    add-i-2
-    loop2-less
-    loop2-again
-    returns-4)
+    (tie.spec Inv-loop μ-loop Inv-loop2 μ-loop2 returns (λ c. search needs) (λ c. search needs) (λ c. search needs)
+    (λ c. search needs) (λ c. search needs) (λ c. search needs) (λ c. search needs) (λ c. search needs) (λ c κs. search needs)
+    returns-2 (λ c. search needs) (λ c. search needs) loop-again loop2-holds (λ c. search needs) (λ c. search needs) returns-3
+    (λ c. search needs) (λ c. search needs) loop2-again returns-4)

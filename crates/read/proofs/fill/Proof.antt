@@ -12,50 +12,6 @@ use Rattle.read.proofs.fill.Lts as lts
 use Rattle.read.proofs.pass.Reads as pass-reads
 use Rattle.record.proofs.put_front.Reads as put-front-reads
 
--- src/lib.rt:253:17
-add-front : tie.Need-add-front
-add-front c = search needs
-
--- src/lib.rt:253:17
-add-front-2 : tie.Need-add-front-2
-add-front-2 c = search needs
-
--- src/lib.rt:254:16
-add-ends : tie.Need-add-ends
-add-ends c = search needs
-
--- src/lib.rt:255:16
-add-from : tie.Need-add-from
-add-from c = search needs
-
--- src/lib.rt:256:17
-add-stops : tie.Need-add-stops
-add-stops c = search needs
-
--- src/lib.rt:257:45
-sub-put-front : tie.Need-sub-put-front
-sub-put-front c = search needs
-
--- src/lib.rt:257:45
-part-put-front-start : tie.Need-part-put-front-start
-part-put-front-start c = search needs
-
--- src/lib.rt:257:45
-part-put-front-end : tie.Need-part-put-front-end
-part-put-front-end c = search needs
-
--- src/lib.rt:257:62
-sub-put-front-2 : tie.Need-sub-put-front-2
-sub-put-front-2 c = search needs
-
--- src/lib.rt:257:62
-part-put-front-start-2 : tie.Need-part-put-front-start-2
-part-put-front-start-2 c = search needs
-
--- src/lib.rt:257:62
-part-put-front-end-2 : tie.Need-part-put-front-end-2
-part-put-front-end-2 c = search needs
-
 -- src/lib.rt:257:5
 put-front-requires : tie.Need-put-front-requires
 put-front-requires c κs =
@@ -72,10 +28,6 @@ put-front-requires c κs =
     rw (z2, z3, z1, title-length file (a .args .head) O, time-length file (a .args .head) O) (r .title-fits, r .time-fits, k)
 
 -- src/lib.rt:258:42
-slice-relend-prefix-pass : tie.Need-slice-relend-prefix-pass
-slice-relend-prefix-pass c = search needs
-
--- src/lib.rt:258:42
 slice-aggregate-pass : tie.Need-slice-aggregate-pass
 slice-aggregate-pass c =
     let a = c .before .before .before .before .before .before .before .before .before .before .before .before .before in
@@ -83,14 +35,6 @@ slice-aggregate-pass c =
     let h : a .args .bytes ≤ length s = omega (arith, a .pre .1 .fits, c .before .before .before .put-front .kept) in
     let e = length-take-le (a .args .bytes) s h in
     omega (arith, e)
-
--- src/lib.rt:258:5
-pass-requires : tie.Need-pass-requires
-pass-requires c κs = search needs
-
--- src/lib.rt:249:1
-same-length : tie.Need-same-length
-same-length c = search needs
 
 -- src/lib.rt:249:1
 returns : tie.Need-returns
@@ -105,24 +49,10 @@ returns c =
     let p = rw (z2, z3, z1) at (c .before .before .before .before .before .before .put-front .ensures) in
     filled file (a .args .head) (a .pre .0) _ _ (a .pre .1) _ _ p (c .before .before .pass .ensures .1)
 
+-- the search closes the other needs
 pub fill-spec : {M : Type 1} → statement M
 fill-spec =
     tie.close
-    (tie.spec
-    add-front
-    add-front-2
-    add-ends
-    add-from
-    add-stops
-    sub-put-front
-    part-put-front-start
-    part-put-front-end
-    sub-put-front-2
-    part-put-front-start-2
-    part-put-front-end-2
-    put-front-requires
-    slice-relend-prefix-pass
-    slice-aggregate-pass
-    pass-requires
-    same-length
-    returns)
+    (tie.spec (λ c. search needs) (λ c. search needs) (λ c. search needs) (λ c. search needs) (λ c. search needs) (λ c. search needs)
+    (λ c. search needs) (λ c. search needs) (λ c. search needs) (λ c. search needs) (λ c. search needs) put-front-requires
+    (λ c. search needs) slice-aggregate-pass (λ c κs. search needs) (λ c. search needs) returns)

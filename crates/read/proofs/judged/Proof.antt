@@ -6,22 +6,6 @@ use Rattle.read.proofs.judged.Reads as reads
 use Rattle.read.proofs.judged.Lts as lts
 use Rattle.read.proofs.measured.Reads as measured-reads
 
--- src/lib.rt:244:17
-add-front : tie.Need-add-front
-add-front c = search needs
-
--- src/lib.rt:244:17
-add-front-2 : tie.Need-add-front-2
-add-front-2 c = search needs
-
--- src/lib.rt:245:5
-measured-requires : tie.Need-measured-requires
-measured-requires c κs = search needs
-
--- src/lib.rt:240:1
-same-length : tie.Need-same-length
-same-length c = search needs
-
 -- src/lib.rt:240:1
 returns : tie.Need-returns
 returns c =
@@ -29,5 +13,6 @@ returns c =
     let m = c .before .before .measured .ensures in
     (judges (a .args .file .now) (a .args .head) (a .pre) _ (m .0), m .1)
 
+-- the search closes the other needs
 pub judged-spec : {M : Type 1} → statement M
-judged-spec = tie.close (tie.spec add-front add-front-2 measured-requires same-length returns)
+judged-spec = tie.close (tie.spec (λ c. search needs) (λ c. search needs) (λ c κs. search needs) (λ c. search needs) returns)

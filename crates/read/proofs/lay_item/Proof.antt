@@ -8,24 +8,6 @@ use borrow.Author.Needs.{needs}
 use Rattle.read.proofs.lay_item.Statement.{statement}
 use Rattle.read.proofs.lay_item.Tie as tie
 
-take-item-requires : tie.Need-take-item-requires
-take-item-requires c κs = search needs
-
-enum-known-it : tie.Need-enum-known-it
-enum-known-it c = search needs
-
-enum-told : tie.Need-enum-told
-enum-told c = search needs
-
-enum-known-it-2 : tie.Need-enum-known-it-2
-enum-known-it-2 c = search needs
-
-moved-by-requires : tie.Need-moved-by-requires
-moved-by-requires c κs = search needs
-
-enum-known-it-3 : tie.Need-enum-known-it-3
-enum-known-it-3 c = search needs
-
 lay-record-requires : tie.Need-lay-record-requires
 lay-record-requires c κs =
     let p = c .before .before .before .before .before .before .before .before .before .pre in
@@ -38,9 +20,6 @@ record-size-requires c κs =
     let q = c .before .before .before .before .before .before .it3 .given .1 in
     let T = rw q at (c .before .before .before .before .before .before .before .before .take-item .ensures .0) in
     T .short
-
-moved-by-requires-2 : tie.Need-moved-by-requires-2
-moved-by-requires-2 c κs = search needs
 
 returns : tie.Need-returns
 returns c =
@@ -57,9 +36,6 @@ returns-3 c =
     let T = rw (c .before .before .it2 .given .1) at (c .before .before .before .before .take-item .ensures .0) in
     passes-on _ _ _ _ _ _ _ _ T (c .moved-by .ensures)
 
-same-length : tie.Need-same-length
-same-length c = search needs
-
 returns-4 : tie.Need-returns-4
 returns-4 c =
     let q = c .before .before .before .before .before .before .before .before .it3 .given .1 in
@@ -68,21 +44,10 @@ returns-4 c =
     let n = c .before .record-size .ensures in
     passes-made _ _ _ _ _ _ _ _ _ _ _ _ T (c .moved-by2 .ensures) n (l ∙ told-laid (Made _ _ _ _ _) _ _ _ _ T)
 
+-- the search closes the other needs
 pub lay-item-spec : {M : Type 1} → statement M
 lay-item-spec =
     tie.close
-    (tie.spec
-    take-item-requires
-    enum-known-it
-    enum-told
-    enum-known-it-2
-    moved-by-requires
-    enum-known-it-3
-    lay-record-requires
-    record-size-requires
-    moved-by-requires-2
-    returns
-    returns-2
-    returns-3
-    same-length
-    returns-4)
+    (tie.spec (λ c κs. search needs) (λ c. search needs) (λ c. search needs) (λ c. search needs) (λ c κs. search needs)
+    (λ c. search needs) lay-record-requires record-size-requires (λ c κs. search needs) returns returns-2 returns-3
+    (λ c. search needs) returns-4)

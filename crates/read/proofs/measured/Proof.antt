@@ -7,18 +7,6 @@ use borrow.Author.Needs.{needs}
 use Rattle.read.proofs.measured.Statement.{statement}
 use Rattle.read.proofs.measured.Tie as tie
 
-slice-relend-prefix-pass : tie.Need-slice-relend-prefix-pass
-slice-relend-prefix-pass c = search needs
-
-slice-aggregate-pass : tie.Need-slice-aggregate-pass
-slice-aggregate-pass c = search needs
-
-pass-requires : tie.Need-pass-requires
-pass-requires c κs = search needs
-
-same-length : tie.Need-same-length
-same-length c = search needs
-
 returns : tie.Need-returns
 returns c =
     let old = c .before .before .before .before .before .before .before .args .sheet .now in
@@ -26,22 +14,14 @@ returns c =
     let hy : length y ≡ 0 = omega (arith, c .before .before .pass .kept .1 .1 .1 .0) in
     (c .before .before .pass .ensures .0, none-before y old hy)
 
-measure-requires : tie.Need-measure-requires
-measure-requires c κs = search needs
-
 returns-2 : tie.Need-returns-2
 returns-2 c =
     let e : c .before .before .before .before .args .version ≡ 8 = omega (arith, c .before .if1 .left, c .before .before .before .before .pre .3) in
     (rw e (c .measure .ensures), refl)
 
+-- the search closes the other needs
 pub measured-spec : {M : Type 1} → statement M
 measured-spec =
     tie.close
-    (tie.spec
-    slice-relend-prefix-pass
-    slice-aggregate-pass
-    pass-requires
-    same-length
-    returns
-    measure-requires
+    (tie.spec (λ c. search needs) (λ c. search needs) (λ c κs. search needs) (λ c. search needs) returns (λ c κs. search needs)
     returns-2)

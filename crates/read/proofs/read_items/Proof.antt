@@ -8,36 +8,12 @@ use Rattle.read.proofs.read_items.Lts as lts
 use Rattle.read.proofs.fill.Reads as fill-reads
 use Rattle.read.proofs.judged.Reads as judged-reads
 
--- src/lib.rt:266:9
-judged-requires : tie.Need-judged-requires
-judged-requires c κs = search needs
-
--- src/lib.rt:270:28
-enum-known-verdict : tie.Need-enum-known-verdict
-enum-known-verdict c = search needs
-
--- src/lib.rt:272:16
-enum-told : tie.Need-enum-told
-enum-told c = search needs
-
--- src/lib.rt:273:17
-same-length : tie.Need-same-length
-same-length c = search needs
-
 -- src/lib.rt:273:17
 returns : tie.Need-returns
 returns c =
     let a = c .before .before .before .before .before .before .before .before .before in
     let J = c .before .before .before .before .before .judged .ensures in
     rw (J .1) (read-small (a .args .file .now) (a .args .head) (a .pre) _ (J .0) _ (c .before .enum-told .given .1) (rw (J .1) at (c .if1 .taken)))
-
--- src/lib.rt:278:13
-fill-requires : tie.Need-fill-requires
-fill-requires c κs = search needs
-
--- src/lib.rt:262:1
-same-length-2 : tie.Need-same-length-2
-same-length-2 c = search needs
 
 -- src/lib.rt:262:1
 returns-2 : tie.Need-returns-2
@@ -47,27 +23,15 @@ returns-2 c =
     rw (J .1) (read-refused (a .args .file .now) (a .args .head) (a .pre) _ (J .0) _ _ _ (c .before .verdict .given .1))
 
 -- src/lib.rt:262:1
-same-length-3 : tie.Need-same-length-3
-same-length-3 c = search needs
-
--- src/lib.rt:262:1
 returns-3 : tie.Need-returns-3
 returns-3 c =
     let a = c .before .before .before .before .before .before .before .before .before .before .before .before .before in
     let J = c .before .before .before .before .before .before .before .before .before .judged .ensures in
     read-done (a .args .file .now) (a .args .head) (a .pre) _ (J .0) _ (c .before .before .before .before .before .enum-told .given .1) (rw (J .1) at (c .before .before .before .before .if1 .left)) _ (rw (J .1) at (c .before .before .fill .ensures))
 
+-- the search closes the other needs
 pub read-items-spec : {M : Type 1} → statement M
 read-items-spec =
     tie.close
-    (tie.spec
-    judged-requires
-    enum-known-verdict
-    enum-told
-    same-length
-    returns
-    fill-requires
-    same-length-2
-    returns-2
-    same-length-3
-    returns-3)
+    (tie.spec (λ c κs. search needs) (λ c. search needs) (λ c. search needs) (λ c. search needs) returns (λ c κs. search needs)
+    (λ c. search needs) returns-2 (λ c. search needs) returns-3)

@@ -11,28 +11,12 @@ use Rattle.read.proofs.fill.Reads as fill-reads
 use Rattle.read.proofs.judged.Reads as judged-reads
 use Rattle.read.proofs.reported.Reads as reported-reads
 
--- src/lib.rt:357:9
-judged-requires : tie.Need-judged-requires
-judged-requires c κs = search needs
-
--- src/lib.rt:361:9
-same-length : tie.Need-same-length
-same-length c = search needs
-
 -- src/lib.rt:361:9
 returns : tie.Need-returns
 returns c =
     let a = c .before .before .before .before .before .before .before in
     let J = c .before .before .before .judged .ensures in
     rw (J .1) (salvage-small (a .args .file .now) (a .args .head) (a .pre) _ (J .0) _ (rw (J .1) at (c .if1 .taken)))
-
--- src/lib.rt:366:5
-fill-requires : tie.Need-fill-requires
-fill-requires c κs = search needs
-
--- src/lib.rt:367:9
-reported-requires : tie.Need-reported-requires
-reported-requires c κs = search needs
 
 -- src/lib.rt:374:15
 sub-t15 : tie.Need-sub-t15
@@ -43,10 +27,6 @@ sub-t15 c =
     omega (arith, l, c .before .reported .ensures .1)
 
 -- src/lib.rt:353:1
-same-length-2 : tie.Need-same-length-2
-same-length-2 c = search needs
-
--- src/lib.rt:353:1
 returns-2 : tie.Need-returns-2
 returns-2 c =
     let a = c .before .before .before .before .before .before .before .before .before .before .before .before .before in
@@ -54,15 +34,9 @@ returns-2 c =
     let R = c .before .reported .ensures in
     salvage-done (a .args .file .now) (a .args .head) (a .pre) _ (J .0) _ (rw (J .1) at (c .before .before .before .before .before .before .if1 .left)) _ (rw (J .1) at (c .before .before .before .before .fill .ensures)) _ _ (R .0) (R .1)
 
+-- the search closes the other needs
 pub salvage-items-spec : {M : Type 1} → statement M
 salvage-items-spec =
     tie.close
-    (tie.spec
-    judged-requires
-    same-length
-    returns
-    fill-requires
-    reported-requires
-    sub-t15
-    same-length-2
-    returns-2)
+    (tie.spec (λ c κs. search needs) (λ c. search needs) returns (λ c κs. search needs) (λ c κs. search needs) sub-t15
+    (λ c. search needs) returns-2)

@@ -4,15 +4,6 @@ use borrow.Author.Needs.{needs}
 use Rattle.record.proofs.days_of.Statement.{statement}
 use Rattle.record.proofs.days_of.Tie as tie
 
-enum-told : tie.Need-enum-told
-enum-told c = search needs
-
-enum-known-date : tie.Need-enum-known-date
-enum-known-date c = search needs
-
-enum-known-date-2 : tie.Need-enum-known-date-2
-enum-known-date-2 c = search needs
-
 returns : tie.Need-returns
 returns c = rw (c .enum-told .given .1) (refl, refl, refl)
 
@@ -22,6 +13,7 @@ returns-2 c = rw (c .before .date .given .1) (refl, refl, refl)
 returns-3 : tie.Need-returns-3
 returns-3 c = rw (c .before .date2 .given .1) (refl, refl, refl)
 
+-- the search closes the other needs
 pub days-of-spec : {M : Type 1} → statement M
 days-of-spec =
-    tie.close (tie.spec enum-told enum-known-date enum-known-date-2 returns returns-2 returns-3)
+    tie.close (tie.spec (λ c. search needs) (λ c. search needs) (λ c. search needs) returns returns-2 returns-3)

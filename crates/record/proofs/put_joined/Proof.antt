@@ -11,27 +11,6 @@ use borrow.Author.Needs.{needs}
 use Rattle.record.proofs.put_joined.Statement.{statement}
 use Rattle.record.proofs.put_joined.Tie as tie
 
-put-kept-requires : tie.Need-put-kept-requires
-put-kept-requires c κs = search needs
-
-add-n : tie.Need-add-n
-add-n c = search needs
-
-sub-copy-short : tie.Need-sub-copy-short
-sub-copy-short c = search needs
-
-part-copy-short-start : tie.Need-part-copy-short-start
-part-copy-short-start c = search needs
-
-part-copy-short-end : tie.Need-part-copy-short-end
-part-copy-short-end c = search needs
-
-copy-short-requires : tie.Need-copy-short-requires
-copy-short-requires c κs = search needs
-
-same-length : tie.Need-same-length
-same-length c = search needs
-
 returns : tie.Need-returns
 returns c =
     let a = c .before .before .before .before .before .before .before .before .before .before in
@@ -47,15 +26,9 @@ returns c =
     ∙ ap (λ (n : ℕ). laid (laid (a .args .out .now) k l) (k + n) m) (let z : keep ≡ length l = omega arith in z)
     ∙ laid-next (a .args .out .now) l m k (omega (arith, a .pre .0, a .pre .1 .few, a .pre .1 .whole))
 
+-- the search closes the other needs
 pub put-joined-spec : {M : Type 1} → statement M
 put-joined-spec =
     tie.close
-    (tie.spec
-    put-kept-requires
-    add-n
-    sub-copy-short
-    part-copy-short-start
-    part-copy-short-end
-    copy-short-requires
-    same-length
-    returns)
+    (tie.spec (λ c κs. search needs) (λ c. search needs) (λ c. search needs) (λ c. search needs) (λ c. search needs)
+    (λ c κs. search needs) (λ c. search needs) returns)

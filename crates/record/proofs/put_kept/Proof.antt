@@ -13,21 +13,9 @@ slice-aggregate-copy-words c =
     let a = c .before .before .before in
     sym (length-take-le (a .args .len) (a .args .bytes .now) (omega (arith, a .pre)))
 
-sub-copy-words : tie.Need-sub-copy-words
-sub-copy-words c = search needs
-
-part-copy-words-start : tie.Need-part-copy-words-start
-part-copy-words-start c = search needs
-
-part-copy-words-end : tie.Need-part-copy-words-end
-part-copy-words-end c = search needs
-
 copy-words-requires : tie.Need-copy-words-requires
 copy-words-requires c κs =
     simp (length-take, length-drop) (omega (arith, c .before .before .before .before .pre))
-
-same-length : tie.Need-same-length
-same-length c = search needs
 
 returns : tie.Need-returns
 returns c =
@@ -36,14 +24,9 @@ returns c =
     rw (c .before .before .copy-words .ensures) (laid-part (a .args .out .now) (take (a .args .len) (a .args .bytes .now)) (a .args .k) (omega
     (arith, a .pre)) _ refl)
 
+-- the search closes the other needs
 pub put-kept-spec : {M : Type 1} → statement M
 put-kept-spec =
     tie.close
-    (tie.spec
-    slice-aggregate-copy-words
-    sub-copy-words
-    part-copy-words-start
-    part-copy-words-end
-    copy-words-requires
-    same-length
-    returns)
+    (tie.spec slice-aggregate-copy-words (λ c. search needs) (λ c. search needs) (λ c. search needs) copy-words-requires
+    (λ c. search needs) returns)

@@ -17,11 +17,6 @@ put-at-requires c κs =
     let a = c .before .before .before .before in
     simp length-take (omega (arith, a .pre))
 
-same-length : tie.Need-same-length
-same-length c = search needs
-
-returns : tie.Need-returns
-returns c = search needs
-
+-- the search closes the other needs
 pub put-label-spec : {M : Type 1} → statement M
-put-label-spec = tie.close (tie.spec slice-aggregate-put-at put-at-requires same-length returns)
+put-label-spec = tie.close (tie.spec slice-aggregate-put-at put-at-requires (λ c. search needs) (λ c. search needs))

@@ -20,27 +20,9 @@ loop-holds : tie.Need-loop-holds Inv-loop μ-loop
 loop-holds c =
     (omega arith, absorb-first (c .before .args .bytes .now) _)
 
-sub-loop : tie.Need-sub-loop Inv-loop μ-loop
-sub-loop c = search needs
-
-add-end : tie.Need-add-end Inv-loop μ-loop
-add-end c = search needs
-
-sub-compress : tie.Need-sub-compress Inv-loop μ-loop
-sub-compress c = search needs
-
-part-compress-start : tie.Need-part-compress-start Inv-loop μ-loop
-part-compress-start c = search needs
-
-part-compress-end : tie.Need-part-compress-end Inv-loop μ-loop
-part-compress-end c = search needs
-
 compress-requires : tie.Need-compress-requires Inv-loop μ-loop
 compress-requires c κs =
     (c .before .before .before .before .pre, block-length (c .before .before .before .before .args .bytes .now) (c .before .before .loop .at) (omega arith))
-
-loop-less : tie.Need-loop-less Inv-loop μ-loop
-loop-less c = search needs
 
 loop-again : tie.Need-loop-again Inv-loop μ-loop
 loop-again c =
@@ -51,19 +33,9 @@ returns : tie.Need-returns Inv-loop μ-loop
 returns c =
     absorb-done (c .before .before .before .args .bytes .now) (c .before .loop .at) _ (omega arith) (c .before .loop .inv .1)
 
+-- the search closes the other needs
 pub absorb-spec : {M : Type 1} → statement M
 absorb-spec =
     tie.close
-    (tie.spec
-    Inv-loop
-    μ-loop
-    loop-holds
-    sub-loop
-    add-end
-    sub-compress
-    part-compress-start
-    part-compress-end
-    compress-requires
-    loop-less
-    loop-again
-    returns)
+    (tie.spec Inv-loop μ-loop loop-holds (λ c. search needs) (λ c. search needs) (λ c. search needs) (λ c. search needs)
+    (λ c. search needs) compress-requires (λ c. search needs) loop-again returns)

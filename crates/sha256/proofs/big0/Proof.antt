@@ -5,18 +5,10 @@ use Rattle.sha256.proofs.big0.Statement.{statement}
 use Rattle.sha256.proofs.big0.Tie as tie
 use Rattle.sha256.proofs.big0.Reads as reads
 
-rotr-requires : tie.Need-rotr-requires
-rotr-requires c κs = search needs
-
-rotr-requires-2 : tie.Need-rotr-requires-2
-rotr-requires-2 c κs = search needs
-
-rotr-requires-3 : tie.Need-rotr-requires-3
-rotr-requires-3 c κs = search needs
-
 returns : tie.Need-returns
 unfolding bigSigma0
 returns c = cc
 
+-- the search closes the other needs
 pub big0-spec : {M : Type 1} → statement M
-big0-spec = tie.close (tie.spec rotr-requires rotr-requires-2 rotr-requires-3 returns)
+big0-spec = tie.close (tie.spec (λ c κs. search needs) (λ c κs. search needs) (λ c κs. search needs) returns)

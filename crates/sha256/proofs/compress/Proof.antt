@@ -18,9 +18,6 @@ abbrev μ-loop : tie.MeasureT-loop
 room : (y : tie.In-loop Inv-loop μ-loop) → (16 ≤ y .before .loop .t) × (y .before .loop .t + 8 ≤ 64)
 room y = (omega arith, omega arith)
 
-spread-requires : tie.Need-spread-requires Inv-loop μ-loop
-spread-requires c κs = search needs
-
 early-rounds-requires : tie.Need-early-rounds-requires Inv-loop μ-loop
 early-rounds-requires c κs =
     (ap length (c .before .before .before .pre .0) ∙ constants-length, c .before .spread .ensures .0)
@@ -133,39 +130,15 @@ loop-again c =
           (e8 .1),
     )
 
-sum-requires : tie.Need-sum-requires Inv-loop μ-loop
-sum-requires c κs = search needs
-
 returns : tie.Need-returns Inv-loop μ-loop
 returns c =
     rounds-done _ _ (c .before .before .loop .t) _ _ _ (omega arith) (c .before .before .loop .inv .3) (c .sum .ensures)
 
+-- the search closes the other needs
 pub compress-spec : {M : Type 1} → statement M
 compress-spec =
     tie.close
-    (tie.spec
-    Inv-loop
-    μ-loop
-    spread-requires
-    early-rounds-requires
-    loop-holds
-    late-round-requires
-    add-late-round
-    late-round-requires-2
-    add-late-round-2
-    late-round-requires-3
-    add-late-round-3
-    late-round-requires-4
-    add-late-round-4
-    late-round-requires-5
-    add-late-round-5
-    late-round-requires-6
-    add-late-round-6
-    late-round-requires-7
-    add-late-round-7
-    late-round-requires-8
-    add-t
-    loop-less
-    loop-again
-    sum-requires
-    returns)
+    (tie.spec Inv-loop μ-loop (λ c κs. search needs) early-rounds-requires loop-holds late-round-requires add-late-round
+    late-round-requires-2 add-late-round-2 late-round-requires-3 add-late-round-3 late-round-requires-4 add-late-round-4
+    late-round-requires-5 add-late-round-5 late-round-requires-6 add-late-round-6 late-round-requires-7 add-late-round-7
+    late-round-requires-8 add-t loop-less loop-again (λ c κs. search needs) returns)

@@ -19,33 +19,6 @@ abbrev μ-loop : tie.MeasureT-loop
 loop-holds : tie.Need-loop-holds Inv-loop μ-loop
 loop-holds c = (omega arith, refl, no-rounds (c .args .k .now) (c .args .w .now) _)
 
-early-round-requires : tie.Need-early-round-requires Inv-loop μ-loop
-early-round-requires c κs = search needs
-
-add-early-round : tie.Need-add-early-round Inv-loop μ-loop
-add-early-round c = search needs
-
-early-round-requires-2 : tie.Need-early-round-requires-2 Inv-loop μ-loop
-early-round-requires-2 c κs = search needs
-
-add-early-round-2 : tie.Need-add-early-round-2 Inv-loop μ-loop
-add-early-round-2 c = search needs
-
-early-round-requires-3 : tie.Need-early-round-requires-3 Inv-loop μ-loop
-early-round-requires-3 c κs = search needs
-
-add-early-round-3 : tie.Need-add-early-round-3 Inv-loop μ-loop
-add-early-round-3 c = search needs
-
-early-round-requires-4 : tie.Need-early-round-requires-4 Inv-loop μ-loop
-early-round-requires-4 c κs = search needs
-
-add-t : tie.Need-add-t Inv-loop μ-loop
-add-t c = search needs
-
-loop-less : tie.Need-loop-less Inv-loop μ-loop
-loop-less c = search needs
-
 loop-again : tie.Need-loop-again Inv-loop μ-loop
 loop-again c =
     let L = c .before .before .before .before .before .loop in
@@ -64,21 +37,9 @@ returns c =
     let e : c .before .loop .t ≡ 16 = omega arith in
     rw e at (c .before .loop .inv .2)
 
+-- the search closes the other needs
 pub early-rounds-spec : {M : Type 1} → statement M
 early-rounds-spec =
     tie.close
-    (tie.spec
-    Inv-loop
-    μ-loop
-    loop-holds
-    early-round-requires
-    add-early-round
-    early-round-requires-2
-    add-early-round-2
-    early-round-requires-3
-    add-early-round-3
-    early-round-requires-4
-    add-t
-    loop-less
-    loop-again
-    returns)
+    (tie.spec Inv-loop μ-loop loop-holds (λ c κs. search needs) (λ c. search needs) (λ c κs. search needs) (λ c. search needs)
+    (λ c κs. search needs) (λ c. search needs) (λ c κs. search needs) (λ c. search needs) (λ c. search needs) loop-again returns)

@@ -7,26 +7,12 @@ use Rattle.sha256.proofs.fill.Statement.{statement}
 use Rattle.sha256.proofs.fill.Tie as tie
 use Rattle.sha256.proofs.fill.Reads as reads
 
-sub-copy : tie.Need-sub-copy
-sub-copy c = search needs
-
-part-copy-start : tie.Need-part-copy-start
-part-copy-start c = search needs
-
-part-copy-end : tie.Need-part-copy-end
-part-copy-end c = search needs
-
-copy-requires : tie.Need-copy-requires
-copy-requires c κs = search needs
-
-same-length : tie.Need-same-length
-same-length c = search needs
-
 returns : tie.Need-returns
 returns c =
     let a = c .before .before .before .before .before .before in
     rw (c .before .before .copy .ensures) (laid-part (a .args .block .now) (a .args .bytes .now) (a .args .held) (omega (arith, a .pre)) _ refl)
 
+-- the search closes the other needs
 pub fill-spec : {M : Type 1} → statement M
 fill-spec =
-    tie.close (tie.spec sub-copy part-copy-start part-copy-end copy-requires same-length returns)
+    tie.close (tie.spec (λ c. search needs) (λ c. search needs) (λ c. search needs) (λ c κs. search needs) (λ c. search needs) returns)

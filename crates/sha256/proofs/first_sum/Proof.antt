@@ -4,35 +4,12 @@ use Rattle.sha256.proofs.first_sum.Statement.{statement}
 use Rattle.sha256.proofs.first_sum.Tie as tie
 use Rattle.sha256.proofs.first_sum.Reads as reads
 
-big1-requires : tie.Need-big1-requires
-big1-requires c κs = search needs
-
-add-requires : tie.Need-add-requires
-add-requires c κs = search needs
-
-ch-requires : tie.Need-ch-requires
-ch-requires c κs = search needs
-
-add-requires-2 : tie.Need-add-requires-2
-add-requires-2 c κs = search needs
-
-add-requires-3 : tie.Need-add-requires-3
-add-requires-3 c κs = search needs
-
-add-requires-4 : tie.Need-add-requires-4
-add-requires-4 c κs = search needs
-
 returns : tie.Need-returns
 returns c = cc
 
+-- the search closes the other needs
 pub first-sum-spec : {M : Type 1} → statement M
 first-sum-spec =
     tie.close
-    (tie.spec
-    big1-requires
-    add-requires
-    ch-requires
-    add-requires-2
-    add-requires-3
-    add-requires-4
-    returns)
+    (tie.spec (λ c κs. search needs) (λ c κs. search needs) (λ c κs. search needs) (λ c κs. search needs) (λ c κs. search needs)
+    (λ c κs. search needs) returns)

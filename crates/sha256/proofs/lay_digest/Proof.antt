@@ -5,15 +5,6 @@ use Rattle.sha256.proofs.lay_digest.Statement.{statement}
 use Rattle.sha256.proofs.lay_digest.Tie as tie
 use Rattle.sha256.proofs.lay_digest.Reads as reads
 
-lay-half-requires : tie.Need-lay-half-requires
-lay-half-requires c κs = search needs
-
-lay-half-requires-2 : tie.Need-lay-half-requires-2
-lay-half-requires-2 c κs = search needs
-
-same-length : tie.Need-same-length
-same-length c = search needs
-
 returns : tie.Need-returns
 returns c =
     digest-done (c .before .before .before .before .before .before .before .before .before .args .out .now) _ _
@@ -21,5 +12,6 @@ returns c =
     (c .before .before .before .before .before .before .before .before .before .pre) (c .before .before .before .before .before .before .lay-half .ensures)
     (c .before .before .lay-half2 .ensures)
 
+-- the search closes the other needs
 pub lay-digest-spec : {M : Type 1} → statement M
-lay-digest-spec = tie.close (tie.spec lay-half-requires lay-half-requires-2 same-length returns)
+lay-digest-spec = tie.close (tie.spec (λ c κs. search needs) (λ c κs. search needs) (λ c. search needs) returns)

@@ -5,21 +5,6 @@ use Rattle.sha256.proofs.lay_length.Statement.{statement}
 use Rattle.sha256.proofs.lay_length.Tie as tie
 use Rattle.sha256.proofs.lay_length.Reads as reads
 
-high-bits-requires : tie.Need-high-bits-requires
-high-bits-requires c κs = search needs
-
-lay-word-requires : tie.Need-lay-word-requires
-lay-word-requires c κs = search needs
-
-low-bits-requires : tie.Need-low-bits-requires
-low-bits-requires c κs = search needs
-
-lay-word-requires-2 : tie.Need-lay-word-requires-2
-lay-word-requires-2 c κs = search needs
-
-same-length : tie.Need-same-length
-same-length c = search needs
-
 returns : tie.Need-returns
 returns c =
     length-done (c .before .before .before .before .before .before .before .before .before .before .before .args .b .now) _ _
@@ -28,13 +13,8 @@ returns c =
     (c .before .before .before .before .before .before .before .before .high-bits .ensures) (c .before .before .before .low-bits .ensures)
     (c .before .before .before .before .before .before .before .lay-word .ensures) (c .before .before .lay-word2 .ensures)
 
+-- the search closes the other needs
 pub lay-length-spec : {M : Type 1} → statement M
 lay-length-spec =
     tie.close
-    (tie.spec
-    high-bits-requires
-    lay-word-requires
-    low-bits-requires
-    lay-word-requires-2
-    same-length
-    returns)
+    (tie.spec (λ c κs. search needs) (λ c κs. search needs) (λ c κs. search needs) (λ c κs. search needs) (λ c. search needs) returns)

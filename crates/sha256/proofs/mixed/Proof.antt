@@ -4,25 +4,12 @@ use Rattle.sha256.proofs.mixed.Statement.{statement}
 use Rattle.sha256.proofs.mixed.Tie as tie
 use Rattle.sha256.proofs.mixed.Reads as reads
 
-small1-requires : tie.Need-small1-requires
-small1-requires c κs = search needs
-
-add-requires : tie.Need-add-requires
-add-requires c κs = search needs
-
-small0-requires : tie.Need-small0-requires
-small0-requires c κs = search needs
-
-add-requires-2 : tie.Need-add-requires-2
-add-requires-2 c κs = search needs
-
-add-requires-3 : tie.Need-add-requires-3
-add-requires-3 c κs = search needs
-
 returns : tie.Need-returns
 returns c = cc
 
+-- the search closes the other needs
 pub mixed-spec : {M : Type 1} → statement M
 mixed-spec =
     tie.close
-    (tie.spec small1-requires add-requires small0-requires add-requires-2 add-requires-3 returns)
+    (tie.spec (λ c κs. search needs) (λ c κs. search needs) (λ c κs. search needs) (λ c κs. search needs) (λ c κs. search needs)
+    returns)

@@ -5,64 +5,14 @@ use Rattle.sha256.proofs.next_word.Statement.{statement}
 use Rattle.sha256.proofs.next_word.Tie as tie
 use Rattle.sha256.proofs.next_word.Reads as reads
 
-sub-mixed : tie.Need-sub-mixed
-sub-mixed c = search needs
-
-mul-mixed : tie.Need-mul-mixed
-mul-mixed c = search needs
-
-element-copy-out-mixed : tie.Need-element-copy-out-mixed
-element-copy-out-mixed c = search needs
-
-sub-mixed-2 : tie.Need-sub-mixed-2
-sub-mixed-2 c = search needs
-
-mul-mixed-2 : tie.Need-mul-mixed-2
-mul-mixed-2 c = search needs
-
-element-copy-out-mixed-2 : tie.Need-element-copy-out-mixed-2
-element-copy-out-mixed-2 c = search needs
-
-sub-mixed-3 : tie.Need-sub-mixed-3
-sub-mixed-3 c = search needs
-
-mul-mixed-3 : tie.Need-mul-mixed-3
-mul-mixed-3 c = search needs
-
-element-copy-out-mixed-3 : tie.Need-element-copy-out-mixed-3
-element-copy-out-mixed-3 c = search needs
-
-sub-mixed-4 : tie.Need-sub-mixed-4
-sub-mixed-4 c = search needs
-
-mul-mixed-4 : tie.Need-mul-mixed-4
-mul-mixed-4 c = search needs
-
-element-copy-out-mixed-4 : tie.Need-element-copy-out-mixed-4
-element-copy-out-mixed-4 c = search needs
-
-mixed-requires : tie.Need-mixed-requires
-mixed-requires c κs = search needs
-
 returns : tie.Need-returns
 unfolding nextWord
 returns c = cc
 
+-- the search closes the other needs
 pub next-word-spec : {M : Type 1} → statement M
 next-word-spec =
     tie.close
-    (tie.spec
-    sub-mixed
-    mul-mixed
-    element-copy-out-mixed
-    sub-mixed-2
-    mul-mixed-2
-    element-copy-out-mixed-2
-    sub-mixed-3
-    mul-mixed-3
-    element-copy-out-mixed-3
-    sub-mixed-4
-    mul-mixed-4
-    element-copy-out-mixed-4
-    mixed-requires
-    returns)
+    (tie.spec (λ c. search needs) (λ c. search needs) (λ c. search needs) (λ c. search needs) (λ c. search needs) (λ c. search needs)
+    (λ c. search needs) (λ c. search needs) (λ c. search needs) (λ c. search needs) (λ c. search needs) (λ c. search needs)
+    (λ c κs. search needs) returns)

@@ -10,30 +10,6 @@ use Rattle.sha256.proofs.numbers_of.Reads as reads
 fits : (x y : ℕ) → (x ≡ y) × (x < 4294967296) → x % 4294967296 ≡ y
 fits x y e = omega (arith, e .0, e .1)
 
-long-requires : tie.Need-long-requires
-long-requires c κs = search needs
-
-long-requires-2 : tie.Need-long-requires-2
-long-requires-2 c κs = search needs
-
-long-requires-3 : tie.Need-long-requires-3
-long-requires-3 c κs = search needs
-
-long-requires-4 : tie.Need-long-requires-4
-long-requires-4 c κs = search needs
-
-long-requires-5 : tie.Need-long-requires-5
-long-requires-5 c κs = search needs
-
-long-requires-6 : tie.Need-long-requires-6
-long-requires-6 c κs = search needs
-
-long-requires-7 : tie.Need-long-requires-7
-long-requires-7 c κs = search needs
-
-long-requires-8 : tie.Need-long-requires-8
-long-requires-8 c κs = search needs
-
 returns : tie.Need-returns
 returns c =
     rw (
@@ -49,16 +25,9 @@ returns c =
       fits _ _ (c .long8 .ensures),
     ) refl
 
+-- the search closes the other needs
 pub numbers-of-spec : {M : Type 1} → statement M
 numbers-of-spec =
     tie.close
-    (tie.spec
-    long-requires
-    long-requires-2
-    long-requires-3
-    long-requires-4
-    long-requires-5
-    long-requires-6
-    long-requires-7
-    long-requires-8
-    returns)
+    (tie.spec (λ c κs. search needs) (λ c κs. search needs) (λ c κs. search needs) (λ c κs. search needs) (λ c κs. search needs)
+    (λ c κs. search needs) (λ c κs. search needs) (λ c κs. search needs) returns)

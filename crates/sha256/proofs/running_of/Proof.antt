@@ -5,57 +5,6 @@ use Rattle.sha256.proofs.running_of.Statement.{statement}
 use Rattle.sha256.proofs.running_of.Tie as tie
 use Rattle.sha256.proofs.running_of.Reads as reads
 
-element-copy-out-word : tie.Need-element-copy-out-word
-element-copy-out-word c = search needs
-
-word-requires : tie.Need-word-requires
-word-requires c κs = search needs
-
-element-copy-out-word-2 : tie.Need-element-copy-out-word-2
-element-copy-out-word-2 c = search needs
-
-word-requires-2 : tie.Need-word-requires-2
-word-requires-2 c κs = search needs
-
-element-copy-out-word-3 : tie.Need-element-copy-out-word-3
-element-copy-out-word-3 c = search needs
-
-word-requires-3 : tie.Need-word-requires-3
-word-requires-3 c κs = search needs
-
-element-copy-out-word-4 : tie.Need-element-copy-out-word-4
-element-copy-out-word-4 c = search needs
-
-word-requires-4 : tie.Need-word-requires-4
-word-requires-4 c κs = search needs
-
-element-copy-out-word-5 : tie.Need-element-copy-out-word-5
-element-copy-out-word-5 c = search needs
-
-word-requires-5 : tie.Need-word-requires-5
-word-requires-5 c κs = search needs
-
-element-copy-out-word-6 : tie.Need-element-copy-out-word-6
-element-copy-out-word-6 c = search needs
-
-word-requires-6 : tie.Need-word-requires-6
-word-requires-6 c κs = search needs
-
-element-copy-out-word-7 : tie.Need-element-copy-out-word-7
-element-copy-out-word-7 c = search needs
-
-word-requires-7 : tie.Need-word-requires-7
-word-requires-7 c κs = search needs
-
-element-copy-out-word-8 : tie.Need-element-copy-out-word-8
-element-copy-out-word-8 c = search needs
-
-word-requires-8 : tie.Need-word-requires-8
-word-requires-8 c κs = search needs
-
-element-copy-out-t6 : tie.Need-element-copy-out-t6
-element-copy-out-t6 c = search needs
-
 returns : tie.Need-returns
 returns c =
     rw (
@@ -69,25 +18,11 @@ returns c =
       c .before .word8 .ensures,
     ) refl
 
+-- the search closes the other needs
 pub running-of-spec : {M : Type 1} → statement M
 running-of-spec =
     tie.close
-    (tie.spec
-    element-copy-out-word
-    word-requires
-    element-copy-out-word-2
-    word-requires-2
-    element-copy-out-word-3
-    word-requires-3
-    element-copy-out-word-4
-    word-requires-4
-    element-copy-out-word-5
-    word-requires-5
-    element-copy-out-word-6
-    word-requires-6
-    element-copy-out-word-7
-    word-requires-7
-    element-copy-out-word-8
-    word-requires-8
-    element-copy-out-t6
+    (tie.spec (λ c. search needs) (λ c κs. search needs) (λ c. search needs) (λ c κs. search needs) (λ c. search needs)
+    (λ c κs. search needs) (λ c. search needs) (λ c κs. search needs) (λ c. search needs) (λ c κs. search needs) (λ c. search needs)
+    (λ c κs. search needs) (λ c. search needs) (λ c κs. search needs) (λ c. search needs) (λ c κs. search needs) (λ c. search needs)
     returns)

@@ -5,15 +5,10 @@ use Rattle.sha256.proofs.small1.Statement.{statement}
 use Rattle.sha256.proofs.small1.Tie as tie
 use Rattle.sha256.proofs.small1.Reads as reads
 
-rotr-requires : tie.Need-rotr-requires
-rotr-requires c κs = search needs
-
-rotr-requires-2 : tie.Need-rotr-requires-2
-rotr-requires-2 c κs = search needs
-
 returns : tie.Need-returns
 unfolding smallSigma1
 returns c = cc
 
+-- the search closes the other needs
 pub small1-spec : {M : Type 1} → statement M
-small1-spec = tie.close (tie.spec rotr-requires rotr-requires-2 returns)
+small1-spec = tie.close (tie.spec (λ c κs. search needs) (λ c κs. search needs) returns)

@@ -20,33 +20,6 @@ loop-holds : tie.Need-loop-holds Inv-loop μ-loop
 unfolding schedule
 loop-holds c = (omega arith, refl, refl)
 
-mul-get-be32 : tie.Need-mul-get-be32 Inv-loop μ-loop
-mul-get-be32 c = search needs
-
-sub-get-be32 : tie.Need-sub-get-be32 Inv-loop μ-loop
-sub-get-be32 c = search needs
-
-part-get-be32-start : tie.Need-part-get-be32-start Inv-loop μ-loop
-part-get-be32-start c = search needs
-
-part-get-be32-end : tie.Need-part-get-be32-end Inv-loop μ-loop
-part-get-be32-end c = search needs
-
-get-be32-requires : tie.Need-get-be32-requires Inv-loop μ-loop
-get-be32-requires c κs = search needs
-
-mul-w : tie.Need-mul-w Inv-loop μ-loop
-mul-w c = search needs
-
-array-write-w : tie.Need-array-write-w Inv-loop μ-loop
-array-write-w c = search needs
-
-add-t : tie.Need-add-t Inv-loop μ-loop
-add-t c = search needs
-
-loop-less : tie.Need-loop-less Inv-loop μ-loop
-loop-less c = search needs
-
 loop-again : tie.Need-loop-again Inv-loop μ-loop
 loop-again c =
     let L = c .before .before .before .loop .inv in
@@ -57,21 +30,9 @@ returns c =
     let e : c .before .loop .t ≡ 16 = omega arith in
     (c .before .loop .inv .1, rw e at (c .before .loop .inv .2))
 
+-- the search closes the other needs
 pub spread-spec : {M : Type 1} → statement M
 spread-spec =
     tie.close
-    (tie.spec
-    Inv-loop
-    μ-loop
-    loop-holds
-    mul-get-be32
-    sub-get-be32
-    part-get-be32-start
-    part-get-be32-end
-    get-be32-requires
-    mul-w
-    array-write-w
-    add-t
-    loop-less
-    loop-again
-    returns)
+    (tie.spec Inv-loop μ-loop loop-holds (λ c. search needs) (λ c. search needs) (λ c. search needs) (λ c. search needs)
+    (λ c κs. search needs) (λ c. search needs) (λ c. search needs) (λ c. search needs) (λ c. search needs) loop-again returns)

@@ -5,18 +5,6 @@ use Rattle.sha256.proofs.update.Statement.{statement}
 use Rattle.sha256.proofs.update.Tie as tie
 use Rattle.sha256.proofs.update.Reads as reads
 
-full-block-requires : tie.Need-full-block-requires
-full-block-requires c κs = search needs
-
-waiting-requires : tie.Need-waiting-requires
-waiting-requires c κs = search needs
-
-take-in-requires : tie.Need-take-in-requires
-take-in-requires c κs = search needs
-
-wrapping-add-u64-requires : tie.Need-wrapping-add-u64-requires
-wrapping-add-u64-requires c κs = search needs
-
 returns : tie.Need-returns
 returns c =
     let a = c .before .before .before .before .before .before .before .before .args in
@@ -24,12 +12,8 @@ returns c =
     update-held (a .run) _ _ (a .block .now) _ (a .bytes .now) (k .result) (c .before .before .before .before .before .full-block .ensures .1) (k .ensures .0)
     (c .before .take-in .ensures) (c .wrapping-add-u64 .ensures)
 
+-- the search closes the other needs
 pub update-spec : {M : Type 1} → statement M
 update-spec =
     tie.close
-    (tie.spec
-    full-block-requires
-    waiting-requires
-    take-in-requires
-    wrapping-add-u64-requires
-    returns)
+    (tie.spec (λ c κs. search needs) (λ c κs. search needs) (λ c κs. search needs) (λ c κs. search needs) returns)

@@ -4,28 +4,13 @@ use borrow.Author.Needs.{needs}
 use Rattle.step.proofs.after_item.Statement.{statement}
 use Rattle.step.proofs.after_item.Tie as tie
 
-enum-known-it : tie.Need-enum-known-it
-enum-known-it c = search needs
-
-last-step-requires : tie.Need-last-step-requires
-last-step-requires c κs = search needs
-
-enum-told : tie.Need-enum-told
-enum-told c = search needs
-
 end-step-requires : tie.Need-end-step-requires
 end-step-requires c κs =
     rw (c .enum-told .given .1) at (c .before .before .before .pre .0)
 
-enum-known-it-2 : tie.Need-enum-known-it-2
-enum-known-it-2 c = search needs
-
 behind-requires : tie.Need-behind-requires
 behind-requires c κs =
     rw (c .before .it2 .given .1) at (c .before .before .before .before .pre .0)
-
-enum-known-it-3 : tie.Need-enum-known-it-3
-enum-known-it-3 c = search needs
 
 behind-requires-2 : tie.Need-behind-requires-2
 behind-requires-2 c κs =
@@ -49,29 +34,14 @@ returns-3 : tie.Need-returns-3
 returns-3 c =
     rw (c .before .before .it2 .given .1) (refl, c .behind .ensures, refl)
 
-same-length : tie.Need-same-length
-same-length c = search needs
-
 returns-4 : tie.Need-returns-4
 returns-4 c =
     let S = rw (c .before .before .before .before .behind2 .ensures) at (c .before .before .record-step .ensures) in
     rw (c .before .before .before .before .before .before .it3 .given .1) S
 
+-- the search closes the other needs
 pub after-item-spec : {M : Type 1} → statement M
 after-item-spec =
     tie.close
-    (tie.spec
-    enum-known-it
-    last-step-requires
-    enum-told
-    end-step-requires
-    enum-known-it-2
-    behind-requires
-    enum-known-it-3
-    behind-requires-2
-    record-step-requires
-    returns
-    returns-2
-    returns-3
-    same-length
-    returns-4)
+    (tie.spec (λ c. search needs) (λ c κs. search needs) (λ c. search needs) end-step-requires (λ c. search needs) behind-requires
+    (λ c. search needs) behind-requires-2 record-step-requires returns returns-2 returns-3 (λ c. search needs) returns-4)

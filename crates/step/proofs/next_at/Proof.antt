@@ -16,12 +16,6 @@ abbrev μ-loop : tie.MeasureT-loop
 loop-holds : tie.Need-loop-holds Inv-loop μ-loop
 loop-holds c = left-first _ _ _ _
 
-step-at-requires : tie.Need-step-at-requires Inv-loop μ-loop
-step-at-requires c κs = search needs
-
-enum-told : tie.Need-enum-told Inv-loop μ-loop
-enum-told c = search needs
-
 same-length : tie.Need-same-length Inv-loop μ-loop
 same-length c =
     let u = ap length (c .before .before .before .before .before .before .loop .inv .unwritten) in search needs
@@ -48,19 +42,9 @@ loop-again : tie.Need-loop-again Inv-loop μ-loop
 loop-again c =
     left-again (c .before .before .before .before .before .before .before .before .before .loop .inv) (c .before .before .before .before .before .before .step-at .ensures) (c .before .if1 .left) (c .before .before .enum-told .given .1)
 
+-- the search closes the other needs
 pub next-at-spec : {M : Type 1} → statement M
 next-at-spec =
     tie.close
-    (tie.spec
-    Inv-loop
-    μ-loop
-    loop-holds
-    step-at-requires
-    enum-told
-    same-length
-    returns
-    same-length-2
-    returns-2
-    sub-left
-    loop-less
-    loop-again)
+    (tie.spec Inv-loop μ-loop loop-holds (λ c κs. search needs) (λ c. search needs) same-length returns same-length-2 returns-2
+    sub-left loop-less loop-again)

@@ -6,21 +6,6 @@ use borrow.Author.Needs.{needs}
 use Rattle.step.proofs.open_at.Statement.{statement}
 use Rattle.step.proofs.open_at.Tie as tie
 
-opened-requires : tie.Need-opened-requires
-opened-requires c κs = search needs
-
-enum-known-o : tie.Need-enum-known-o
-enum-known-o c = search needs
-
-fresh-requires : tie.Need-fresh-requires
-fresh-requires c κs = search needs
-
-enum-known-o-2 : tie.Need-enum-known-o-2
-enum-known-o-2 c = search needs
-
-fresh-requires-2 : tie.Need-fresh-requires-2
-fresh-requires-2 c κs = search needs
-
 returns : tie.Need-returns
 unfolding openStand
 returns c =
@@ -33,14 +18,9 @@ returns-2 c =
     let O = (rw (c .before .before .o2 .given .1) at (c .before .before .before .before .opened .ensures)) in
     opens-at _ _ (openingOf (c .before .before .before .before .before .before .args .file .now)) _ O (c .fresh2 .ensures)
 
+-- the search closes the other needs
 pub open-at-spec : {M : Type 1} → statement M
 open-at-spec =
     tie.close
-    (tie.spec
-    opened-requires
-    enum-known-o
-    fresh-requires
-    enum-known-o-2
-    fresh-requires-2
-    returns
+    (tie.spec (λ c κs. search needs) (λ c. search needs) (λ c κs. search needs) (λ c. search needs) (λ c κs. search needs) returns
     returns-2)

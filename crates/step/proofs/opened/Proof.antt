@@ -5,15 +5,6 @@ use borrow.Author.Needs.{needs}
 use Rattle.step.proofs.opened.Statement.{statement}
 use Rattle.step.proofs.opened.Tie as tie
 
-opening-requires : tie.Need-opening-requires
-opening-requires c κs = search needs
-
-enum-known-head : tie.Need-enum-known-head
-enum-known-head c = search needs
-
-enum-known-head-2 : tie.Need-enum-known-head-2
-enum-known-head-2 c = search needs
-
 returns : tie.Need-returns
 returns c =
     let T = c .before .before .before .opening .ensures in
@@ -26,6 +17,7 @@ returns-2 c =
     let U = (rw (c .before .head2 .given .1) at T) in
     ap openOutcome (U .same)
 
+-- the search closes the other needs
 pub opened-spec : {M : Type 1} → statement M
 opened-spec =
-    tie.close (tie.spec opening-requires enum-known-head enum-known-head-2 returns returns-2)
+    tie.close (tie.spec (λ c κs. search needs) (λ c. search needs) (λ c. search needs) returns returns-2)

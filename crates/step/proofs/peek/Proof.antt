@@ -14,24 +14,6 @@ use Rattle.step.proofs.peek.Tie as tie
 reads-at : (y : tie.After-decode) (it : Told) → y .decode .result ≡ it → Reads it (y .before .before .args .s .now) (itemOf (y .before .before .args .version) (y .before .before .args .s .now))
 reads-at y it e = rw e at (y .decode .ensures)
 
-decode-requires : tie.Need-decode-requires
-decode-requires c κs = search needs
-
-enum-known-it : tie.Need-enum-known-it
-enum-known-it c = search needs
-
-enum-known-it-2 : tie.Need-enum-known-it-2
-enum-known-it-2 c = search needs
-
-kept-of-requires : tie.Need-kept-of-requires
-kept-of-requires c κs = search needs
-
-enum-known-kept : tie.Need-enum-known-kept
-enum-known-kept c = search needs
-
-enum-told : tie.Need-enum-told
-enum-told c = search needs
-
 returns : tie.Need-returns
 returns c =
     let a = c .before .before .before .before .before .before .before .before in
@@ -50,12 +32,6 @@ returns-2 c =
     let W = rw (c .before .before .kept .given .1) at (c .before .before .before .before .kept-of .ensures .1) in
     peek-long _ _ _ (a .args .len) _ (a .pre .1) (a .pre .0) _ _ _ _ _ R _ (sym (c .before .before .before .before .kept-of .ensures .0) ∙ c .before .before .kept .given .1) (omega (arith, W, a .pre .0)) (c .if1 .taken)
 
-add-made-step : tie.Need-add-made-step
-add-made-step c = search needs
-
-made-step-requires : tie.Need-made-step-requires
-made-step-requires c κs = search needs
-
 returns-3 : tie.Need-returns-3
 returns-3 c =
     let a = c .before .before .before .before .before in
@@ -73,21 +49,9 @@ returns-5 c =
     let a = c .before .before .before in
     none-of _ _ _ (c .before .decode .result) (c .match .keys3) (c .before .decode .ensures)
 
+-- the search closes the other needs
 pub peek-spec : {M : Type 1} → statement M
 peek-spec =
     tie.close
-    (tie.spec
-    decode-requires
-    enum-known-it
-    enum-known-it-2
-    kept-of-requires
-    enum-known-kept
-    enum-told
-    returns
-    sub-if1
-    returns-2
-    add-made-step
-    made-step-requires
-    returns-3
-    returns-4
-    returns-5)
+    (tie.spec (λ c κs. search needs) (λ c. search needs) (λ c. search needs) (λ c κs. search needs) (λ c. search needs)
+    (λ c. search needs) returns sub-if1 returns-2 (λ c. search needs) (λ c κs. search needs) returns-3 returns-4 returns-5)

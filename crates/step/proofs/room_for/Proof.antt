@@ -8,12 +8,6 @@ use Rattle.step.proofs.room_for.Tie as tie
 returns : tie.Need-returns
 returns c = ample-room _ (c .if1 .taken) _ _ _
 
-peek-requires : tie.Need-peek-requires
-peek-requires c κs = search needs
-
-enum-known-seen : tie.Need-enum-known-seen
-enum-known-seen c = search needs
-
 returns-2 : tie.Need-returns-2
 returns-2 c =
     no-room (c .before .peek .result) _ (c .match .keys2) ∙ c .before .peek .ensures .same _
@@ -34,14 +28,8 @@ returns-4 c =
     let P = rw (c .before .before .before .seen .given .1) at (c .before .before .before .before .before .peek .ensures .same (c .before .before .before .before .before .before .before .before .args .room)) in
     room-enough _ _ (rw e at (c .if2 .left)) ∙ P
 
+-- the search closes the other needs
 pub room-for-spec : {M : Type 1} → statement M
 room-for-spec =
     tie.close
-    (tie.spec
-    returns
-    peek-requires
-    enum-known-seen
-    returns-2
-    record-size-requires
-    returns-3
-    returns-4)
+    (tie.spec returns (λ c κs. search needs) (λ c. search needs) returns-2 record-size-requires returns-3 returns-4)

@@ -7,12 +7,6 @@ use borrow.Author.Needs.{needs}
 use Rattle.step.proofs.step_item.Statement.{statement}
 use Rattle.step.proofs.step_item.Tie as tie
 
-lesser-requires : tie.Need-lesser-requires
-lesser-requires c κs = search needs
-
-lesser-requires-2 : tie.Need-lesser-requires-2
-lesser-requires-2 c κs = search needs
-
 sub-rest : tie.Need-sub-rest
 sub-rest c =
     let a = c .before .before .before .before in
@@ -23,25 +17,16 @@ part-rest-start c =
     let a = c .before .before .before .before in
     omega (arith, c .before .lesser .ensures, lesser-most (a .args .stand .place) (length (a .args .file .now)))
 
-part-rest-end : tie.Need-part-rest-end
-part-rest-end c = search needs
-
 room-for-requires : tie.Need-room-for-requires
 room-for-requires c κs =
     let a = c .before .before .before .before .before .before in
     (omega (arith, c .before .before .lesser2 .ensures, lesser-most (a .args .stand .len) 4096), a .pre .1)
-
-enum-known-room : tie.Need-enum-known-room
-enum-known-room c = search needs
 
 returns : tie.Need-returns
 returns c =
     let a = c .before .before .before .before .before .before .before .before .before .before in
     let q = rw (c .before .room .given .1, c .before .before .before .before .before .before .before .lesser .ensures, c .before .before .before .before .before .before .lesser2 .ensures) at (c .before .before .before .room-for .ensures) in
     step-lacks (a .args .stand) _ _ _ (a .pre .0) (a .pre .1) _ q
-
-enum-told : tie.Need-enum-told
-enum-told c = search needs
 
 take-item-requires : tie.Need-take-item-requires
 take-item-requires c κs =
@@ -54,9 +39,6 @@ after-item-requires c κs =
     let T = rw (c .before .before .before .before .before .before .before .before .before .before .lesser .ensures, c .before .before .before .before .before .before .before .before .before .lesser2 .ensures) at (c .before .before .take-item .ensures .0) in
     (step-within (a .args .stand) _ (a .args .file .now) (a .args .out .now) (a .pre .0) (a .pre .1) _ _ T (omega (arith, a .good)), T .whole)
 
-same-length : tie.Need-same-length
-same-length c = search needs
-
 returns-2 : tie.Need-returns-2
 returns-2 c =
     let a = c .before .before .before .before .before .before .before .before .before .before .before .before .before .before .before .before in
@@ -65,20 +47,9 @@ returns-2 c =
     let q = rw (c .before .before .before .before .before .before .before .enum-told .given .1, c .before .before .before .before .before .before .before .before .before .before .before .before .before .lesser .ensures, c .before .before .before .before .before .before .before .before .before .before .before .before .lesser2 .ensures) at (c .before .before .before .before .before .before .before .before .before .room-for .ensures) in
     step-after (a .args .stand) _ _ _ (a .pre .0) (a .pre .1) _ _ T K q _ (rw (c .before .before .before .before .before .before .before .before .before .before .before .before .before .lesser .ensures) (ap length (rest-is (a .args .stand) (a .args .bytes .now) (a .args .file .now) (a .args .out .now) (a .pre .0) (a .pre .1)))) _ _ (c .before .before .after-item .ensures)
 
+-- the search closes the other needs
 pub step-item-spec : {M : Type 1} → statement M
 step-item-spec =
     tie.close
-    (tie.spec
-    lesser-requires
-    lesser-requires-2
-    sub-rest
-    part-rest-start
-    part-rest-end
-    room-for-requires
-    enum-known-room
-    returns
-    enum-told
-    take-item-requires
-    after-item-requires
-    same-length
-    returns-2)
+    (tie.spec (λ c κs. search needs) (λ c κs. search needs) sub-rest part-rest-start (λ c. search needs) room-for-requires
+    (λ c. search needs) returns (λ c. search needs) take-item-requires after-item-requires (λ c. search needs) returns-2)

@@ -18,15 +18,6 @@ abbrev μ-loop : tie.MeasureT-loop
 μ-loop file version place room₀ seed at₀ label₀ setting₀ index₀ room at label setting index =
     length file - at
 
-blank-requires : tie.Need-blank-requires Inv-loop μ-loop
-blank-requires c κs = search needs
-
-start-setting-requires : tie.Need-start-setting-requires Inv-loop μ-loop
-start-setting-requires c κs = search needs
-
-empty-requires : tie.Need-empty-requires Inv-loop μ-loop
-empty-requires c κs = search needs
-
 loop-holds : tie.Need-loop-holds Inv-loop μ-loop
 loop-holds c =
     let b = c .before .before .before .blank in
@@ -34,15 +25,6 @@ loop-holds c =
     let e = c .empty .ensures in
     let s = c .before .before .start-setting .ensures in
     going-first _ _ _ _ _ _ _ s (b .ensures) (c .before .before .before .before .before .before .pre .1) w (e .0) (e .1) (e .2)
-
-sub-rest : tie.Need-sub-rest Inv-loop μ-loop
-sub-rest c = search needs
-
-part-rest-start : tie.Need-part-rest-start Inv-loop μ-loop
-part-rest-start c = search needs
-
-part-rest-end : tie.Need-part-rest-end Inv-loop μ-loop
-part-rest-end c = search needs
 
 take-next-requires : tie.Need-take-next-requires Inv-loop μ-loop
 take-next-requires c κs =
@@ -55,19 +37,10 @@ judge-step-requires c κs =
     let p = c .before .before .before .before .before .before .before .before .before .before .before .before .before .pre in
     (G .knows .holds, T .short, T .whole, count-few _ _ _ _ _ _ _ _ _ G (p .0) (p .2))
 
-enum-known-it : tie.Need-enum-known-it Inv-loop μ-loop
-enum-known-it c = search needs
-
-enum-told : tie.Need-enum-told Inv-loop μ-loop
-enum-told c = search needs
-
 ended-requires : tie.Need-ended-requires Inv-loop μ-loop
 ended-requires c κs =
     let l = c .before .before .before .before .before .before .before .before .before .before .before in
     omega (arith, l .loop .inv .inside, l .before .before .before .before .before .before .before .pre .0)
-
-enum-known-it-2 : tie.Need-enum-known-it-2 Inv-loop μ-loop
-enum-known-it-2 c = search needs
 
 add-at : tie.Need-add-at Inv-loop μ-loop
 add-at c =
@@ -106,12 +79,6 @@ slice-aggregate-clear c =
     let f = c .before .before .before .before .before .before .before .before .before .before .before .loop .inv .knows .holds .body .fits in
     counted (J .last .0) _ (omega (arith, J .kept .0, f))
 
-clear-requires : tie.Need-clear-requires Inv-loop μ-loop
-clear-requires c κs = search needs
-
-same-length : tie.Need-same-length Inv-loop μ-loop
-same-length c = search needs
-
 returns : tie.Need-returns Inv-loop μ-loop
 returns c =
     let G = c .before .before .before .before .before .before .before .before .before .before .before .before .before .before .loop .inv in
@@ -124,30 +91,11 @@ returns c =
       all-cleared (J .last .0) _ _ (c .before .before .clear .ensures) (J .kept .0 ∙ G .kept),
     )
 
+-- the search closes the other needs
 pub judge-items-spec : {M : Type 1} → statement M
 judge-items-spec =
     tie.close
-    (tie.spec
-    Inv-loop
-    μ-loop
-    blank-requires
-    start-setting-requires
-    empty-requires
-    loop-holds
-    sub-rest
-    part-rest-start
-    part-rest-end
-    take-next-requires
-    judge-step-requires
-    enum-known-it
-    enum-told
-    ended-requires
-    enum-known-it-2
-    add-at
-    loop-less
-    loop-again
-    slice-relend-prefix-clear
-    slice-aggregate-clear
-    clear-requires
-    same-length
-    returns)
+    (tie.spec Inv-loop μ-loop (λ c κs. search needs) (λ c κs. search needs) (λ c κs. search needs) loop-holds (λ c. search needs)
+    (λ c. search needs) (λ c. search needs) take-next-requires judge-step-requires (λ c. search needs) (λ c. search needs)
+    ended-requires (λ c. search needs) add-at loop-less loop-again slice-relend-prefix-clear slice-aggregate-clear
+    (λ c κs. search needs) (λ c. search needs) returns)

@@ -4,27 +4,9 @@ use borrow.Author.Needs.{needs}
 use Rattle.strict.proofs.judge_step.Statement.{statement}
 use Rattle.strict.proofs.judge_step.Tie as tie
 
-enum-known-step : tie.Need-enum-known-step
-enum-known-step c = search needs
-
-enum-told : tie.Need-enum-told
-enum-told c = search needs
-
-enum-known-step-2 : tie.Need-enum-known-step-2
-enum-known-step-2 c = search needs
-
-enum-known-step-3 : tie.Need-enum-known-step-3
-enum-known-step-3 c = search needs
-
 judge-requires : tie.Need-judge-requires
 judge-requires c κs =
     let p = c .before .before .before .before .before .pre in (p .0, rw (c .before .before .step3 .given .1) at (p .1), p .2, p .3)
-
-enum-known-judged : tie.Need-enum-known-judged
-enum-known-judged c = search needs
-
-enum-known-judged-2 : tie.Need-enum-known-judged-2
-enum-known-judged-2 c = search needs
 
 returns : tie.Need-returns
 returns c = rw (c .before .step .given .1) (λ earlier K. refl)
@@ -38,16 +20,10 @@ returns-3 c =
     let h = rw e at (c .before .before .before .before .pre .1) in
     rw e (λ earlier K. ((refl, refl), h, K))
 
-same-length : tie.Need-same-length
-same-length c = search needs
-
 returns-4 : tie.Need-returns-4
 returns-4 c =
     let J = rw (c .before .judged .given .1) at (c .before .before .before .before .before .judge .ensures) in
     rw (c .before .before .before .before .before .before .before .before .step3 .given .1) (λ earlier K. rw (J earlier K))
-
-same-length-2 : tie.Need-same-length-2
-same-length-2 c = search needs
 
 returns-5 : tie.Need-returns-5
 returns-5 c =
@@ -56,21 +32,9 @@ returns-5 c =
     let J = rw (c .before .judged2 .given .1) at (c .before .before .before .before .before .judge .ensures) in
     rw e (λ earlier K. rw (J earlier K .0) ((refl, refl), h, J earlier K .1))
 
+-- the search closes the other needs
 pub judge-step-spec : {M : Type 1} → statement M
 judge-step-spec =
     tie.close
-    (tie.spec
-    enum-known-step
-    enum-told
-    enum-known-step-2
-    enum-known-step-3
-    judge-requires
-    enum-known-judged
-    enum-known-judged-2
-    returns
-    returns-2
-    returns-3
-    same-length
-    returns-4
-    same-length-2
-    returns-5)
+    (tie.spec (λ c. search needs) (λ c. search needs) (λ c. search needs) (λ c. search needs) judge-requires (λ c. search needs)
+    (λ c. search needs) returns returns-2 returns-3 (λ c. search needs) returns-4 (λ c. search needs) returns-5)

@@ -6,15 +6,6 @@ use borrow.Author.Needs.{needs}
 use Rattle.summary.proofs.count_marks.Statement.{statement}
 use Rattle.summary.proofs.count_marks.Tie as tie
 
-rank-requires : tie.Need-rank-requires
-rank-requires c κs = search needs
-
-rank-requires-2 : tie.Need-rank-requires-2
-rank-requires-2 c κs = search needs
-
-wrapping-sub-u64-requires : tie.Need-wrapping-sub-u64-requires
-wrapping-sub-u64-requires c κs = search needs
-
 returns : tie.Need-returns
 unfolding countIn
 returns c =
@@ -23,6 +14,7 @@ returns c =
     let q : c .before .rank2 .result ≡ rankIn (a .words .now) (a .n) (a .b) = c .before .rank2 .ensures in
     omega (arith, c .wrapping-sub-u64 .ensures, c .wrapping-sub-u64 .ok, c .before .before .rank .ok, c .before .rank2 .ok)
 
+-- the search closes the other needs
 pub count-marks-spec : {M : Type 1} → statement M
 count-marks-spec =
-    tie.close (tie.spec rank-requires rank-requires-2 wrapping-sub-u64-requires returns)
+    tie.close (tie.spec (λ c κs. search needs) (λ c κs. search needs) (λ c κs. search needs) returns)

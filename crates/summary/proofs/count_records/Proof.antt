@@ -29,12 +29,6 @@ sub-other-size c = omega (arith, c .before .loop .inv .inside)
 part-other-size-start : tie.Need-part-other-size-start Inv-loop μ-loop
 part-other-size-start c = omega (arith, c .before .loop .inv .inside)
 
-part-other-size-end : tie.Need-part-other-size-end Inv-loop μ-loop
-part-other-size-end c = search needs
-
-other-size-requires : tie.Need-other-size-requires Inv-loop μ-loop
-other-size-requires c κs = search needs
-
 returns : tie.Need-returns Inv-loop μ-loop
 returns c =
     walked-flawed (c .before .before .before .before .loop .inv) (c .before .before .before .loop-test .taken) _ (simp part-to-end at (c .before .other-size .ensures)) (c .if1 .taken)
@@ -64,20 +58,9 @@ loop-again c =
 returns-2 : tie.Need-returns-2 Inv-loop μ-loop
 returns-2 c = walked-end (c .before .loop .inv) (c .loop-test .left)
 
+-- the search closes the other needs
 pub count-records-spec : {M : Type 1} → statement M
 count-records-spec =
     tie.close
-    (tie.spec
-    Inv-loop
-    μ-loop
-    loop-holds
-    sub-other-size
-    part-other-size-start
-    part-other-size-end
-    other-size-requires
-    returns
-    add-number
-    add-at
-    loop-less
-    loop-again
-    returns-2)
+    (tie.spec Inv-loop μ-loop loop-holds sub-other-size part-other-size-start (λ c. search needs) (λ c κs. search needs) returns
+    add-number add-at loop-less loop-again returns-2)

@@ -4,12 +4,6 @@ use borrow.Author.Needs.{needs}
 use Rattle.summary.proofs.entrances.Statement.{statement}
 use Rattle.summary.proofs.entrances.Tie as tie
 
-words-for-requires : tie.Need-words-for-requires
-words-for-requires c κs = search needs
-
-mul-least : tie.Need-mul-least
-mul-least c = search needs
-
 returns : tie.Need-returns
 returns c =
     let a = c .before .before .before .args in short (a .words .now) (a .records) (a .from) (a .to) (c .before .words-for .result) (c .before .words-for .ensures) (c .if1 .taken)
@@ -23,27 +17,15 @@ returns-3 c =
     let a = c .before .before .before .before .before .args in
     past (a .words .now) (a .records) (a .from) (a .to) (c .before .before .before .words-for .result) (c .before .before .before .words-for .ensures) (c .before .before .if1 .left) (c .before .if2 .left) (c .if3 .taken)
 
-count-marks-requires : tie.Need-count-marks-requires
-count-marks-requires c κs = search needs
-
-next-mark-requires : tie.Need-next-mark-requires
-next-mark-requires c κs = search needs
-
 returns-4 : tie.Need-returns-4
 returns-4 c =
     let a = c .before .before .before .before .before .before .before .args in
     held (a .words .now) (a .records) (a .from) (a .to) (c .before .before .before .before .before .words-for .result) (c .before .before .before .before .before .words-for .ensures) (c .before .before .before .before .if1 .left)
     (c .before .count-marks .result) (c .next-mark .result) (c .before .before .before .if2 .left) (c .before .before .if3 .left) (c .before .count-marks .ensures) (c .next-mark .ensures)
 
+-- the search closes the other needs
 pub entrances-spec : {M : Type 1} → statement M
 entrances-spec =
     tie.close
-    (tie.spec
-    words-for-requires
-    mul-least
-    returns
-    returns-2
-    returns-3
-    count-marks-requires
-    next-mark-requires
+    (tie.spec (λ c κs. search needs) (λ c. search needs) returns returns-2 returns-3 (λ c κs. search needs) (λ c κs. search needs)
     returns-4)

@@ -8,9 +8,6 @@ use borrow.Author.Needs.{needs}
 use Rattle.summary.proofs.mark_of.Statement.{statement}
 use Rattle.summary.proofs.mark_of.Tie as tie
 
-shared-slice-read-if1 : tie.Need-shared-slice-read-if1
-shared-slice-read-if1 c = search needs
-
 returns : tie.Need-returns
 returns c = simp (ne-eqb _ _ (c .if1 .taken))
 
@@ -18,14 +15,12 @@ shared-slice-read-result : tie.Need-shared-slice-read-result
 shared-slice-read-result c =
     omega (arith, c .before .before .before .pre .1 (c .before .if1 .left))
 
-cast-result : tie.Need-cast-result
-cast-result c = search needs
-
 returns-2 : tie.Need-returns-2
 returns-2 c =
     simp (eq-eqb _ _ (c .before .if1 .left)) (sym (is-one _ (omega arith)))
 
+-- the search closes the other needs
 pub mark-of-spec : {M : Type 1} → statement M
 mark-of-spec =
     tie.close
-    (tie.spec shared-slice-read-if1 returns shared-slice-read-result cast-result returns-2)
+    (tie.spec (λ c. search needs) returns shared-slice-read-result (λ c. search needs) returns-2)

@@ -55,9 +55,6 @@ sub-rest c = omega (arith, walk-at c .inside)
 part-rest-start : tie.Need-part-rest-start Inv-loop μ-loop
 part-rest-start c = omega (arith, walk-at c .inside)
 
-part-rest-end : tie.Need-part-rest-end Inv-loop μ-loop
-part-rest-end c = search needs
-
 mark-of-requires : tie.Need-mark-of-requires Inv-loop μ-loop
 mark-of-requires c κs =
     let m = mark-there _ _ (bytes-at (c .before)) _ _ (there-at (c .before) .same) in simp part-to-end (m .1, m .2)
@@ -77,9 +74,6 @@ add-number c =
 get-be16-requires : tie.Need-get-be16-requires Inv-loop μ-loop
 get-be16-requires c κs =
     simp part-to-end (let h = long-at (c .before .before .before .before .before .before) in omega arith)
-
-size-of-requires : tie.Need-size-of-requires Inv-loop μ-loop
-size-of-requires c κs = search needs
 
 add-at : tie.Need-add-at Inv-loop μ-loop
 add-at c =
@@ -107,32 +101,14 @@ loop-again c = (
       ),
 )
 
-same-length : tie.Need-same-length Inv-loop μ-loop
-same-length c = search needs
-
 returns : tie.Need-returns Inv-loop μ-loop
 returns c =
     λ v g. let W = c .before .loop .inv .1 v g in put-to (sym (walked-end (W .0) (c .loop-test .left) .many)) (W .1)
 
+-- the search closes the other needs
 pub put-marks-spec : {M : Type 1} → statement M
 put-marks-spec =
     tie.close
-    (tie.spec
-    Inv-loop
-    μ-loop
-    loop-holds
-    sub-rest
-    part-rest-start
-    part-rest-end
-    mark-of-requires
-    add-write-bits
-    write-bits-requires
-    add-number
-    get-be16-requires
-    size-of-requires
-    add-at
-    add-at-2
-    loop-less
-    loop-again
-    same-length
+    (tie.spec Inv-loop μ-loop loop-holds sub-rest part-rest-start (λ c. search needs) mark-of-requires add-write-bits
+    write-bits-requires add-number get-be16-requires (λ c κs. search needs) add-at add-at-2 loop-less loop-again (λ c. search needs)
     returns)

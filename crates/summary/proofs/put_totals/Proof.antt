@@ -24,33 +24,9 @@ unfolding sumTo
 loop-holds c =
     (omega arith, refl, refl, omega arith, totalled-none (c .before .args .words .now) (c .before .args .w))
 
-add-words : tie.Need-add-words Inv-loop μ-loop
-add-words c = search needs
-
-mul-words : tie.Need-mul-words Inv-loop μ-loop
-mul-words c = search needs
-
-slice-write-words : tie.Need-slice-write-words Inv-loop μ-loop
-slice-write-words c = search needs
-
-mul-ones-of : tie.Need-mul-ones-of Inv-loop μ-loop
-mul-ones-of c = search needs
-
 slice-read-ones-of : tie.Need-slice-read-ones-of Inv-loop μ-loop
 slice-read-ones-of c =
     let l = c .before .before .loop in lt-length-set (l .words) (c .before .before .before .before .args .w + l .j) (l .sum) (omega arith)
-
-ones-of-requires : tie.Need-ones-of-requires Inv-loop μ-loop
-ones-of-requires c κs = search needs
-
-add-sum : tie.Need-add-sum Inv-loop μ-loop
-add-sum c = search needs
-
-add-j : tie.Need-add-j Inv-loop μ-loop
-add-j c = search needs
-
-loop-less : tie.Need-loop-less Inv-loop μ-loop
-loop-less c = search needs
 
 loop-again : tie.Need-loop-again Inv-loop μ-loop
 loop-again c =
@@ -66,30 +42,15 @@ loop-again c =
       totalled-next (l .j) (l .sum) h p (l .inv .2) (l .inv .4),
     )
 
-same-length : tie.Need-same-length Inv-loop μ-loop
-same-length c = search needs
-
 returns : tie.Need-returns Inv-loop μ-loop
 returns c =
     let e : c .before .loop .j ≡ c .before .before .before .args .w = omega (arith, c .loop-test .left) in
     subst (λ (k : ℕ). Totalled (c .before .before .before .args .words .now) (c .before .loop .words) (c .before .before .before .args .w) k) e (c .before .loop .inv .4)
 
+-- the search closes the other needs
 pub put-totals-spec : {M : Type 1} → statement M
 put-totals-spec =
     tie.close
-    (tie.spec
-    Inv-loop
-    μ-loop
-    loop-holds
-    add-words
-    mul-words
-    slice-write-words
-    mul-ones-of
-    slice-read-ones-of
-    ones-of-requires
-    add-sum
-    add-j
-    loop-less
-    loop-again
-    same-length
-    returns)
+    (tie.spec Inv-loop μ-loop loop-holds (λ c. search needs) (λ c. search needs) (λ c. search needs) (λ c. search needs)
+    slice-read-ones-of (λ c κs. search needs) (λ c. search needs) (λ c. search needs) (λ c. search needs) loop-again
+    (λ c. search needs) returns)

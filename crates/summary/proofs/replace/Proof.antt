@@ -11,12 +11,6 @@ use borrow.Author.Needs.{needs}
 use Rattle.summary.proofs.replace.Statement.{statement}
 use Rattle.summary.proofs.replace.Tie as tie
 
-add-to : tie.Need-add-to
-add-to c = search needs
-
-move-bits-requires : tie.Need-move-bits-requires
-move-bits-requires c κs = search needs
-
 put-marks-requires : tie.Need-put-marks-requires
 put-marks-requires c κs =
     let C = c .before .before .before .before .before .before .before .pre .5 in (
@@ -29,15 +23,6 @@ put-marks-requires c κs =
       },
     )
 
-add-finish : tie.Need-add-finish
-add-finish c = search needs
-
-finish-requires : tie.Need-finish-requires
-finish-requires c κs = search needs
-
-same-length : tie.Need-same-length
-same-length c = search needs
-
 returns : tie.Need-returns
 returns c =
     let a = c .before .before .before .before .before .before .before .before .before .before .before .before .before .before .args in
@@ -46,14 +31,9 @@ returns c =
     (length-marks (recordsOf sheetVersion (a .new .now) .records) ∙ C .many) (c .before .before .before .before .before .before .before .before .before .before .before .before .before .before .pre .0) (c .before .before .before .before .before .before .put-marks .kept .0 ∙ c .before .before .before .before .before .before .before .before .before .before .move-bits .kept .0)
     (c .before .before .before .before .before .before .before .before .before .before .move-bits .ensures) (put-to (C .many) (c .before .before .before .before .before .before .put-marks .ensures sheetVersion (C .good))) (c .before .before .finish .ensures)
 
+-- the search closes the other needs
 pub replace-spec : {M : Type 1} → statement M
 replace-spec =
     tie.close
-    (tie.spec
-    add-to
-    move-bits-requires
-    put-marks-requires
-    add-finish
-    finish-requires
-    same-length
-    returns)
+    (tie.spec (λ c. search needs) (λ c κs. search needs) put-marks-requires (λ c. search needs) (λ c κs. search needs)
+    (λ c. search needs) returns)

@@ -9,18 +9,6 @@ use borrow.Author.Needs.{needs}
 use Rattle.summary.proofs.summarize.Statement.{statement}
 use Rattle.summary.proofs.summarize.Tie as tie
 
-version-of-requires : tie.Need-version-of-requires
-version-of-requires c κs = search needs
-
-read-front-requires : tie.Need-read-front-requires
-read-front-requires c κs = search needs
-
-enum-told : tie.Need-enum-told
-enum-told c = search needs
-
-enum-known-front : tie.Need-enum-known-front
-enum-known-front c = search needs
-
 add-summarize-records : tie.Need-add-summarize-records
 add-summarize-records c =
     let F = rw (c .before .front .given .1) at (c .before .before .before .read-front .ensures) in
@@ -42,9 +30,6 @@ returns c =
     let a = c .before .before .before .before .before .before .args in
     whole-flawed _ (a .sheet .now) (a .words .now) (c .before .before .before .version-of .ensures) F
 
-same-length : tie.Need-same-length
-same-length c = search needs
-
 returns-2 : tie.Need-returns-2
 unfolding summaryOutcome summaryWords
 returns-2 c =
@@ -54,17 +39,9 @@ returns-2 c =
     let E = c .before .before .summarize-records .ensures in
     (E .0 ∙ ap (λ (x : Result). madeOutcome x (length (a .words .now))) (sym W), E .1 ∙ ap (λ (x : Result). madeWords x (a .words .now)) (sym W))
 
+-- the search closes the other needs
 pub summarize-spec : {M : Type 1} → statement M
 summarize-spec =
     tie.close
-    (tie.spec
-    version-of-requires
-    read-front-requires
-    enum-told
-    enum-known-front
-    add-summarize-records
-    add-summarize-records-2
-    summarize-records-requires
-    returns
-    same-length
-    returns-2)
+    (tie.spec (λ c κs. search needs) (λ c κs. search needs) (λ c. search needs) (λ c. search needs) add-summarize-records
+    add-summarize-records-2 summarize-records-requires returns (λ c. search needs) returns-2)

@@ -12,21 +12,6 @@ use borrow.Author.Needs.{needs}
 use Rattle.summary.proofs.summarize_records.Statement.{statement}
 use Rattle.summary.proofs.summarize_records.Tie as tie
 
-count-records-requires : tie.Need-count-records-requires
-count-records-requires c κs = search needs
-
-enum-known-counted : tie.Need-enum-known-counted
-enum-known-counted c = search needs
-
-enum-known-counted-2 : tie.Need-enum-known-counted-2
-enum-known-counted-2 c = search needs
-
-words-for-requires : tie.Need-words-for-requires
-words-for-requires c κs = search needs
-
-mul-least : tie.Need-mul-least
-mul-least c = search needs
-
 returns : tie.Need-returns
 returns c =
     let a = c .before .before .before .before .before .before .before .before .args in
@@ -56,9 +41,6 @@ returns-2 c =
     let C = rw (c .before .counted .given .1) at (c .before .before .before .count-records .ensures) in
     make-flawed (recordsOf (a .version) (drop (a .begin) (a .sheet .now))) (a .words .now) _ C
 
-same-length : tie.Need-same-length
-same-length c = search needs
-
 returns-3 : tie.Need-returns-3
 returns-3 c =
     let a = c .before .before .before .before .before .before .before .before .before .before .before .before .before .before .before .before .args in
@@ -68,18 +50,9 @@ returns-3 c =
     (made (a .words .now) (c .before .before .before .before .before .before .put-marks .last .0) (c .before .before .finish .last .0) (marksIn (x .records)) _ (length-marks (x .records) ∙ C .many) (c .before .before .before .before .before .before .put-marks .kept .0)
     (put-to (C .many) (c .before .before .before .before .before .before .put-marks .ensures (a .version) (C .good))) (c .before .before .finish .ensures))
 
+-- the search closes the other needs
 pub summarize-records-spec : {M : Type 1} → statement M
 summarize-records-spec =
     tie.close
-    (tie.spec
-    count-records-requires
-    enum-known-counted
-    enum-known-counted-2
-    words-for-requires
-    mul-least
-    returns
-    put-marks-requires
-    finish-requires
-    returns-2
-    same-length
-    returns-3)
+    (tie.spec (λ c κs. search needs) (λ c. search needs) (λ c. search needs) (λ c κs. search needs) (λ c. search needs) returns
+    put-marks-requires finish-requires returns-2 (λ c. search needs) returns-3)

@@ -16,15 +16,6 @@ returns-2 : tie.Need-returns-2
 returns-2 c =
     let a = c .before .before .before .before .args in update-past (a .words .now) (a .new .now) (a .records) (a .first) (a .count) (omega (arith, c .if2 .taken, c .before .if1 .left))
 
-count-records-requires : tie.Need-count-records-requires
-count-records-requires c κs = search needs
-
-enum-known-counted : tie.Need-enum-known-counted
-enum-known-counted c = search needs
-
-enum-known-counted-2 : tie.Need-enum-known-counted-2
-enum-known-counted-2 c = search needs
-
 update-marks-requires : tie.Need-update-marks-requires
 update-marks-requires c κs =
     let C = rw (c .before .before .counted2 .given .1) at (c .before .before .before .before .count-records .ensures) in
@@ -37,23 +28,13 @@ returns-3 c =
     let h : a .first + a .count ≤ a .records = omega (arith, c .before .before .before .before .if2 .left, c .before .before .before .before .before .if1 .left) in
     update-flawed (a .words .now) (a .new .now) (a .records) (a .first) (a .count) h _ C
 
-same-length : tie.Need-same-length
-same-length c = search needs
-
 returns-4 : tie.Need-returns-4
 unfolding updateOutcome
 returns-4 c = c .before .before .update-marks .ensures
 
+-- the search closes the other needs
 pub update-spec : {M : Type 1} → statement M
 update-spec =
     tie.close
-    (tie.spec
-    returns
-    returns-2
-    count-records-requires
-    enum-known-counted
-    enum-known-counted-2
-    update-marks-requires
-    returns-3
-    same-length
-    returns-4)
+    (tie.spec returns returns-2 (λ c κs. search needs) (λ c. search needs) (λ c. search needs) update-marks-requires returns-3
+    (λ c. search needs) returns-4)

@@ -13,9 +13,6 @@ Inv-loop room name count back spread h b c₀ c = (c ≤ count) × Ahead room co
 abbrev μ-loop : tie.MeasureT-loop
 μ-loop room name count back spread h b c₀ c = c
 
-hash-requires : tie.Need-hash-requires Inv-loop μ-loop
-hash-requires c κs = search needs
-
 returns : tie.Need-returns Inv-loop μ-loop
 returns c =
     let s = c .before .before .before .before in
@@ -39,9 +36,6 @@ loop-holds c =
       first-within _ (s .args .room .now) (s .args .index .count) (s .args .name .now) (s .args .index .back) (s .args .index .spread) (s .pre) (c .before .before .before .hash .result) _ _ (c .before .chain .ensures .1) (c .head-of .ensures .0),
       ahead-first _ (s .args .room .now) (s .args .index .count) (s .args .name .now) (s .args .index .back) (s .args .index .spread) (s .pre) (c .before .before .before .hash .result) _ _ (c .before .before .before .hash .ensures) (c .before .chain .ensures .0) (c .head-of .ensures .0),
     )
-
-sub-i : tie.Need-sub-i Inv-loop μ-loop
-sub-i c = search needs
 
 has-name-requires : tie.Need-has-name-requires Inv-loop μ-loop
 has-name-requires c κs =
@@ -90,22 +84,9 @@ returns-3 c =
     let z : l .c ≡ 0 = omega arith in
     missing-told _ (s .args .room .now) (s .args .index .count) (s .args .name .now) (l .c) z (l .inv .1) _ (c .before .before .before .before .before .hash .ensures)
 
+-- the search closes the other needs
 pub find-spec : {M : Type 1} → statement M
 find-spec =
     tie.close
-    (tie.spec
-    Inv-loop
-    μ-loop
-    hash-requires
-    returns
-    chain-requires
-    head-of-requires
-    loop-holds
-    sub-i
-    has-name-requires
-    place-at-requires
-    returns-2
-    next-of-requires
-    loop-less
-    loop-again
-    returns-3)
+    (tie.spec Inv-loop μ-loop (λ c κs. search needs) returns chain-requires head-of-requires loop-holds (λ c. search needs)
+    has-name-requires place-at-requires returns-2 next-of-requires loop-less loop-again returns-3)

@@ -19,12 +19,10 @@ cast-result : tie.Need-cast-result
 cast-result c =
     omega (arith, product-fits _ _ (xor-lt 32 (c .args .h) (c .args .w) (c .fits .h .fits) (c .fits .w .fits)) (c .fits .k .fits))
 
-cast-result-2 : tie.Need-cast-result-2
-cast-result-2 c = search needs
-
 returns : tie.Need-returns
 unfolding mixOf
 returns c = search needs
 
+-- the search closes the other needs
 pub mix-spec : {M : Type 1} → statement M
-mix-spec = tie.close (tie.spec cast-m mul-m cast-result cast-result-2 returns)
+mix-spec = tie.close (tie.spec cast-m mul-m cast-result (λ c. search needs) returns)

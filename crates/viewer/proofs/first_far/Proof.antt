@@ -48,9 +48,6 @@ sub-rest c = omega (arith, c .loop-test .taken)
 part-rest-start : tie.Need-part-rest-start Inv-loop μ-loop
 part-rest-start c = omega (arith, c .loop-test .taken)
 
-part-rest-end : tie.Need-part-rest-end Inv-loop μ-loop
-part-rest-end c = search needs
-
 far-record-requires : tie.Need-far-record-requires Inv-loop μ-loop
 far-record-requires c κs = simp part-to-end (seeking-needs (c .before .before .loop .inv) (c .before .loop-test .taken))
 
@@ -87,22 +84,9 @@ loop-again c =
 returns-2 : tie.Need-returns-2 Inv-loop μ-loop
 returns-2 c = seeking-ends (c .before .loop .inv) (c .loop-test .left)
 
+-- the search closes the other needs
 pub first-far-spec : {M : Type 1} → statement M
 first-far-spec =
     tie.close
-    (tie.spec
-    Inv-loop
-    μ-loop
-    first-place-requires
-    loop-holds
-    sub-rest
-    part-rest-start
-    part-rest-end
-    far-record-requires
-    returns
-    add-number
-    size-at-requires
-    add-at
-    loop-less
-    loop-again
-    returns-2)
+    (tie.spec Inv-loop μ-loop first-place-requires loop-holds sub-rest part-rest-start (λ c. search needs) far-record-requires returns
+    add-number size-at-requires add-at loop-less loop-again returns-2)
