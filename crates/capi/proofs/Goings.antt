@@ -10,8 +10,8 @@ use Rattle.step.specs.Standing.{Steps}
 use Rattle.step.specs.Going.{goOn, nextRecord, nextBuffer}
 use Rattle.step.proofs.GoingLaws.{Left, left-first, left-again, go-stops, go-last}
 use Rattle.held.specs.Numbers.{heldOf, stateStand}
-use Rattle.told.specs.Numbers.{stepNumbers}
-use Rattle.told.specs.declared.StepNumbers.{StepNumbers}
+use Rattle.abi.specs.Numbers.{stepNumbers}
+use Rattle.abi.specs.declared.StepNumbers.{StepNumbers}
 
 -- the loop: what is left, from the numbers here, comes to the same as the whole
 pub record GoesOn (s label file old : List ℕ) (n : ℕ) (s′ label′ new : List ℕ) : Type 0 where

@@ -15,16 +15,23 @@ ghost use Rattle.format.specs.Answers.{openOutcome, reachedOf};
 ghost use Rattle.step.specs.Standing.{Opens};
 ghost use Rattle.step.specs.Going.{nextRecord, nextBuffer};
 ghost use Rattle.held.specs.Numbers.{heldOf, stateStand};
-ghost use Rattle.told.specs.Numbers.{outcomeNumbers, openNumbers, stepNumbers};
+ghost use Rattle.abi.specs.Numbers.{outcomeNumbers, openNumbers, stepNumbers};
 ghost use Rattle.read.specs.Salvage.{salvageOutcome, salvageBuffer, salvagedOf};
 ghost use Rattle.strict.specs.Strict.{strictOutcome, strictBuffer};
 ghost use Rattle.sha256.specs.Digest.{sha256Of};
 ghost use Rattle.sha256.specs.Streams.{updated, finished, begun, runningOf, stateStream};
-ghost use Rattle.told.specs.Compares.{comparedOf};
+ghost use Rattle.abi.specs.Compares.{comparedOf};
 ghost use Rattle.capi.specs.Reaches.{reachNumbers};
 ghost use Rattle.capi.specs.Salvages.{salvageNumbers};
-ghost use Rattle.told.specs.Views.{originOf, viewNumbers};
-ghost use Rattle.told.specs.Summaries.{summaryNumbers, entranceNumbers};
+ghost use Rattle.abi.specs.Views.{originOf, viewNumbers};
+ghost use Rattle.abi.specs.Summaries.{summaryNumbers, entranceNumbers};
+use abi::AnswerNumbers;
+use abi::Compared;
+use abi::EntranceNumbers;
+use abi::OpenNumbers;
+use abi::StepNumbers;
+use abi::SummaryNumbers;
+use abi::ViewNumbers;
 use format::LABEL_LIMIT;
 use format::Origin;
 use format::Reached;
@@ -33,13 +40,6 @@ use read::Salvaged;
 use sha256::BLOCK;
 use sha256::DIGEST;
 use sha256::RUNNING_NUMBERS;
-use told::AnswerNumbers;
-use told::Compared;
-use told::EntranceNumbers;
-use told::OpenNumbers;
-use told::StepNumbers;
-use told::SummaryNumbers;
-use told::ViewNumbers;
 
 // How far a survey reaches. Number 0 is success, with how many legs took part and the
 // least and the greatest x, y and z; any other is the refusal's number, with its place.
@@ -63,7 +63,7 @@ pub extern "C" fn cockledrift_read(file: &[u8], sheet: &mut [u8]) -> AnswerNumbe
     ensures sheet { λ _. ⌜ now (sheet .exit) ≡ readBuffer (now (file .entry)) (now (sheet .entry)) ⌝ }
 {
     let a = read::read(file, sheet);
-    told::tell(a)
+    abi::tell(a)
 }
 
 // What can be saved of a file. Refused 0 is success, with the sheet's bytes and records, the
@@ -96,13 +96,13 @@ fn tell_saved(s: Salvaged) -> SalvageNumbers
             refused: 0,
             bytes,
             records,
-            version: told::long(version),
-            number: told::long(number),
+            version: abi::long(version),
+            number: abi::long(number),
             place,
             left,
         },
         Salvaged::Refused { number, place } => SalvageNumbers {
-            refused: told::long(number),
+            refused: abi::long(number),
             bytes: 0,
             records: 0,
             version: 0,
@@ -138,7 +138,7 @@ pub extern "C" fn cockledrift_read_strict(
     ensures room { λ _. ⌜ now (room .exit) ≡ replicate (length (now (room .entry))) 0 ⌝ }
 {
     let a = strict::read_strict(file, sheet, room, seed);
-    told::tell(a)
+    abi::tell(a)
 }
 
 // Writes a sheet as a v8 file into the lent buffer.
@@ -148,7 +148,7 @@ pub extern "C" fn cockledrift_write(sheet: &[u8], out: &mut [u8]) -> AnswerNumbe
     ensures file { λ _. ⌜ now (out .exit) ≡ writeBuffer v8 (now (sheet .entry)) (now (out .entry)) ⌝ }
 {
     let a = write::write(sheet, out);
-    told::tell(a)
+    abi::tell(a)
 }
 
 // Writes a sheet as a v7 file into the lent buffer.
@@ -158,7 +158,7 @@ pub extern "C" fn cockledrift_write_v7(sheet: &[u8], out: &mut [u8]) -> AnswerNu
     ensures file { λ _. ⌜ now (out .exit) ≡ writeBuffer v7 (now (sheet .entry)) (now (out .entry)) ⌝ }
 {
     let a = write_v7::write_v7(sheet, out);
-    told::tell(a)
+    abi::tell(a)
 }
 
 // Reads a file to the lent sheet, then writes it as v8.
@@ -173,7 +173,7 @@ pub extern "C" fn cockledrift_convert(
     ensures file { λ _. ⌜ now (out .exit) ≡ convertBuffer (now (file .entry)) (length (now (sheet .entry))) (now (out .entry)) ⌝ }
 {
     let converted = convert::convert(file, sheet, out);
-    told::tell(converted)
+    abi::tell(converted)
 }
 
 // Which of two files was written later. The part of a file cannot be handed to C, so its
@@ -184,7 +184,7 @@ pub extern "C" fn cockledrift_compare(first: &[u8], second: &[u8]) -> Compared
 {
     let l = timeline::compare(first, second);
     let line = timeline::later_part(first, second);
-    told::tell_later(l, line)
+    abi::tell_later(l, line)
 }
 
 // Replaces `count` records of a house-written v8 file, from `first` on, by those of `new`,
@@ -201,7 +201,7 @@ pub extern "C" fn cockledrift_edit(
     ensures file { λ _. ⌜ now (out .exit) ≡ editBuffer (now (file .entry)) first count (now (new .entry)) (now (out .entry)) ⌝ }
 {
     let a = edit::edit(file, first, count, new, out);
-    told::tell(a)
+    abi::tell(a)
 }
 
 // Opens a step reader: where it stands is laid into the lent state. A refused opening
@@ -216,7 +216,7 @@ pub extern "C" fn cockledrift_open(file: &[u8], state: &mut [u64; STAND_NUMBERS]
     let numbers = held::numbers_of(stand);
     *state = numbers;
     let o = step::opened(file);
-    told::tell_open(o)
+    abi::tell_open(o)
 }
 
 // One step of a reader, from whatever the state and the label's buffer hold: exactly one
@@ -233,7 +233,7 @@ pub extern "C" fn cockledrift_step(
     ensures record { λ _. ⌜ now (out .exit) ≡ stepBuffer (stateStand (now (state .entry)) (now (label .entry))) (now (file .entry)) (now (out .entry)) ⌝ }
 {
     let answer = held::one_step(file, state, label, out);
-    told::tell_step(answer)
+    abi::tell_step(answer)
 }
 
 // Steps on to the next record, the end or a refusal: never answers 2. Each item on the way
@@ -328,7 +328,7 @@ fn tell_reach(r: Reached) -> ReachNumbers
             greatest_z: greatest.z,
         },
         Reached::Refused { number, place } => ReachNumbers {
-            number: told::long(number),
+            number: abi::long(number),
             place,
             legs: 0,
             least_x: 0,
@@ -365,7 +365,7 @@ pub extern "C" fn cockledrift_viewer_legs(
 {
     let origin = Origin { x, y, z };
     let r = viewer::viewer_legs(sheet, origin, out);
-    told::tell_viewed(r)
+    abi::tell_viewed(r)
 }
 
 // Makes the summary of a sheet's entrances in the lent words.
@@ -375,7 +375,7 @@ pub extern "C" fn cockledrift_summary(sheet: &[u8], words: &mut [u64]) -> Summar
     ensures words { λ _. ⌜ now (words .exit) ≡ summaryWords (now (sheet .entry)) (now (words .entry)) ⌝ }
 {
     let s = summary::summarize(sheet, words);
-    told::tell_summed(s)
+    abi::tell_summed(s)
 }
 
 // How many entrances a summary of so many records holds from one record up to but not
@@ -390,7 +390,7 @@ pub extern "C" fn cockledrift_entrances(
     ensures { λ r. ⌜ r ≡ entranceNumbers (entrancesOutcome (now (words .entry)) records from to) ⌝ }
 {
     let e = summary::entrances(words, records, from, to);
-    told::tell_entrances(e)
+    abi::tell_entrances(e)
 }
 
 // Brings a summary up to date after an edit of so many records: the run of `count` from
@@ -407,5 +407,5 @@ pub extern "C" fn cockledrift_summary_update(
     ensures words { λ _. ⌜ now (words .exit) ≡ updateWords records first count (now (new .entry)) (now (words .entry)) ⌝ }
 {
     let s = summary::update(words, records, first, count, new);
-    told::tell_summed(s)
+    abi::tell_summed(s)
 }

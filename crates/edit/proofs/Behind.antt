@@ -14,16 +14,16 @@ use Rattle.format.specs.Fields.{recordOf}
 use Rattle.format.specs.declared.Fields.{Fields}
 use Rattle.format.specs.Codes.{headerLimit}
 use Rattle.format.specs.Writing.{v8}
-use Rattle.records.specs.Places.{labelIn, stateAt}
-use Rattle.records.specs.declared.Place.{Place}
-use Rattle.house.specs.Walking.{restOf, Steps, Takes, Walks}
-use Rattle.house.specs.declared.Taken.{Taken}
-use Rattle.house.specs.declared.Taken.the-variants.{Refused, Foreign, End, Record as Next}
-use Rattle.house.proofs.Taken.{the-type}
-use Rattle.house.proofs.One.{met-formed}
-use Rattle.house.proofs.Walk.{walk-one, walk-sound, walk-foreign}
-use Rattle.tally.specs.Tallies.{Fits}
-use Rattle.tally.proofs.Left.{adds-few}
+use Rattle.scan.specs.Places.{labelIn, stateAt}
+use Rattle.scan.specs.declared.Place.{Place}
+use Rattle.judge.specs.Walking.{restOf, Steps, Takes, Walks}
+use Rattle.judge.specs.declared.Taken.{Taken}
+use Rattle.judge.specs.declared.Taken.the-variants.{Refused, Foreign, End, Record as Next}
+use Rattle.judge.proofs.Taken.{the-type}
+use Rattle.judge.proofs.One.{met-formed}
+use Rattle.judge.proofs.Walk.{walk-one, walk-sound, walk-foreign}
+use Rattle.counts.specs.Tallies.{Fits}
+use Rattle.counts.proofs.Left.{adds-few}
 use Rattle.edit.specs.Pens.{penState, sameState, Emits, Written, none, more, Standing, Behind, WentOn}
 use Rattle.edit.specs.declared.Pen.{Pen}
 use Rattle.edit.specs.declared.Went.{Went}

@@ -6,9 +6,9 @@ use lib.ListN.{length, take, drop}
 use lib.Seq.{drop-drop, take-add}
 use Rattle.format.specs.State.{State, Record}
 use Rattle.format.specs.Refusals.{Result}
-use Rattle.tally.specs.declared.Tally.{Tally}
+use Rattle.counts.specs.declared.Tally.{Tally}
 use Rattle.format.specs.Writing.{v8}
-use Rattle.tally.proofs.Left.{Left, left-more}
+use Rattle.counts.proofs.Left.{Left, left-more}
 use Rattle.edit.specs.Pens.{Written, none, more}
 
 pub written-then : {st st′ st″ : State} {d d′ d″ : List ℕ} {t t′ t″ : Tally} {rs ts : List Record} → Written st d t rs st′ d′ t′

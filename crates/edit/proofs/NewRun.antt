@@ -13,11 +13,11 @@ use Rattle.format.specs.declared.Fields.{Fields}
 use Rattle.sheet.specs.Seen.{EntryTold}
 use Rattle.sheet.specs.declared.Entry.the-variants.{Flawed, Whole}
 use Rattle.sheet.proofs.EntryAt.{part, none-at, flawed-at, found-size, found-at}
-use Rattle.tally.specs.Tallies.{Fits}
+use Rattle.counts.specs.Tallies.{Fits}
 use Rattle.format.specs.Header.{fileLimit}
 use Rattle.format.specs.Codes.{codesLimit}
 use Rattle.format.specs.Writing.{v8}
-use Rattle.tally.proofs.Left.{adds-few}
+use Rattle.counts.proofs.Left.{adds-few}
 use Rattle.edit.specs.Pens.{penState, PenFits, Emits, Written, none, more, PutsNew}
 use Rattle.edit.specs.Runs.{flawVerdict}
 use Rattle.edit.specs.declared.Pen.{Pen}

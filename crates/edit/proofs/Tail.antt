@@ -13,8 +13,8 @@ use Rattle.format.specs.declared.Answer.{Answer}
 use Rattle.format.proofs.Basics.{less-or-not}
 use Rattle.wire.specs.Laid.{laid, laidIf}
 use Rattle.wire.proofs.Laws.{laid-none, laid-some, laid-part, length-laid}
-use Rattle.tally.specs.Tallies.{settled, finalOutcome, Finished}
-use Rattle.tally.specs.declared.Tally.{Tally}
+use Rattle.counts.specs.Tallies.{settled, finalOutcome, Finished}
+use Rattle.counts.specs.declared.Tally.{Tally}
 
 pub laid-length : (d : List ℕ) (k : ℕ) (s : List ℕ) → length (laidIf d k s) ≡ length d
 laid-length d k s = less-or-not (length d) (k + length s) (λ h. ap length (laid-none d s k h)) λ h. ap length (laid-some d s k h) ∙ length-laid d s k h

@@ -33,18 +33,18 @@ use Rattle.format.proofs.GoodRecords.{items-formed, items-sayable}
 use Rattle.format.proofs.EditingLaws.{formed-drop, sayable-take, from-record, before-record}
 use Rattle.wire.specs.Laid.{laid, laidIf}
 use Rattle.wire.proofs.Laws.{laid-zero, laid-some, laid-next}
-use Rattle.records.specs.Places.{stateAt}
-use Rattle.records.specs.Keeping.{Keeps}
-use Rattle.records.specs.declared.Place.{Place}
-use Rattle.house.specs.Walking.{restOf}
-use Rattle.house.specs.Judging.{oldHeader, OldOpens, oldResult, Stands, House, Cuts}
-use Rattle.house.specs.declared.Old.{Old}
-use Rattle.house.specs.declared.Run.{Run}
-use Rattle.house.proofs.Splice.{sayable-any, sayable-drop, good-start, good-all, read-from}
-use Rattle.house.proofs.Whole.{house-place}
-use Rattle.tally.specs.Tallies.{Adds, Finished, encoded, Rest, Passed}
-use Rattle.tally.specs.declared.Tally.{Tally}
-use Rattle.tally.proofs.Left.{Left, left-last, left-end}
+use Rattle.scan.specs.Places.{stateAt}
+use Rattle.scan.specs.Keeping.{Keeps}
+use Rattle.scan.specs.declared.Place.{Place}
+use Rattle.judge.specs.Walking.{restOf}
+use Rattle.judge.specs.Judging.{oldHeader, OldOpens, oldResult, Stands, House, Cuts}
+use Rattle.judge.specs.declared.Old.{Old}
+use Rattle.judge.specs.declared.Run.{Run}
+use Rattle.judge.proofs.Splice.{sayable-any, sayable-drop, good-start, good-all, read-from}
+use Rattle.judge.proofs.Whole.{house-place}
+use Rattle.counts.specs.Tallies.{Adds, Finished, encoded, Rest, Passed}
+use Rattle.counts.specs.declared.Tally.{Tally}
+use Rattle.counts.proofs.Left.{Left, left-last, left-end}
 use Rattle.edit.specs.Pens.{penState, Emits, Written, Standing, Behind, WentOn, PutsNew}
 use Rattle.edit.specs.Runs.{flawVerdict, editedAt, CutAt, Spliced, FrontStands, penAt, Changed, Writes, Edits}
 use Rattle.edit.specs.declared.Flaw.the-variants.{Unflawed, At}

@@ -16,11 +16,11 @@ use Rattle.format.specs.Header.{fileLimit}
 use Rattle.format.specs.declared.Position.{Position}
 use Rattle.format.specs.declared.Position.the-variants.{Unset, Stands}
 use Rattle.format.specs.declared.Verdict.the-variants.{Good}
-use Rattle.records.specs.Places.{stateAt}
-use Rattle.records.specs.declared.Place.{Place}
-use Rattle.house.specs.Walking.{restOf, rulesFrom, Ready}
-use Rattle.tally.specs.Tallies.{Adds}
-use Rattle.tally.specs.declared.Tally.{Tally}
+use Rattle.scan.specs.Places.{stateAt}
+use Rattle.scan.specs.declared.Place.{Place}
+use Rattle.judge.specs.Walking.{restOf, rulesFrom, Ready}
+use Rattle.counts.specs.Tallies.{Adds}
+use Rattle.counts.specs.declared.Tally.{Tally}
 use Rattle.edit.specs.declared.Pen.{Pen}
 use Rattle.edit.specs.declared.Went.{Went}
 

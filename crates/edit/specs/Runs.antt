@@ -12,8 +12,8 @@ use Rattle.format.specs.Writing.{v8, fileOf, writtenOutcome}
 use Rattle.format.specs.Editing.{edited, editOutcome, editBuffer}
 use Rattle.format.specs.Answers.{answerOf}
 use Rattle.format.specs.declared.Answer.{Answer}
-use Rattle.house.specs.Judging.{OldOpens, oldResult, Cuts}
-use Rattle.house.specs.declared.Run.{Run}
+use Rattle.judge.specs.Judging.{OldOpens, oldResult, Cuts}
+use Rattle.judge.specs.declared.Run.{Run}
 use Rattle.edit.specs.Pens.{PutsNew, WentOn}
 use Rattle.edit.specs.declared.Pen.{Pen}
 use Rattle.edit.specs.declared.Went.{Went}

@@ -2,6 +2,7 @@
 // bytes before the run, the replacement's codes, the records behind the run written anew
 // until reading the old file and writing the new one are in the same state, and from
 // there on the old bytes.
+use counts::Tally;
 use format::Answer;
 use format::Fields;
 use format::LABEL_LIMIT;
@@ -10,13 +11,12 @@ use format::SHEET_VERSION;
 use format::Setting;
 use format::Verdict;
 use header::Head;
-use house::Judged;
-use house::Old;
-use house::Run;
-use house::Taken;
+use judge::Judged;
+use judge::Old;
+use judge::Run;
+use judge::Taken;
 use label::Label;
-use records::Place;
-use tally::Tally;
+use scan::Place;
 ghost use mathlib.Core.Path.{_≡_};
 ghost use Prim.Native.Nat.{_+_, _≤_};
 ghost use lib.ListN.{length, take, drop};
@@ -30,9 +30,9 @@ ghost use Rattle.format.specs.Sheet.{sheetVersion, recordsOf};
 ghost use Rattle.format.specs.WellFormed.{WellFormed};
 ghost use Rattle.format.specs.Writing.{v8};
 ghost use Rattle.format.specs.declared.Verdict.the-variants.{Good};
-ghost use Rattle.records.specs.Places.{stateAt};
-ghost use Rattle.house.specs.Judging.{oldHeader, OldOpens};
-ghost use Rattle.tally.specs.Tallies.{Fits, Adds, Finished, Rest, Passed};
+ghost use Rattle.scan.specs.Places.{stateAt};
+ghost use Rattle.judge.specs.Judging.{oldHeader, OldOpens};
+ghost use Rattle.counts.specs.Tallies.{Fits, Adds, Finished, Rest, Passed};
 ghost use Rattle.wire.specs.Laid.{laidIf};
 ghost use Rattle.edit.specs.Pens.{penState, samePosition, sameState, PenFits, Emits, PutsNew, Behind, WentOn};
 ghost use Rattle.edit.specs.Runs.{editedAt, flawVerdict, CutAt, Spliced, FrontStands, Changed, Writes, Edits};
@@ -85,7 +85,7 @@ fn put_after(
     let len = pen.len;
     let count = pen.count;
     let setting = pen.setting;
-    tally::put_next(out, count, setting, &before[..len], name, fields)
+    counts::put_next(out, count, setting, &before[..len], name, fields)
 }
 
 // One record more, and what it leaves.
@@ -102,10 +102,10 @@ fn put_one(
     let old = pen.len;
     let setting = pen.setting;
     let count = put_after(out, pen, last, name, fields);
-    let len = records::keep_label(last, old, name, fields);
+    let len = scan::keep_label(last, old, name, fields);
     Pen {
         count,
-        setting: tally::setting_after(setting, fields),
+        setting: counts::setting_after(setting, fields),
         len,
     }
 }
@@ -164,7 +164,7 @@ fn put_behind(
     requires { ⌜ Behind (now file) from (now name) (now last) ⌝ }
     ensures { λ r. ⌜ WentOn (now (file .entry)) from (now (name .entry)) (now (last .entry)) (now (out .entry)) r (now (name .exit)) (now (last .exit)) (now (out .exit)) ⌝ }
 {
-    let mut room = house::room();
+    let mut room = judge::room();
     let mut spare = label::blank();
     let mut place = from.place;
     let mut pen = from.pen;
@@ -173,7 +173,7 @@ fn put_behind(
         if level(place, name, pen, last) {
             return Went { place, pen, left };
         }
-        let taken = house::take_record(file, place, name, &mut spare.bytes, &mut room);
+        let taken = judge::take_record(file, place, name, &mut spare.bytes, &mut room);
         let Taken::Record { place: to, fields } = taken else {
             return Went { place, pen, left };
         };
@@ -256,7 +256,7 @@ fn put_tail(file: &[u8], at: usize, out: &mut [u8], count: Tally, left: usize) -
     let bytes = total + tail.len();
     let records = count.records + left;
     lay(out, total, tail);
-    tally::settle(bytes, records, fault, 8)
+    counts::settle(bytes, records, fault, 8)
 }
 
 // The same where no record is left: the closing codes.
@@ -267,7 +267,7 @@ fn close(out: &mut [u8], pen: Pen) -> Answer
     let setting = pen.setting;
     let count = pen.count;
     let fault = count.fault;
-    tally::finish(out, setting.style, count.bytes, count.records, fault)
+    counts::finish(out, setting.style, count.bytes, count.records, fault)
 }
 
 // The replacement behind the old bytes before the run, and the records behind the run up
@@ -417,7 +417,7 @@ fn edit_opened(file: &[u8], old: Old, run: Run, new: &[u8], out: &mut [u8]) -> A
 {
     let mut before = label::blank();
     let mut behind = label::blank();
-    let judged = house::judge(file, old, run, &mut before.bytes, &mut behind.bytes);
+    let judged = judge::judge(file, old, run, &mut before.bytes, &mut behind.bytes);
     match judged {
         Judged::Refused { number, place } => Answer::Refused { number, place },
         Judged::Foreign => Answer::Refused {

@@ -82,7 +82,7 @@ fn lay_leg(
     let keep = joint.keep;
     let out = joint.out;
     let behind = 2 + joint.add;
-    record::lay_short_leg(sheet, out, fields, bytes, keep, &s[2..behind]);
+    layout::lay_short_leg(sheet, out, fields, bytes, keep, &s[2..behind]);
     label::extend(bytes, keep, &s[2..]);
     let to = fields.to;
     let len = keep + joint.add;
@@ -133,7 +133,7 @@ fn lay_station(
     let keep = joint.keep;
     let out = joint.out;
     let behind = 2 + joint.add;
-    record::lay_short_station(sheet, out, fields, bytes, keep, &s[2..behind]);
+    layout::lay_short_station(sheet, out, fields, bytes, keep, &s[2..behind]);
     label::extend(bytes, keep, &s[2..]);
     let len = keep + joint.add;
     Quick::Made {
@@ -177,7 +177,7 @@ pub fn lay_section(
     let keep = joint.keep;
     let out = joint.out;
     let behind = 2 + joint.add;
-    record::lay_short_section(sheet, out, fields, bytes, keep, &s[2..behind]);
+    layout::lay_short_section(sheet, out, fields, bytes, keep, &s[2..behind]);
     label::extend(bytes, keep, &s[2..]);
     let len = keep + joint.add;
     Quick::Made {

@@ -163,8 +163,8 @@ fn lay_item(
             fields,
             kept: _,
         } => {
-            record::lay_record(sheet, before.out, fields, bytes, len);
-            let by = moved_by(size, len, record::record_size(fields, len), 1);
+            layout::lay_record(sheet, before.out, fields, bytes, len);
+            let by = moved_by(size, len, layout::record_size(fields, len), 1);
             Turned::Went { by, setting: after }
         }
     }
@@ -346,7 +346,7 @@ fn fill(file: &[u8], sheet: &mut [u8], head: Heading, bytes: usize)
     let ends = 24 + head.title;
     let from = ends + 1;
     let stops = from + head.time;
-    record::put_front(sheet, head.extended, &file[24..ends], &file[from..stops]);
+    layout::put_front(sheet, head.extended, &file[24..ends], &file[from..stops]);
     pass(file, head.version, head.place, &mut sheet[..bytes], front);
 }
 

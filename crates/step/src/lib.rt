@@ -242,7 +242,7 @@ fn room_for(
     else {
         return Room::Enough;
     };
-    let n = record::record_size(fields, m);
+    let n = layout::record_size(fields, m);
     if room < n {
         return Room::Lacks { bytes: n };
     }
@@ -261,8 +261,8 @@ fn record_step(
     ensures { λ r. ⌜ Recorded next (now (bytes .entry)) fields kept (now (out .entry)) r (now (out .exit)) ⌝ }
 {
     let len = next.len;
-    let size = record::record_size(fields, len);
-    record::lay_record(out, 0, fields, bytes, len);
+    let size = layout::record_size(fields, len);
+    layout::lay_record(out, 0, fields, bytes, len);
     let answer = Stepped::Record { bytes: size, kept };
     Taken {
         answer,

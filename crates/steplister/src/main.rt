@@ -34,7 +34,7 @@ fn lay_front(file: &[u8], extended: u8, title: usize, time: usize, sheet: &mut [
     let ends = 24 + title;
     let from = ends + 1;
     let stops = from + time;
-    record::put_front(sheet, extended, &file[24..ends], &file[from..stops]);
+    layout::put_front(sheet, extended, &file[24..ends], &file[from..stops]);
     7 + title + time
 }
 

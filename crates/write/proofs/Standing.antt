@@ -18,9 +18,9 @@ use Rattle.format.specs.declared.Fields.{Fields}
 use Rattle.sheet.specs.Seen.{EntryTold}
 use Rattle.sheet.specs.declared.Entry.the-variants.{Flawed, Whole}
 use Rattle.sheet.proofs.EntryAt.{part, none-at, flawed-at, found-at, found-size}
-use Rattle.tally.specs.Tallies.{bounded, Adds, restOutcome}
-use Rattle.tally.specs.declared.Tally.{Tally}
-use Rattle.tally.proofs.Left.{Left, left-none, left-more, left-flawed, adds-few}
+use Rattle.counts.specs.Tallies.{bounded, Adds, restOutcome}
+use Rattle.counts.specs.declared.Tally.{Tally}
+use Rattle.counts.proofs.Left.{Left, left-none, left-more, left-flawed, adds-few}
 
 -- ---- a header that cannot be written
 

@@ -31,9 +31,9 @@ use Rattle.sheet.specs.Seen.{EntryTold}
 use Rattle.sheet.specs.declared.Entry.the-variants.{Flawed, Whole}
 use Rattle.sheet.proofs.EntryAt.{part, found-formed}
 use Rattle.part.specs.Lays.{Puts}
-use Rattle.tally.specs.Tallies.{bounded, Adds, restOutcome}
-use Rattle.tally.specs.declared.Tally.{Tally}
-use Rattle.tally.proofs.Left.{Left, left-none, adds-next}
+use Rattle.counts.specs.Tallies.{bounded, Adds, restOutcome}
+use Rattle.counts.specs.declared.Tally.{Tally}
+use Rattle.counts.proofs.Left.{Left, left-none, adds-next}
 use Rattle.format.specs.WellFormed.{WellFormed}
 use Rattle.write.specs.Passing.{handOf, settingIn, handAfter, stateIn, Named}
 use Rattle.write.specs.declared.Hand.{Hand}

@@ -14,9 +14,9 @@ use Rattle.format.specs.declared.Answer.the-variants.{Refused}
 use Rattle.format.proofs.Basics.{pick-true, pick-false}
 use Rattle.sheet.specs.Seen.{Fronted}
 use Rattle.part.specs.Lays.{Puts}
-use Rattle.tally.specs.Tallies.{Rest, fileOutcome, Passed}
+use Rattle.counts.specs.Tallies.{Rest, fileOutcome, Passed}
 use Rattle.format.proofs.RefusalLaws.{never}
-use Rattle.tally.proofs.Files.{pass-whole}
+use Rattle.counts.proofs.Files.{pass-whole}
 use Rattle.write.proofs.Standing.{headed-stop}
 
 -- the front is not good

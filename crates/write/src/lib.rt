@@ -11,7 +11,7 @@ ghost use Rattle.format.specs.Sheet.{recordsOf, frontHeader, sheetResult};
 ghost use Rattle.format.specs.Answers.{answerOf};
 ghost use Rattle.format.specs.declared.Answer.the-variants.{Refused};
 ghost use Rattle.format.specs.Writing.{v8, writeOutcome, writeBuffer};
-ghost use Rattle.tally.specs.Tallies.{Rest, Passed};
+ghost use Rattle.counts.specs.Tallies.{Rest, Passed};
 ghost use Rattle.write.specs.Passing.{settingIn, handOf, handAfter, Named, EnteredTold};
 
 // ---- the records of a sheet
@@ -113,7 +113,7 @@ fn put_entry(
     let last = hand.to;
     let setting = setting_of(hand, position);
     let bytes = codes::put_record(out, setting, &sheet[first..last], &sheet[name..end], fields);
-    let after = tally::setting_after(setting, fields);
+    let after = counts::setting_after(setting, fields);
     let position = after.position;
     let hand = hand_after(hand, after, fields, name, end);
     let coded = Coded {
@@ -144,7 +144,7 @@ fn put_records(sheet: &[u8], version: u8, begin: usize, out: &mut [u8], head: us
     let mut position = Position::Unset;
     let mut hand = hand_of(format::start_setting(), 0, 0);
     while at < sheet.len() {
-        let room = tally::within(total, out.len());
+        let room = counts::within(total, out.len());
         let s = &sheet[at..];
         let first = hand.from;
         let last = hand.to;
@@ -152,7 +152,7 @@ fn put_records(sheet: &[u8], version: u8, begin: usize, out: &mut [u8], head: us
         if let plain::Plain::One { item } = found {
             let n = plain::put(&mut out[room..], item, last - first, s);
             let form = item.form;
-            total = tally::more(total, n);
+            total = counts::more(total, n);
             position = plain::position_after(form, s, position);
             hand.from = at + plain::label_at(form);
             at += item.size;
@@ -164,14 +164,14 @@ fn put_records(sheet: &[u8], version: u8, begin: usize, out: &mut [u8], head: us
         let Entered::Put { coded, fields } = entered else {
             return refused(12, number);
         };
-        total = tally::more(total, coded.bytes);
-        fault = tally::first_fault(fault, hand.style, fields, number);
+        total = counts::more(total, coded.bytes);
+        fault = counts::first_fault(fault, hand.style, fields, number);
         position = coded.position;
         hand = coded.hand;
         number += 1;
         at += coded.size;
     }
-    tally::finish(out, hand.style, total, number, fault)
+    counts::finish(out, hand.style, total, number, fault)
 }
 
 // A pass over the sheet: the answer, for room enough, and each piece written where
@@ -193,7 +193,7 @@ fn pass(sheet: &[u8], out: &mut [u8]) -> format::Answer
         } => {
             let middle = 7 + title;
             let begin = middle + time;
-            let head = ends::put_header(out, extended, &sheet[7..middle], &sheet[middle..begin]);
+            let head = frame::put_header(out, extended, &sheet[7..middle], &sheet[middle..begin]);
             put_records(sheet, version, begin, out, head)
         }
     }

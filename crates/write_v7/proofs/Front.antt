@@ -11,7 +11,7 @@ use Rattle.format.specs.Writing.{v7, headedBy, headed}
 use Rattle.format.specs.declared.Answer.{Answer}
 use Rattle.sheet.specs.Seen.{Fronted}
 use Rattle.part.specs.Lays.{Puts}
-use Rattle.tally.specs.Tallies.{Rest, Passed}
+use Rattle.counts.specs.Tallies.{Rest, Passed}
 use Rattle.write.proofs.Whole.{header-cut, pass-sheet}
 
 unmarked : (x : ℕ) (title time : List ℕ)

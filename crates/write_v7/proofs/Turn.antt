@@ -29,8 +29,8 @@ use Rattle.plain.specs.Plainly.{labelAt, tailOf, v7Code, unsaid, Goes, Plainly}
 use Rattle.plain.specs.declared.Form.{Form}
 use Rattle.plain.proofs.Placing.{plain-v7-codes}
 use Rattle.plain.proofs.InSheet.{last-long, plain-sizes, name-is, added-is, added-long}
-use Rattle.tally.specs.Tallies.{bounded, Adds, restOutcome}
-use Rattle.tally.proofs.Left.{Left, written, written-length, written-there, adds-one, left-stopped}
+use Rattle.counts.specs.Tallies.{bounded, Adds, restOutcome}
+use Rattle.counts.proofs.Left.{Left, written, written-length, written-there, adds-one, left-stopped}
 use Rattle.write.proofs.Standing.{counted, Standing, standing-none, standing-end, standing-flawed, standing-more}
 use Rattle.write_v7.specs.Passing.{handOf, carriedStyle, handAfter, handFound, stateIn, Named, Turns}
 use Rattle.write_v7.specs.declared.Hand.{Hand}

@@ -18,7 +18,7 @@ ghost use Rattle.part.specs.Lays.{Lays};
 ghost use Rattle.plain.specs.Plainly.{labelAt, tailOf, v7Code};
 ghost use Rattle.plain.specs.Placed.{Placed};
 ghost use Rattle.format.specs.declared.Answer.the-variants.{Refused};
-ghost use Rattle.tally.specs.Tallies.{Finished, Rest, Passed};
+ghost use Rattle.counts.specs.Tallies.{Finished, Rest, Passed};
 ghost use Rattle.write_v7.specs.Passing.{handOf, carriedStyle, handAfter, handFound, stateIn, Named, TurnedTold};
 
 // ---- the records of a sheet
@@ -86,7 +86,7 @@ fn hand_after(hand: Hand, fields: Fields, from: usize, to: usize) -> Hand
             date: _,
             size: _,
         } => {
-            let setting = tally::setting_after(hand.setting, fields);
+            let setting = counts::setting_after(hand.setting, fields);
             hand_of(setting, from, to)
         }
         Fields::Error { traverse: _ } => hand,
@@ -151,7 +151,7 @@ fn put_item(out: &mut [u8], at: usize, code: u8, added: &[u8], form: plain::Form
     requires { ⌜ (at ≤ 65536) × Placed form × (length (now added) ≤ 15) × (labelAt form ≤ length (now s)) ⌝ }
     ensures { λ r. ⌜ Lays (now (out .entry)) (now (out .exit)) at (code ∷ length (now (added .entry)) ∷ (now (added .entry) ++ tailOf form (now (s .entry)))) 33 r ⌝ }
 {
-    let start = tally::within(at, out.len());
+    let start = counts::within(at, out.len());
     let n = plain::put_placed(&mut out[start..], code, added, form, s);
     at + n
 }
@@ -225,9 +225,9 @@ fn finish(
 {
     let first = hand.from;
     let last = hand.to;
-    let start = tally::within(total, out.len());
+    let start = counts::within(total, out.len());
     let n = v7::put_closing(&mut out[start..], &sheet[first..last]);
-    tally::settle(total + n, number, fault, 7)
+    counts::settle(total + n, number, fault, 7)
 }
 
 fn refused(number: u8, place: usize) -> Answer
@@ -255,7 +255,7 @@ fn put_records(
     let mut fault = Verdict::Good;
     let mut hand = hand_of(format::start_setting(), 0, 0);
     while at < sheet.len() {
-        let room = tally::within(total, out.len());
+        let room = counts::within(total, out.len());
         let turned = put_next(sheet, version, at, hand, &mut out[room..]);
         let Turned::Put {
             size,
@@ -266,8 +266,8 @@ fn put_records(
         else {
             return refused(12, number);
         };
-        total = tally::more(total, bytes);
-        fault = tally::first_at(fault, bad, 23, number);
+        total = counts::more(total, bytes);
+        fault = counts::first_at(fault, bad, 23, number);
         hand = next;
         number += 1;
         at += size;

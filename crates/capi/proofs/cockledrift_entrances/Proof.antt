@@ -1,7 +1,7 @@
 -- `capi::cockledrift_entrances` meets its contract. Assumes nothing.
 use mathlib.Core.Path.{ap, _∙_}
 use borrow.Author.Needs.{needs}
-use Rattle.told.specs.Summaries.{entranceNumbers}
+use Rattle.abi.specs.Summaries.{entranceNumbers}
 use Rattle.capi.proofs.cockledrift_entrances.Statement.{statement}
 use Rattle.capi.proofs.cockledrift_entrances.Tie as tie
 

@@ -1,7 +1,7 @@
 -- `capi::cockledrift_open` meets its contract. Assumes nothing.
 use mathlib.Core.Path.{ap, _∙_}
 use borrow.Author.Needs.{needs}
-use Rattle.told.specs.Numbers.{openNumbers}
+use Rattle.abi.specs.Numbers.{openNumbers}
 use Rattle.capi.proofs.cockledrift_open.Statement.{statement}
 use Rattle.capi.proofs.cockledrift_open.Tie as tie
 

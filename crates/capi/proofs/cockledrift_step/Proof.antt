@@ -1,6 +1,6 @@
 -- `capi::cockledrift_step` meets its contract. Assumes nothing.
 use mathlib.Core.Path.{ap, _∙_}
-use Rattle.told.specs.Numbers.{stepNumbers}
+use Rattle.abi.specs.Numbers.{stepNumbers}
 use borrow.Author.Needs.{needs}
 use Rattle.capi.proofs.cockledrift_step.Statement.{statement}
 use Rattle.capi.proofs.cockledrift_step.Tie as tie

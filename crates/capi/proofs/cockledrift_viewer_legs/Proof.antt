@@ -3,7 +3,7 @@ use mathlib.Core.Path.{ap, _∙_}
 use mir.Syntax.{w32}
 use mir.ValLaws.{toZ-ofZ}
 use borrow.Author.Needs.{needs}
-use Rattle.told.specs.Views.{viewNumbers}
+use Rattle.abi.specs.Views.{viewNumbers}
 use Rattle.capi.proofs.cockledrift_viewer_legs.Statement.{statement}
 use Rattle.capi.proofs.cockledrift_viewer_legs.Tie as tie
 

@@ -2,8 +2,8 @@
 use mathlib.Core.List.{_++_}
 use lib.Seq.{length-take-le}
 use Rattle.format.specs.Writing.{v8}
-use Rattle.house.specs.Judging.{oldHeader}
-use Rattle.tally.proofs.Files.{passes-refused, passes-small, passes-done}
+use Rattle.judge.specs.Judging.{oldHeader}
+use Rattle.counts.proofs.Files.{passes-refused, passes-small, passes-done}
 use Rattle.edit.specs.Runs.{editedAt}
 use borrow.Author.Needs.{needs}
 use native.Mathlib.Omega.{arith}

@@ -10,7 +10,7 @@ use Rattle.read.proofs.fill.Tie as tie
 use Rattle.read.proofs.fill.Reads as reads
 use Rattle.read.proofs.fill.Lts as lts
 use Rattle.read.proofs.pass.Reads as pass-reads
-use Rattle.record.proofs.put_front.Reads as put-front-reads
+use Rattle.layout.proofs.put_front.Reads as put-front-reads
 
 -- src/lib.rt:257:5
 put-front-requires : tie.Need-put-front-requires

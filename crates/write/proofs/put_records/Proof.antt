@@ -8,7 +8,7 @@ use lib.ListN.{length, take, drop}
 use Rattle.sheet.proofs.EntryAt.{part, found-size}
 use Rattle.plain.specs.Plainly.{Plainly, labelAt}
 use Rattle.plain.proofs.InSheet.{Sizes, plain-sizes}
-use Rattle.tally.proofs.Left.{rest-refused, left-end}
+use Rattle.counts.proofs.Left.{rest-refused, left-end}
 use Rattle.write.specs.Passing.{Written}
 use Rattle.write.proofs.Turn.{Going, rejoined, going-none, going-end, going-flawed, going-told, going-plain}
 use borrow.Author.Needs.{needs}

@@ -1,7 +1,7 @@
 -- `write::write` meets its contract. Assumes nothing.
 use Rattle.format.specs.Sheet.{frontHeader, sheetResult}
 use Rattle.format.specs.Writing.{v8, writeOutcome, writeBuffer}
-use Rattle.tally.proofs.Files.{passes-refused, passes-small, passes-done}
+use Rattle.counts.proofs.Files.{passes-refused, passes-small, passes-done}
 use mathlib.Core.List.{_++_}
 use lib.Seq.{length-take-le}
 use native.Mathlib.Omega.{arith}

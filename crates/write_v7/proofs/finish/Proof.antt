@@ -1,6 +1,6 @@
 -- `write_v7::finish` meets its contract. Assumes nothing.
 use Rattle.format.specs.Writing.{v7}
-use Rattle.tally.proofs.Left.{finish-closed}
+use Rattle.counts.proofs.Left.{finish-closed}
 use borrow.Author.Needs.{needs}
 use Rattle.write_v7.proofs.finish.Statement.{statement}
 use Rattle.write_v7.proofs.finish.Tie as tie

@@ -7,7 +7,7 @@ use native.Mathlib.Omega.{arith}
 use borrow.Author.Tests.{eq-eqb, ne-eqb}
 use Rattle.format.specs.Writing.{v7}
 use Rattle.sheet.proofs.EntryAt.{found-size}
-use Rattle.tally.proofs.Left.{rest-refused, left-end}
+use Rattle.counts.proofs.Left.{rest-refused, left-end}
 use Rattle.write.proofs.Turn.{rejoined}
 use Rattle.write_v7.specs.Passing.{Turns}
 use Rattle.write_v7.proofs.Turn.{Going, going-none, going-end, going-barred, going-flawed, going-more}

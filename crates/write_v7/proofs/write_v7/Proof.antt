@@ -2,7 +2,7 @@
 use Rattle.format.specs.Sheet.{frontHeader, sheetResult}
 use Rattle.format.specs.Writing.{v7, headed, writeOutcome, writeBuffer}
 use Rattle.write.proofs.Standing.{headed-records}
-use Rattle.tally.proofs.Files.{passes-refused, passes-small, passes-done}
+use Rattle.counts.proofs.Files.{passes-refused, passes-small, passes-done}
 use mathlib.Core.List.{_++_}
 use lib.Seq.{length-take-le}
 use native.Mathlib.Omega.{arith}
