@@ -2,11 +2,14 @@
 // such items apart in a function of their own: one with two callers would not be joined to
 // the loop of reading. What lays the records is small enough to be joined to both.
 ghost use mathlib.Core.Path.{_≡_};
-ghost use Prim.Native.Nat.{_+_, _-_, _≤_};
-ghost use lib.ListN.{length};
+ghost use Prim.Native.Nat.{_+_, _-_, _^_, _≤_, _<_};
+ghost use lib.ListN.{length, take};
 ghost use Rattle.short.specs.Brief.{placeAt, stationAt};
 ghost use Rattle.format.specs.State.{leg, station, section};
+ghost use Rattle.format.specs.Label.{labelLimit};
+ghost use Rattle.format.specs.Sheet.{sheetVersion, layout};
 ghost use Rattle.item.specs.Commonest.{extended};
+ghost use Rattle.layout.specs.Freely.{LaidFreely};
 ghost use Rattle.laying.specs.Quickly.{Joined, LaysLine, nameOf, laidFrom, ledBy, madeBy};
 use format::LABEL_LIMIT;
 use format::Leg;
@@ -186,4 +189,79 @@ pub fn lay_section(
         bytes: 25 + len,
         kept: keep,
     }
+}
+
+// ---- the same records in a pass that lays record behind record: what stands behind one is
+// free, for the next is laid over it.
+
+// A leg, laid where it fits; and the label, extended by what the item at the front of s adds.
+pub fn lay_leg_freely(
+    s: &[u8],
+    bytes: &mut [u8; LABEL_LIMIT],
+    joint: Joint,
+    fields: Leg,
+    sheet: &mut [u8],
+)
+    requires { ⌜ Joined joint (now s) (now bytes) ⌝ }
+    ensures label { λ _. ⌜ now (bytes .exit) ≡ extended (now (bytes .entry)) (joint .keep) (now (s .entry)) ⌝ }
+    ensures sheet { λ _. ⌜ LaidFreely (now (sheet .entry)) (now (sheet .exit)) (joint .out) (layout sheetVersion (leg fields (nameOf joint (now (s .entry)) (now (bytes .entry))))) ⌝ }
+{
+    let keep = joint.keep;
+    let out = joint.out;
+    let behind = 2 + joint.add;
+    layout::lay_short_leg(sheet, out, fields, bytes, keep, &s[2..behind]);
+    label::extend(bytes, keep, &s[2..]);
+}
+
+// A station, in the same way.
+pub fn lay_station_freely(
+    s: &[u8],
+    bytes: &mut [u8; LABEL_LIMIT],
+    joint: Joint,
+    fields: Station,
+    sheet: &mut [u8],
+)
+    requires { ⌜ Joined joint (now s) (now bytes) ⌝ }
+    ensures label { λ _. ⌜ now (bytes .exit) ≡ extended (now (bytes .entry)) (joint .keep) (now (s .entry)) ⌝ }
+    ensures sheet { λ _. ⌜ LaidFreely (now (sheet .entry)) (now (sheet .exit)) (joint .out) (layout sheetVersion (station fields (nameOf joint (now (s .entry)) (now (bytes .entry))))) ⌝ }
+{
+    let keep = joint.keep;
+    let out = joint.out;
+    let behind = 2 + joint.add;
+    layout::lay_short_station(sheet, out, fields, bytes, keep, &s[2..behind]);
+    label::extend(bytes, keep, &s[2..]);
+}
+
+// A cross-section.
+pub fn lay_section_freely(
+    s: &[u8],
+    bytes: &mut [u8; LABEL_LIMIT],
+    joint: Joint,
+    fields: Section,
+    sheet: &mut [u8],
+)
+    requires { ⌜ Joined joint (now s) (now bytes) ⌝ }
+    ensures label { λ _. ⌜ now (bytes .exit) ≡ extended (now (bytes .entry)) (joint .keep) (now (s .entry)) ⌝ }
+    ensures sheet { λ _. ⌜ LaidFreely (now (sheet .entry)) (now (sheet .exit)) (joint .out) (layout sheetVersion (section fields (nameOf joint (now (s .entry)) (now (bytes .entry))))) ⌝ }
+{
+    let keep = joint.keep;
+    let out = joint.out;
+    let behind = 2 + joint.add;
+    layout::lay_short_section(sheet, out, fields, bytes, keep, &s[2..behind]);
+    label::extend(bytes, keep, &s[2..]);
+}
+
+// A leg whose label is the current one, whole.
+pub fn lay_same_freely(
+    bytes: &[u8; LABEL_LIMIT],
+    len: usize,
+    out: usize,
+    fields: Leg,
+    sheet: &mut [u8],
+)
+    requires { ⌜ (len + 16 ≤ labelLimit) × (length (now bytes) ≡ labelLimit) × (out < 2 ^ 62) ⌝ }
+    ensures { λ _. ⌜ LaidFreely (now (sheet .entry)) (now (sheet .exit)) out (layout sheetVersion (leg fields (take len (now (bytes .entry))))) ⌝ }
+{
+    let whole = &bytes[..];
+    layout::lay_short_leg(sheet, out, fields, bytes, len, &whole[..0]);
 }
