@@ -1,1 +1,2 @@
+pub mod Freely
 pub mod Quickly

@@ -194,7 +194,70 @@ pub fn lay_section(
 // ---- the same records in a pass that lays record behind record: what stands behind one is
 // free, for the next is laid over it.
 
-// A leg, laid where it fits; and the label, extended by what the item at the front of s adds.
+// Lays a leg into the sheet, where it fits.
+fn put_leg_freely(s: &[u8], bytes: &[u8; LABEL_LIMIT], joint: Joint, fields: Leg, sheet: &mut [u8])
+    requires { ⌜ Joined joint (now s) (now bytes) ⌝ }
+    ensures { λ _. ⌜ LaidFreely (now (sheet .entry)) (now (sheet .exit)) (joint .out) (layout sheetVersion (leg fields (nameOf joint (now (s .entry)) (now (bytes .entry))))) ⌝ }
+{
+    let keep = joint.keep;
+    let add = joint.add;
+    let out = joint.out;
+    let len = keep + add;
+    let name = out + 34;
+    if sheet.len() < name + len {
+        return;
+    }
+    layout::put_leg(&mut sheet[out..], fields, len);
+    layout::put_name_freely(sheet, name, bytes, keep, &s[2..], add);
+}
+
+// A station, in the same way.
+fn put_station_freely(
+    s: &[u8],
+    bytes: &[u8; LABEL_LIMIT],
+    joint: Joint,
+    fields: Station,
+    sheet: &mut [u8],
+)
+    requires { ⌜ Joined joint (now s) (now bytes) ⌝ }
+    ensures { λ _. ⌜ LaidFreely (now (sheet .entry)) (now (sheet .exit)) (joint .out) (layout sheetVersion (station fields (nameOf joint (now (s .entry)) (now (bytes .entry))))) ⌝ }
+{
+    let keep = joint.keep;
+    let add = joint.add;
+    let out = joint.out;
+    let len = keep + add;
+    let name = out + 16;
+    if sheet.len() < name + len {
+        return;
+    }
+    layout::put_station(&mut sheet[out..], fields, len);
+    layout::put_name_freely(sheet, name, bytes, keep, &s[2..], add);
+}
+
+// A cross-section.
+fn put_section_freely(
+    s: &[u8],
+    bytes: &[u8; LABEL_LIMIT],
+    joint: Joint,
+    fields: Section,
+    sheet: &mut [u8],
+)
+    requires { ⌜ Joined joint (now s) (now bytes) ⌝ }
+    ensures { λ _. ⌜ LaidFreely (now (sheet .entry)) (now (sheet .exit)) (joint .out) (layout sheetVersion (section fields (nameOf joint (now (s .entry)) (now (bytes .entry))))) ⌝ }
+{
+    let keep = joint.keep;
+    let add = joint.add;
+    let out = joint.out;
+    let len = keep + add;
+    let name = out + 25;
+    if sheet.len() < name + len {
+        return;
+    }
+    layout::put_section(&mut sheet[out..], fields, len);
+    layout::put_name_freely(sheet, name, bytes, keep, &s[2..], add);
+}
+
+// Lays a leg so, and extends the label by what the item at the front of s adds to it.
 pub fn lay_leg_freely(
     s: &[u8],
     bytes: &mut [u8; LABEL_LIMIT],
@@ -207,9 +270,7 @@ pub fn lay_leg_freely(
     ensures sheet { λ _. ⌜ LaidFreely (now (sheet .entry)) (now (sheet .exit)) (joint .out) (layout sheetVersion (leg fields (nameOf joint (now (s .entry)) (now (bytes .entry))))) ⌝ }
 {
     let keep = joint.keep;
-    let out = joint.out;
-    let behind = 2 + joint.add;
-    layout::lay_short_leg(sheet, out, fields, bytes, keep, &s[2..behind]);
+    put_leg_freely(s, bytes, joint, fields, sheet);
     label::extend(bytes, keep, &s[2..]);
 }
 
@@ -226,9 +287,7 @@ pub fn lay_station_freely(
     ensures sheet { λ _. ⌜ LaidFreely (now (sheet .entry)) (now (sheet .exit)) (joint .out) (layout sheetVersion (station fields (nameOf joint (now (s .entry)) (now (bytes .entry))))) ⌝ }
 {
     let keep = joint.keep;
-    let out = joint.out;
-    let behind = 2 + joint.add;
-    layout::lay_short_station(sheet, out, fields, bytes, keep, &s[2..behind]);
+    put_station_freely(s, bytes, joint, fields, sheet);
     label::extend(bytes, keep, &s[2..]);
 }
 
@@ -245,9 +304,7 @@ pub fn lay_section_freely(
     ensures sheet { λ _. ⌜ LaidFreely (now (sheet .entry)) (now (sheet .exit)) (joint .out) (layout sheetVersion (section fields (nameOf joint (now (s .entry)) (now (bytes .entry))))) ⌝ }
 {
     let keep = joint.keep;
-    let out = joint.out;
-    let behind = 2 + joint.add;
-    layout::lay_short_section(sheet, out, fields, bytes, keep, &s[2..behind]);
+    put_section_freely(s, bytes, joint, fields, sheet);
     label::extend(bytes, keep, &s[2..]);
 }
 
@@ -262,6 +319,10 @@ pub fn lay_same_freely(
     requires { ⌜ (len + 16 ≤ labelLimit) × (length (now bytes) ≡ labelLimit) × (out < 2 ^ 62) ⌝ }
     ensures { λ _. ⌜ LaidFreely (now (sheet .entry)) (now (sheet .exit)) out (layout sheetVersion (leg fields (take len (now (bytes .entry))))) ⌝ }
 {
-    let whole = &bytes[..];
-    layout::lay_short_leg(sheet, out, fields, bytes, len, &whole[..0]);
+    let name = out + 34;
+    if sheet.len() < name + len {
+        return;
+    }
+    layout::put_leg(&mut sheet[out..], fields, len);
+    layout::put_label_freely(sheet, name, bytes, len);
 }

@@ -7,6 +7,7 @@ ghost use Rattle.format.specs.Bytes.{over, toBe16, toBe32};
 ghost use Rattle.format.specs.Sheet.{sheetVersion, pointBytes, dimensionBytes, traverseBytes, dateKind, dateDay, dateLast, dateBytes, errorSize, recordLimit, layout, headerLayout};
 ghost use Rattle.format.specs.State.{leg, station, section};
 ghost use Rattle.format.specs.Fields.{recordOf, recordSize};
+ghost use Rattle.layout.specs.Freely.{LaidFreely, Named};
 ghost use Rattle.layout.specs.Fronts.{legFront, stationFront, sectionFront};
 ghost use Rattle.layout.specs.Joined.{Joint};
 ghost use Rattle.wire.specs.Laid.{laid, laidIf};
@@ -150,6 +151,70 @@ fn put_joined(out: &mut [u8], k: usize, bytes: &[u8; LABEL_LIMIT], keep: usize, 
     wire::copy_short(added, &mut out[n..]);
 }
 
+// ---- a label where what stands behind it is free: a short one is laid by copies of a fixed
+// size, without a test of its length.
+
+// Copies the first 48 bytes of a label to the front of out.
+fn put_three(out: &mut [u8], bytes: &[u8; LABEL_LIMIT])
+    requires { ⌜ (48 ≤ length (now out)) × (length (now bytes) ≡ labelLimit) ⌝ }
+    ensures { λ _. ⌜ now (out .exit) ≡ over (take 48 (now (bytes .entry))) (now (out .entry)) ⌝ }
+{
+    let whole = &bytes[..];
+    wire::copy_sixteen(whole, out);
+    wire::copy_sixteen(&whole[16..], &mut out[16..]);
+    wire::copy_sixteen(&whole[32..], &mut out[32..]);
+}
+
+// The first keep bytes of a label, at most 48, and sixteen more.
+fn put_over(out: &mut [u8], bytes: &[u8; LABEL_LIMIT], keep: usize, added: &[u8])
+    requires { ⌜ (64 ≤ length (now out)) × (keep ≤ 48) × (16 ≤ length (now added)) × (length (now bytes) ≡ labelLimit) ⌝ }
+    ensures { λ _. ⌜ LaidFreely (now (out .entry)) (now (out .exit)) 0 (take keep (now (bytes .entry)) ++ take 16 (now (added .entry))) ⌝ }
+{
+    put_three(out, bytes);
+    wire::copy_sixteen(added, &mut out[keep..]);
+}
+
+// Writes a label into out from index k on: the first keep bytes of another one, and the
+// first add of the bytes that follow.
+pub fn put_name_freely(
+    out: &mut [u8],
+    k: usize,
+    bytes: &[u8; LABEL_LIMIT],
+    keep: usize,
+    added: &[u8],
+    add: usize,
+)
+    requires { ⌜ Named (now out) k (now bytes) keep (now added) add ⌝ }
+    ensures { λ _. ⌜ LaidFreely (now (out .entry)) (now (out .exit)) k (take keep (now (bytes .entry)) ++ take add (now (added .entry))) ⌝ }
+{
+    if 48 < keep {
+        put_joined(out, k, bytes, keep, &added[..add]);
+        return;
+    }
+    if out.len() < k + 64 {
+        put_joined(out, k, bytes, keep, &added[..add]);
+        return;
+    }
+    put_over(&mut out[k..], bytes, keep, added);
+}
+
+// The same of the first len bytes of a label, with nothing added.
+pub fn put_label_freely(out: &mut [u8], k: usize, bytes: &[u8; LABEL_LIMIT], len: usize)
+    requires { ⌜ (k + len ≤ length (now out)) × (k < 2 ^ 63) × (len + 16 ≤ labelLimit) × (length (now bytes) ≡ labelLimit) ⌝ }
+    ensures { λ _. ⌜ LaidFreely (now (out .entry)) (now (out .exit)) k (take len (now (bytes .entry))) ⌝ }
+{
+    let whole = &bytes[..];
+    if 48 < len {
+        put_joined(out, k, bytes, len, &whole[..0]);
+        return;
+    }
+    if out.len() < k + 48 {
+        put_joined(out, k, bytes, len, &whole[..0]);
+        return;
+    }
+    put_three(&mut out[k..], bytes);
+}
+
 // How many bytes a record takes in a sheet, with its length bytes.
 pub fn record_size(fields: Fields, len: usize) -> usize
     requires { ⌜ len ≤ labelLimit ⌝ }
@@ -213,7 +278,7 @@ fn put_date(out: &mut [u8], k: usize, date: Dated)
     put_word(out, k + 1, day * 65536 + last);
 }
 
-fn put_leg(out: &mut [u8], fields: Leg, len: usize)
+pub fn put_leg(out: &mut [u8], fields: Leg, len: usize)
     requires { ⌜ (len ≤ labelLimit) × (34 ≤ length (now out)) ⌝ }
     ensures { λ _. ⌜ now (out .exit) ≡ over (legFront fields len) (now (out .entry)) ⌝ }
 {
@@ -227,7 +292,7 @@ fn put_leg(out: &mut [u8], fields: Leg, len: usize)
     put_point(out, 22, to);
 }
 
-fn put_station(out: &mut [u8], fields: Station, len: usize)
+pub fn put_station(out: &mut [u8], fields: Station, len: usize)
     requires { ⌜ (len ≤ labelLimit) × (16 ≤ length (now out)) ⌝ }
     ensures { λ _. ⌜ now (out .exit) ≡ over (stationFront fields len) (now (out .entry)) ⌝ }
 {
@@ -236,7 +301,7 @@ fn put_station(out: &mut [u8], fields: Station, len: usize)
     put_point(out, 4, place);
 }
 
-fn put_section(out: &mut [u8], fields: Section, len: usize)
+pub fn put_section(out: &mut [u8], fields: Section, len: usize)
     requires { ⌜ (len ≤ labelLimit) × (25 ≤ length (now out)) ⌝ }
     ensures { λ _. ⌜ now (out .exit) ≡ over (sectionFront fields len) (now (out .entry)) ⌝ }
 {
