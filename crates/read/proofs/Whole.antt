@@ -19,14 +19,14 @@ use Rattle.format.specs.declared.Verdict.the-variants.{Good, Refusal}
 use Rattle.format.specs.declared.Answer.the-variants.{Done as AnswerDone, Refused as AnswerRefused}
 use Rattle.format.proofs.SheetLaws.{header-length}
 use Rattle.header.specs.Head.{saying}
-use Rattle.wire.proofs.Laws.{length-over}
 use Rattle.measure.specs.Totals.{passOf}
 use Rattle.measure.specs.declared.Passed.{Passed}
-use Rattle.read.specs.Pass.{lay, Headed, resultOf, sheetOfHead, Judges, Fills, ReadsTo}
+use Rattle.layout.specs.Freely.{LaidFreely}
+use Rattle.read.specs.Pass.{Headed, resultOf, sheetOfHead, Judges, Fills, ReadsTo}
 use Rattle.read.specs.Salvage.{reportNumber, reportPlace, salvageOutcome, salvageBuffer, SalvagesTo}
 use Rattle.read.specs.declared.Heading.{Heading}
 use Rattle.read.specs.declared.Salvaged.the-variants.{Saved, Refused as SalvageRefused}
-use Rattle.read.proofs.Turn.{lay-within, lay-behind}
+use Rattle.read.proofs.Turn.{filled-behind}
 
 -- the length of a sheet's front and records
 sheet-length : (h : Header) (rs : List Record) → length (sheetOf sheetVersion h rs) ≡ 7 + length (h .title) + length (h .time) + length (layoutAll sheetVersion rs)
@@ -70,16 +70,11 @@ module _ (file : List ℕ) (g : Heading) (O : Headed file g) where
     front-fits = let z = F .bytes-are ∙ sheet-bytes in omega (arith, F .fits)
 
     -- the second pass is lent just the bytes that are needed
-    pub filled : (s y : List ℕ) → s ≡ over (sheetVersion ∷ headerLayout h) old → y ≡ lay (take b s) front (x .records) → y ++ drop b s ≡ over (sheetOfHead file g) old
+    pub filled : (s y : List ℕ) → s ≡ over (sheetVersion ∷ headerLayout h) old → LaidFreely (take b s) y front (layoutAll sheetVersion (x .records))
+        → y ++ drop b s ≡ over (sheetOfHead file g) old
     unfolding sheetOf
-    filled s y p q =
-        let w = F .bytes-are ∙ sheet-bytes in
-        let k : front + length (layoutAll sheetVersion (x .records)) ≤ length old = omega (arith, F .fits) in
-        let m : length s ≡ length old = ap length p ∙ length-over (sheetVersion ∷ headerLayout h) old (omega (arith, front-length)) in
-        ap (λ (z : List ℕ). z ++ drop b s) q
-        ∙ lay-within (x .records) s front b (omega arith) (omega (arith, F .fits))
-        ∙ ap (λ (z : List ℕ). lay z front (x .records)) p
-        ∙ lay-behind (sheetVersion ∷ headerLayout h) (layoutAll sheetVersion (x .records)) old (x .records) front refl front-length k
+    filled s y p L =
+        filled-behind (sheetVersion ∷ headerLayout h) (layoutAll sheetVersion (x .records)) old y s front b front-length (F .bytes-are ∙ sheet-bytes) (F .fits) p L
 
   module _ (r : Passed) (J : Judges file g r) (old : List ℕ) where
     -- ---- which way reading goes

@@ -1,10 +1,8 @@
--- A pass over the items of a file: the records laid into a sheet as they are made. Assumes nothing.
-use Prim.Native.Nat.{ℕ, _+_, _≤_}
-use mathlib.Core.List.{List, [], _∷_}
+-- The two passes over the items of a file that was opened. Assumes nothing.
+use Prim.Native.Nat.{ℕ, _≤_}
+use mathlib.Core.List.{List}
 use lib.ListN.{length}
-use Rattle.format.specs.State.{Record}
-use Rattle.format.specs.Sheet.{sheetVersion, layout, sheetOf}
-use Rattle.wire.specs.Laid.{laidIf}
+use Rattle.format.specs.Sheet.{sheetVersion, sheetOf}
 use mathlib.Core.Path.{_≡_}
 use Rattle.format.specs.Reading.{itemsOf, readOutcome, readBuffer}
 use Rattle.format.specs.Refusals.{Result}
@@ -13,11 +11,6 @@ use Rattle.measure.specs.declared.Passed.{Passed}
 use Rattle.read.specs.declared.Heading.{Heading}
 use Rattle.format.specs.Answers.{answerOf}
 use Rattle.format.specs.declared.Answer.{Answer}
-
--- d with the records in it from k on, each where it fits
-unfoldable pub lay : List ℕ → ℕ → List Record → List ℕ
-lay d k [] = d
-lay d k (r ∷ rs) = lay (laidIf d k (layout sheetVersion r)) (k + length (layout sheetVersion r)) rs
 
 -- a header that was opened
 abbrev pub Headed : List ℕ → Heading → Type 0

@@ -4,32 +4,40 @@ ghost use mathlib.Core.Path.{_≡_};
 ghost use mathlib.Core.List.{List, []};
 ghost use Prim.Native.Nat.{ℕ, _+_, _^_, _≤_, _<_};
 ghost use lib.ListN.{length};
+ghost use Rattle.format.specs.State.{startSetting};
 ghost use Rattle.format.specs.Reading.{itemsOf, readOutcome, readBuffer};
 ghost use Rattle.format.specs.Answers.{answerOf};
 ghost use Rattle.measure.specs.Totals.{passOf};
-ghost use Rattle.read.specs.Pass.{lay, Headed, Judges, Fills, sheetOfHead, ReadsTo};
-ghost use Rattle.read.specs.Turning.{Ready, Shortly, Turns};
+ghost use Rattle.read.specs.Pass.{Headed, Judges, Fills, sheetOfHead, ReadsTo};
+ghost use Rattle.read.specs.Turning.{Few, Ready, ReadyFor, SmallJoint, aheadOf, passedOf, recordBy, sameJoint, TurnsLine, Shortly, Turns};
+ghost use Rattle.item.specs.Commonest.{movedTo, extended};
+ghost use Rattle.laying.specs.Quickly.{Joined};
+ghost use Rattle.layout.specs.Freely.{LaidFreely};
 ghost use Rattle.read.specs.Salvage.{reportNumber, reportPlace, salvageOutcome, salvageBuffer, salvagedOf, SalvagesTo};
 ghost use Rattle.format.specs.Bytes.{over};
 ghost use Rattle.format.specs.Header.{fileLimit};
 ghost use Rattle.format.specs.Label.{labelLimit};
-ghost use Rattle.short.specs.Brief.{Finds};
-ghost use Rattle.format.specs.Sheet.{frontLimit};
+ghost use Rattle.short.specs.Brief.{Finds, placeAt};
+ghost use Rattle.format.specs.Sheet.{frontLimit, sheetVersion, layoutAll};
 use decode::get_point;
 use format::Answer;
 use format::LABEL_LIMIT;
 use format::Point;
+use format::Position;
 use format::Setting;
 use format::Verdict;
 use header::Head;
 use item::Step;
+use item::leg_at;
 use item::section_at;
+use item::station_at;
 use item::with_position;
-use laying::Quick;
+use laying::Joint;
 use laying::joint_of;
-use laying::lay_line;
-use laying::lay_place;
-use laying::lay_section;
+use laying::lay_leg_freely;
+use laying::lay_same_freely;
+use laying::lay_section_freely;
+use laying::lay_station_freely;
 use measure::Passed;
 use measure::ended;
 use measure::stopped;
@@ -38,8 +46,22 @@ use short::new_item;
 use short::old_item;
 use short::sides;
 
-// Where a pass stands, in numbers: the file's version, the label's length, and where the next
-// record goes.
+// How far a pass has come: the next item's place, where the next record goes, how many records
+// there were, and the label's length.
+struct Progress {
+    at: usize,
+    out: usize,
+    records: usize,
+    len: usize,
+}
+
+// Where a pass stands: how far it has come, and the setting there.
+struct Stand {
+    here: Progress,
+    setting: Setting,
+}
+
+// What an item is taken by: the file's version, the label's length, and where its record goes.
 struct Before {
     version: u8,
     len: usize,
@@ -55,17 +77,20 @@ struct Moved {
     records: usize,
 }
 
-// What an item comes to in a pass: a refusal; the end; the label's length after a trim; how far it
-// takes the pass, with the position that it leads to; the same with the setting as it was; the
-// same with the setting after it. (A setting that is handed back is copied: the commonest items
-// would pay for it.)
+// What an item comes to in a pass: a refusal; the end; or how far it takes the pass, with the
+// setting after it.
 enum Turned {
     Bad { number: u8 },
     End,
-    Trim { len: usize },
-    Led { by: Moved, to: Point },
-    Same { by: Moved },
     Went { by: Moved, setting: Setting },
+}
+
+// What one of the commonest items comes to: another item; the label's length after a trim; or
+// where the pass stands behind it. (A trim leaves all else as it was, and so copies nothing.)
+enum Common {
+    Other,
+    Trim { len: usize },
+    Went { stand: Stand },
 }
 
 // The item at the front of s, after a label of len bytes, where it is one of the commonest.
@@ -80,48 +105,6 @@ fn find_short(version: u8, s: &[u8], len: usize) -> Short
     new_item(s, len)
 }
 
-// The item at the front of s, in the state of a setting and a label, where it is one of
-// the commonest: its record, where it makes one, is laid into the sheet.
-fn lay_short(
-    before: Before,
-    s: &[u8],
-    bytes: &mut [u8; LABEL_LIMIT],
-    setting: Setting,
-    sheet: &mut [u8],
-) -> Quick
-    requires { ⌜ Ready before (now bytes) ⌝ }
-    ensures { λ r. ⌜ Shortly r before setting (now (s .entry)) (now (bytes .entry)) (now (bytes .exit)) (now (sheet .entry)) (now (sheet .exit)) ⌝ }
-{
-    let out = before.out;
-    let len = before.len;
-    let it = find_short(before.version, s, len);
-    match it {
-        Short::Other => Quick::Other,
-        Short::Line { keep, add, flags } => {
-            let joint = joint_of(keep, add, 14 + add, out);
-            lay_line(s, bytes, joint, flags, setting, sheet)
-        }
-        Short::Again { flags } => {
-            let joint = joint_of(len, 0, 13, out);
-            lay_line(s, bytes, joint, flags, setting, sheet)
-        }
-        Short::Place { keep, add, flags } => {
-            let joint = joint_of(keep, add, 14 + add, out);
-            lay_place(s, bytes, joint, flags, sheet)
-        }
-        Short::Section { keep, add, code } => {
-            let joint = joint_of(keep, add, 2 + add + sides(code), out);
-            let section = section_at(s, 2 + add, code, setting);
-            lay_section(s, bytes, joint, section, sheet)
-        }
-        Short::Trim { len: m } => Quick::Trim { len: m },
-        Short::Move => {
-            let to = get_point(&s[1..]);
-            Quick::Move { len, to }
-        }
-    }
-}
-
 fn moved_by(size: usize, len: usize, bytes: usize, records: usize) -> Moved
     ensures { λ r. ⌜ r ≡ record { size = size; len = len; bytes = bytes; records = records } ⌝ }
 {
@@ -133,6 +116,186 @@ fn moved_by(size: usize, len: usize, bytes: usize, records: usize) -> Moved
     }
 }
 
+// ---- how far a pass has come
+
+// At the first item of a file.
+fn outset(place: usize, front: usize) -> Stand
+    ensures { λ r. ⌜ r ≡ record { here = record { at = place; out = front; records = 0; len = 0 }; setting = startSetting } ⌝ }
+{
+    let here = Progress {
+        at: place,
+        out: front,
+        records: 0,
+        len: 0,
+    };
+    let setting = format::start_setting();
+    Stand { here, setting }
+}
+
+// Behind an item that goes so far.
+fn ahead(here: Progress, by: Moved) -> Progress
+    requires { ⌜ (here .at + by .size < 2 ^ 62) × (here .out + by .bytes < 2 ^ 62) × (here .records + by .records < 2 ^ 62) ⌝ }
+    ensures { λ r. ⌜ r ≡ aheadOf here by ⌝ }
+{
+    Progress {
+        at: here.at + by.size,
+        out: here.out + by.bytes,
+        records: here.records + by.records,
+        len: by.len,
+    }
+}
+
+// Behind one that makes no record.
+fn passed(here: Progress, size: usize, len: usize) -> Progress
+    requires { ⌜ here .at + size < 2 ^ 62 ⌝ }
+    ensures { λ r. ⌜ r ≡ passedOf here size len ⌝ }
+{
+    Progress {
+        at: here.at + size,
+        out: here.out,
+        records: here.records,
+        len,
+    }
+}
+
+// Behind one that makes a record with so many bytes beside its label.
+fn behind(here: Progress, joint: Joint, head: usize) -> Progress
+    requires { ⌜ Few here × SmallJoint joint × (head ≤ 34) ⌝ }
+    ensures { λ r. ⌜ r ≡ aheadOf here (recordBy joint head) ⌝ }
+{
+    let len = joint.keep + joint.add;
+    Progress {
+        at: here.at + joint.size,
+        out: here.out + (head + len),
+        records: here.records + 1,
+        len,
+    }
+}
+
+fn went(here: Progress, setting: Setting) -> Common
+    ensures { λ r. ⌜ r ≡ Common.Went (record { here = here; setting = setting }) ⌝ }
+{
+    let stand = Stand { here, setting };
+    Common::Went { stand }
+}
+
+// The same with the position that an item leads to.
+fn leads(here: Progress, setting: Setting, to: Point) -> Common
+    ensures { λ r. ⌜ r ≡ Common.Went (record { here = here; setting = movedTo setting to }) ⌝ }
+{
+    let after = with_position(setting, to);
+    went(here, after)
+}
+
+// ---- the commonest items, at the front of s: their records are laid in
+
+// A LINE that appends to the label. Where the position is not set it is left to the general item.
+fn turn_line(
+    s: &[u8],
+    bytes: &mut [u8; LABEL_LIMIT],
+    stand: Stand,
+    joint: Joint,
+    flags: u8,
+    sheet: &mut [u8],
+) -> Common
+    requires { ⌜ Joined joint (now s) (now bytes) × Few (stand .here) × SmallJoint joint ⌝ }
+    ensures { λ r. ⌜ TurnsLine r stand joint (2 + joint .add) flags (now (s .entry)) (now (bytes .entry)) (extended (now (bytes .entry)) (joint .keep) (now (s .entry))) (now (bytes .exit)) (now (sheet .entry)) (now (sheet .exit)) ⌝ }
+{
+    let setting = stand.setting;
+    let position = setting.position;
+    let Position::Stands { point } = position else {
+        return Common::Other;
+    };
+    let leg = leg_at(s, 2 + joint.add, flags, setting, point);
+    lay_leg_freely(s, bytes, joint, leg, sheet);
+    let here = behind(stand.here, joint, 34);
+    leads(here, setting, leg.to)
+}
+
+// A LINE with the same label, in the same way.
+fn turn_again(
+    s: &[u8],
+    bytes: &mut [u8; LABEL_LIMIT],
+    stand: Stand,
+    flags: u8,
+    sheet: &mut [u8],
+) -> Common
+    requires { ⌜ (33 ≤ length (now s)) × Ready (stand .here) (now bytes) × (stand .here .len + 16 ≤ labelLimit) ⌝ }
+    ensures { λ r. ⌜ TurnsLine r stand (sameJoint (stand .here)) 1 flags (now (s .entry)) (now (bytes .entry)) (now (bytes .entry)) (now (bytes .exit)) (now (sheet .entry)) (now (sheet .exit)) ⌝ }
+{
+    let setting = stand.setting;
+    let position = setting.position;
+    let Position::Stands { point } = position else {
+        return Common::Other;
+    };
+    let leg = leg_at(s, 1, flags, setting, point);
+    let old = stand.here;
+    lay_same_freely(bytes, old.len, old.out, leg, sheet);
+    let joint = joint_of(old.len, 0, 13, old.out);
+    let here = behind(old, joint, 34);
+    leads(here, setting, leg.to)
+}
+
+// A MOVE.
+fn turn_move(s: &[u8], here: Progress, setting: Setting) -> Common
+    requires { ⌜ (13 ≤ length (now s)) × Few here ⌝ }
+    ensures { λ r. ⌜ r ≡ Common.Went (record { here = passedOf here 13 (here .len); setting = movedTo setting (placeAt (now (s .entry)) 1) }) ⌝ }
+{
+    let to = get_point(&s[1..]);
+    let next = passed(here, 13, here.len);
+    leads(next, setting, to)
+}
+
+// The item at the front of s, where it is one of the commonest.
+fn lay_short(
+    version: u8,
+    s: &[u8],
+    bytes: &mut [u8; LABEL_LIMIT],
+    stand: Stand,
+    sheet: &mut [u8],
+) -> Common
+    requires { ⌜ Ready (stand .here) (now bytes) ⌝ }
+    ensures { λ r. ⌜ Shortly r version stand (now (s .entry)) (now (bytes .entry)) (now (bytes .exit)) (now (sheet .entry)) (now (sheet .exit)) ⌝ }
+{
+    let here = stand.here;
+    let setting = stand.setting;
+    let it = find_short(version, s, here.len);
+    match it {
+        Short::Other => Common::Other,
+        Short::Line { keep, add, flags } => {
+            let joint = joint_of(keep, add, 14 + add, here.out);
+            turn_line(s, bytes, stand, joint, flags, sheet)
+        }
+        Short::Again { flags } => turn_again(s, bytes, stand, flags, sheet),
+        Short::Place { keep, add, flags } => {
+            let joint = joint_of(keep, add, 14 + add, here.out);
+            let station = station_at(s, 2 + add, flags);
+            lay_station_freely(s, bytes, joint, station, sheet);
+            went(behind(here, joint, 16), setting)
+        }
+        Short::Section { keep, add, code } => {
+            let joint = joint_of(keep, add, 2 + add + sides(code), here.out);
+            let section = section_at(s, 2 + add, code, setting);
+            lay_section_freely(s, bytes, joint, section, sheet);
+            went(behind(here, joint, 25), setting)
+        }
+        Short::Trim { len } => Common::Trim { len },
+        Short::Move => turn_move(s, here, setting),
+    }
+}
+
+// ---- the items of a file
+
+fn before_item(version: u8, here: Progress) -> Before
+    ensures { λ r. ⌜ r ≡ record { version = version; len = here .len; out = here .out } ⌝ }
+{
+    Before {
+        version,
+        len: here.len,
+        out: here.out,
+    }
+}
+
 // The item at the front of s, whichever it is.
 fn lay_item(
     before: Before,
@@ -141,7 +304,7 @@ fn lay_item(
     setting: Setting,
     sheet: &mut [u8],
 ) -> Turned
-    requires { ⌜ Ready before (now bytes) ⌝ }
+    requires { ⌜ ReadyFor before (now bytes) ⌝ }
     ensures { λ r. ⌜ Turns r before setting (now (s .entry)) (now (bytes .entry)) (now (bytes .exit)) (now (sheet .entry)) (now (sheet .exit)) ⌝ }
 {
     let it = item::take_item(before.version, s, bytes, before.len, setting);
@@ -170,136 +333,43 @@ fn lay_item(
     }
 }
 
-// The same: the commonest items are tried first.
-fn pass_item(
-    before: Before,
-    s: &[u8],
-    bytes: &mut [u8; LABEL_LIMIT],
-    setting: Setting,
-    sheet: &mut [u8],
-) -> Turned
-    requires { ⌜ Ready before (now bytes) ⌝ }
-    ensures { λ r. ⌜ Turns r before setting (now (s .entry)) (now (bytes .entry)) (now (bytes .exit)) (now (sheet .entry)) (now (sheet .exit)) ⌝ }
-{
-    let quick = lay_short(before, s, bytes, setting, sheet);
-    match quick {
-        Quick::Other => lay_item(before, s, bytes, setting, sheet),
-        Quick::Leg {
-            size,
-            len,
-            to,
-            kept: _,
-        } => {
-            let by = moved_by(size, len, 34 + len, 1);
-            Turned::Led { by, to }
-        }
-        Quick::Made {
-            size,
-            len,
-            bytes: room,
-            kept: _,
-        } => {
-            let by = moved_by(size, len, room, 1);
-            Turned::Same { by }
-        }
-        Quick::Trim { len } => Turned::Trim { len },
-        Quick::Move { len, to } => {
-            let by = moved_by(13, len, 0, 0);
-            Turned::Led { by, to }
-        }
-    }
-}
-
-// How far a pass has come: the next item's place, where the next record goes, how many records
-// there were, and the label's length.
-struct Progress {
-    at: usize,
-    out: usize,
-    records: usize,
-    len: usize,
-}
-
-fn outset(place: usize, front: usize) -> Progress
-    ensures { λ r. ⌜ r ≡ record { at = place; out = front; records = 0; len = 0 } ⌝ }
-{
-    Progress {
-        at: place,
-        out: front,
-        records: 0,
-        len: 0,
-    }
-}
-
-fn before_item(version: u8, here: Progress) -> Before
-    ensures { λ r. ⌜ r ≡ record { version = version; len = here .len; out = here .out } ⌝ }
-{
-    Before {
-        version,
-        len: here.len,
-        out: here.out,
-    }
-}
-
-// Behind an item that goes so far.
-fn ahead(here: Progress, by: Moved) -> Progress
-    requires { ⌜ (here .at + by .size < 2 ^ 62) × (here .out + by .bytes < 2 ^ 62) × (here .records + by .records < 2 ^ 62) ⌝ }
-    ensures { λ r. ⌜ r ≡ record { at = here .at + by .size; out = here .out + by .bytes; records = here .records + by .records; len = by .len } ⌝ }
-{
-    Progress {
-        at: here.at + by.size,
-        out: here.out + by.bytes,
-        records: here.records + by.records,
-        len: by.len,
-    }
-}
-
-// Behind a trim that leaves so many bytes of the label.
-fn trimmed(here: Progress, len: usize) -> Progress
-    requires { ⌜ here .at < 2 ^ 62 ⌝ }
-    ensures { λ r. ⌜ r ≡ record { at = here .at + 1; out = here .out; records = here .records; len = len } ⌝ }
-{
-    Progress {
-        at: here.at + 1,
-        out: here.out,
-        records: here.records,
-        len,
-    }
-}
-
-// A pass over the items from `place` on: the answer for a sheet with room enough, and
-// each record laid in where there is room, the first of them at `front`.
+// A pass over the items from `place` on: the answer for a sheet with room enough, and the
+// records laid in from `front` on, where there is room for all of them.
 fn pass(file: &[u8], version: u8, place: usize, sheet: &mut [u8], front: usize) -> Passed
     requires { ⌜ (length (now file) ≤ fileLimit) × (place ≤ length (now file)) × (front ≤ frontLimit) ⌝ }
     ensures answer { λ r. ⌜ r ≡ passOf front 0 (itemsOf version place (now (file .entry))) ⌝ }
-    ensures sheet { λ _. ⌜ now (sheet .exit) ≡ lay (now (sheet .entry)) front (itemsOf version place (now (file .entry)) .records) ⌝ }
+    ensures sheet { λ _. ⌜ LaidFreely (now (sheet .entry)) (now (sheet .exit)) front (layoutAll sheetVersion (itemsOf version place (now (file .entry)) .records)) ⌝ }
 {
     let mut label = label::blank();
-    let mut setting = format::start_setting();
-    let mut here = outset(place, front);
+    let mut stand = outset(place, front);
     loop {
+        let here = stand.here;
+        let setting = stand.setting;
         let at = here.at;
         let rest = &file[at..];
-        let before = before_item(version, here);
-        let it = pass_item(before, rest, &mut label.bytes, setting, sheet);
-        match it {
-            Turned::Bad { number } => {
-                let verdict = Verdict::Refusal { number, place: at };
-                return stopped(verdict, here.out, here.records);
+        let turn = lay_short(version, rest, &mut label.bytes, stand, sheet);
+        match turn {
+            Common::Went { stand: next } => {
+                stand = next;
             }
-            Turned::End => return ended(at, rest, here.out, here.records),
-            Turned::Trim { len } => {
-                here = trimmed(here, len);
+            Common::Trim { len } => {
+                let here = passed(here, 1, len);
+                stand = Stand { here, setting };
             }
-            Turned::Led { by, to } => {
-                setting = with_position(setting, to);
-                here = ahead(here, by);
-            }
-            Turned::Same { by } => {
-                here = ahead(here, by);
-            }
-            Turned::Went { by, setting: after } => {
-                setting = after;
-                here = ahead(here, by);
+            Common::Other => {
+                let before = before_item(version, here);
+                let it = lay_item(before, rest, &mut label.bytes, setting, sheet);
+                match it {
+                    Turned::Bad { number } => {
+                        let verdict = Verdict::Refusal { number, place: at };
+                        return stopped(verdict, here.out, here.records);
+                    }
+                    Turned::End => return ended(at, rest, here.out, here.records),
+                    Turned::Went { by, setting } => {
+                        let here = ahead(here, by);
+                        stand = Stand { here, setting };
+                    }
+                }
             }
         }
     }

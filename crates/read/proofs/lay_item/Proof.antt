@@ -1,8 +1,7 @@
 -- `read::lay_item` meets its contract. Assumes nothing.
 use native.Mathlib.Omega.{arith}
-use mathlib.Core.Path.{_∙_}
-use Rattle.item.specs.declared.Step.the-variants.{Bad, End, Made}
-use Rattle.read.proofs.Turn.{told-laid}
+use mathlib.Core.Path.{refl}
+use Rattle.layout.proofs.Freely.{freely-if}
 use Rattle.read.proofs.Quickly.{passes-on, passes-made}
 use borrow.Author.Needs.{needs}
 use Rattle.read.proofs.lay_item.Statement.{statement}
@@ -10,39 +9,29 @@ use Rattle.read.proofs.lay_item.Tie as tie
 
 lay-record-requires : tie.Need-lay-record-requires
 lay-record-requires c κs =
-    let p = c .before .before .before .before .before .before .before .before .before .pre in
-    let q = c .before .before .before .it3 .given .1 in
-    let T = rw q at (c .before .before .before .before .before .take-item .ensures .0) in
-    (omega (arith, p .out-few), T .short, T .whole)
+    let T = rw (c .before .before .before .it3 .given .1) at (c .before .before .before .before .before .take-item .ensures .0) in
+    (omega (arith, c .before .before .before .before .before .before .before .before .before .pre .out-few), T .short, T .whole)
 
 record-size-requires : tie.Need-record-size-requires
 record-size-requires c κs =
-    let q = c .before .before .before .before .before .before .it3 .given .1 in
-    let T = rw q at (c .before .before .before .before .before .before .before .before .take-item .ensures .0) in
-    T .short
+    let T = rw (c .before .before .before .before .before .before .it3 .given .1) at (c .before .before .before .before .before .before .before .before .take-item .ensures .0) in T .short
 
 returns : tie.Need-returns
-returns c =
-    let T = rw (c .before .it .given .1) at (c .before .before .before .take-item .ensures .0) in
-    (T, told-laid (Bad _) _ _ _ _ T)
+returns c = (rw (c .before .it .given .1) at (c .before .before .before .take-item .ensures .0), refl)
 
 returns-2 : tie.Need-returns-2
-returns-2 c =
-    let T = rw (c .enum-told .given .1) at (c .before .before .take-item .ensures .0) in
-    (T, told-laid End _ _ _ _ T)
+returns-2 c = (rw (c .enum-told .given .1) at (c .before .before .take-item .ensures .0), refl)
 
 returns-3 : tie.Need-returns-3
 returns-3 c =
     let T = rw (c .before .before .it2 .given .1) at (c .before .before .before .before .take-item .ensures .0) in
-    passes-on _ _ _ _ _ _ _ _ T (c .moved-by .ensures)
+    passes-on _ _ _ _ _ _ _ _ _ T (c .moved-by .ensures) refl
 
 returns-4 : tie.Need-returns-4
 returns-4 c =
-    let q = c .before .before .before .before .before .before .before .before .it3 .given .1 in
-    let T = rw q at (c .before .before .before .before .before .before .before .before .before .before .take-item .ensures .0) in
-    let l = c .before .before .before .before .lay-record .ensures in
-    let n = c .before .record-size .ensures in
-    passes-made _ _ _ _ _ _ _ _ _ _ _ _ T (c .moved-by2 .ensures) n (l ∙ told-laid (Made _ _ _ _ _) _ _ _ _ T)
+    let T = rw (c .before .before .before .before .before .before .before .before .it3 .given .1) at (c .before .before .before .before .before .before .before .before .before .before .take-item .ensures .0) in
+    passes-made _ _ _ _ _ _ _ _ _ _ _ _ T (c .moved-by2 .ensures) (c .before .record-size .ensures)
+    (freely-if _ _ _ _ (c .before .before .before .before .lay-record .ensures))
 
 -- the search closes the other needs
 pub lay-item-spec : {M : Type 1} → statement M
