@@ -137,7 +137,7 @@ pub extern "C" fn cockledrift_read_strict(
     ensures sheet { λ _. ⌜ now (sheet .exit) ≡ strictBuffer (now (file .entry)) (length (now (room .entry))) (now (sheet .entry)) ⌝ }
     ensures room { λ _. ⌜ now (room .exit) ≡ replicate (length (now (room .entry))) 0 ⌝ }
 {
-    let a = strict::read_strict(file, sheet, room, seed);
+    let a = read::read_strict(file, sheet, room, seed);
     abi::tell(a)
 }
 

@@ -16,13 +16,18 @@ use Rattle.format.specs.Refusals.{Result}
 use Rattle.format.specs.Reading.{itemsOf, readOutcome, readBuffer}
 use Rattle.format.specs.declared.Verdict.{Verdict}
 use Rattle.format.specs.declared.Verdict.the-variants.{Good, Refusal}
+use Rattle.format.specs.declared.Answer.{Answer}
 use Rattle.format.specs.declared.Answer.the-variants.{Done as AnswerDone, Refused as AnswerRefused}
 use Rattle.format.proofs.SheetLaws.{header-length}
 use Rattle.header.specs.Head.{saying}
 use Rattle.measure.specs.Totals.{passOf}
 use Rattle.measure.specs.declared.Passed.{Passed}
 use Rattle.layout.specs.Freely.{LaidFreely}
-use Rattle.read.specs.Pass.{Headed, resultOf, sheetOfHead, Judges, Fills, ReadsTo}
+use Rattle.read.specs.Pass.{Headed, resultOf, sheetOfHead, Judges, Fills, ReadsTo, SettlesTo, frontOf, courseOf}
+use Rattle.read.specs.Ruling.{Begins}
+use Rattle.format.specs.Answers.{answerOf}
+use Rattle.strict.specs.Strict.{strictItems, strictOutcome, strictBuffer}
+use Rattle.strict.proofs.StrictLaws.{strict-same}
 use Rattle.read.specs.Salvage.{reportNumber, reportPlace, salvageOutcome, salvageBuffer, SalvagesTo}
 use Rattle.read.specs.declared.Heading.{Heading}
 use Rattle.read.specs.declared.Salvaged.the-variants.{Saved, Refused as SalvageRefused}
@@ -54,6 +59,10 @@ module _ (file : List ℕ) (g : Heading) (O : Headed file g) where
 
   sheet-bytes : length (sheetOfHead file g) ≡ front + length (layoutAll sheetVersion (x .records))
   sheet-bytes = let a = title-length in let b = time-length in let q = sheet-length h (x .records) in omega arith
+
+  -- what a pass needs
+  pub begins-head : Begins file (courseOf g)
+  begins-head = let r = O .room in record { fits = r .file-fits; inside = r .inside; front-few = omega (arith, r .title-fits, r .time-fits) }
 
   -- the first pass
   pub judges : (r : Passed) → r ≡ passOf front 0 x → Judges file g r
@@ -112,6 +121,29 @@ module _ (file : List ℕ) (g : Heading) (O : Headed file g) where
         let i : length (sheetOfHead file g) ≤ length old = rw (← J .bytes-are) l in
         record { answer = simp (O .due, le-ltb _ _ i, ek, ep, J .verdict-is, J .bytes-are, J .records-are); buffer = q ∙ simp (O .due, le-ltb _ _ i) }
 
+-- ---- after the first pass
+
+not-good : {X : Type 0} (k q : ℕ) → Good ≡ Refusal k q → X
+not-good k q e = absurd (let z : _≡_ {A = ℕ} 0 1 = cc in omega arith)
+
+pub settles-good : (file : List ℕ) (total : Passed) (old : List ℕ) (a : Answer) (sheet : List ℕ) → total .verdict ≡ Good → ReadsTo file old a sheet → SettlesTo file total old a sheet
+settles-good file total old a sheet e R = record { refused = λ k q f. not-good k q (sym e ∙ f); good = λ f. R }
+
+pub settles-refused : (file : List ℕ) (total : Passed) (old : List ℕ) (k q : ℕ) → total .verdict ≡ Refusal k q → SettlesTo file total old (AnswerRefused k q) old
+settles-refused file total old k q e =
+    record {
+      refused = λ k′ q′ f. let u : Refusal k q ≡ Refusal k′ q′ = sym e ∙ f in (let z : k ≡ k′ = cc in let w : q ≡ q′ = cc in rw (z, w), refl);
+      good = λ f. not-good k q (sym f ∙ e);
+    }
+
+pub settled-reads : (file : List ℕ) (g : Heading) → Headed file g → (r : Passed) → Judges file g r → (old : List ℕ) (a : Answer) (sheet : List ℕ)
+    → SettlesTo file r old a sheet → ReadsTo file old a sheet
+settled-reads file g O r J old a sheet S = by-verdict (r .verdict) refl
+  where
+    by-verdict : (v : Verdict) → r .verdict ≡ v → ReadsTo file old a sheet
+    by-verdict Good e = S .good e
+    by-verdict (Refusal k q) e = let z = S .refused k q e in rw (z .0, z .1) (read-refused file g O r J old k q e)
+
 -- a refused opening
 pub read-shut : (file old : List ℕ) (k q : ℕ) → shut k q ≡ openingOf file → ReadsTo file old (AnswerRefused k q) old
 unfolding readOutcome readBuffer
@@ -120,3 +152,44 @@ read-shut file old k q e = record { answer = rw (← e); buffer = rw (← e) }
 pub salvage-shut : (file old : List ℕ) (k q : ℕ) → shut k q ≡ openingOf file → SalvagesTo file old (SalvageRefused k q) old
 unfolding salvageOutcome salvageBuffer
 salvage-shut file old k q e = record { answer = rw (← e); buffer = rw (← e) }
+
+-- ---- strict reading
+
+module _ (file old : List ℕ) (index : ℕ) where
+  -- an answer and the sheet after it are what strict reading gives
+  abbrev pub Strictly : Answer → List ℕ → Type 0
+  Strictly a sheet = (answerOf a ≡ strictOutcome file index (length old)) × (sheet ≡ strictBuffer file index old)
+
+  pub strict-shut : (k q : ℕ) → shut k q ≡ openingOf file → Strictly (AnswerRefused k q) old
+  unfolding strictOutcome strictBuffer
+  strict-shut k q e = (rw (← e), rw (← e))
+
+  module _ (g : Heading) (O : Headed file g) (total : Passed) (T : total ≡ passOf (frontOf g) 0 (strictItems (g .version) index (g .place) file)) where
+    abbrev found : Result
+    found = strictItems (g .version) index (g .place) file
+
+    verdict-is : total .verdict ≡ found .verdict
+    unfolding passOf
+    verdict-is = ap (λ (q : Passed). q .verdict) T
+
+    -- where nothing is refused, both readings make the same records
+    same-items : total .verdict ≡ Good → found ≡ resultOf file g
+    same-items e = strict-same (g .version) index (g .place) file (sym verdict-is ∙ e)
+
+    pub strict-judges : total .verdict ≡ Good → Judges file g total
+    strict-judges e = judges file g O total (T ∙ ap (passOf (frontOf g) 0) (same-items e))
+
+    strict-refused : (k q : ℕ) → total .verdict ≡ Refusal k q → Strictly (AnswerRefused k q) old
+    unfolding strictOutcome strictBuffer
+    strict-refused k q e = let w = sym verdict-is ∙ e in (rw (O .due, w), rw (O .due, w))
+
+    strict-read : total .verdict ≡ Good → (a : Answer) (sheet : List ℕ) → ReadsTo file old a sheet → Strictly a sheet
+    unfolding strictOutcome strictBuffer readOutcome readBuffer
+    strict-read e a sheet R = let s = same-items e in (R .answer ∙ rw (O .due, s), R .buffer ∙ rw (O .due, s))
+
+    pub settled-strictly : (a : Answer) (sheet : List ℕ) → SettlesTo file total old a sheet → Strictly a sheet
+    settled-strictly a sheet S = by-verdict (total .verdict) refl
+      where
+        by-verdict : (v : Verdict) → total .verdict ≡ v → Strictly a sheet
+        by-verdict Good e = strict-read e a sheet (S .good e)
+        by-verdict (Refusal k q) e = let z = S .refused k q e in rw (z .0, z .1) (strict-refused k q e)

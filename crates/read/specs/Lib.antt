@@ -1,3 +1,4 @@
 pub mod Pass
 pub mod Turning
+pub mod Ruling
 pub mod Salvage

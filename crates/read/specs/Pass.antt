@@ -1,5 +1,5 @@
 -- The two passes over the items of a file that was opened. Assumes nothing.
-use Prim.Native.Nat.{ℕ, _≤_}
+use Prim.Native.Nat.{ℕ, _+_, _≤_}
 use mathlib.Core.List.{List}
 use lib.ListN.{length}
 use Rattle.format.specs.Sheet.{sheetVersion, sheetOf}
@@ -8,13 +8,23 @@ use Rattle.format.specs.Reading.{itemsOf, readOutcome, readBuffer}
 use Rattle.format.specs.Refusals.{Result}
 use Rattle.header.specs.Head.{saying, Opens}
 use Rattle.measure.specs.declared.Passed.{Passed}
+use Rattle.read.specs.declared.Course.{Course}
 use Rattle.read.specs.declared.Heading.{Heading}
 use Rattle.format.specs.Answers.{answerOf}
 use Rattle.format.specs.declared.Answer.{Answer}
+use Rattle.format.specs.declared.Answer.the-variants.{Refused}
+use Rattle.format.specs.declared.Verdict.the-variants.{Good, Refusal}
 
 -- a header that was opened
 abbrev pub Headed : List ℕ → Heading → Type 0
 Headed file h = Opens file (h .version) (h .place) (h .extended) (h .title) (h .time)
+
+-- where the first record goes, and which items a pass goes over
+abbrev pub frontOf : Heading → ℕ
+frontOf h = 7 + h .title + h .time
+
+abbrev pub courseOf : Heading → Course
+courseOf h = record { version = h .version; place = h .place; front = frontOf h }
 
 -- the records of a file's items, and why reading them stops
 abbrev pub resultOf : List ℕ → Heading → Result
@@ -39,3 +49,8 @@ pub record Fills (file : List ℕ) (h : Heading) (bytes : ℕ) (sheet : List ℕ
 pub record ReadsTo (file old : List ℕ) (a : Answer) (sheet : List ℕ) : Type 0 where
   pub answer : answerOf a ≡ readOutcome file (length old)
   pub buffer : sheet ≡ readBuffer file old
+
+-- `settle`: the same where the first pass found nothing to refuse, and its refusal where it did
+pub record SettlesTo (file : List ℕ) (total : Passed) (old : List ℕ) (a : Answer) (sheet : List ℕ) : Type 0 where
+  pub refused : (k q : ℕ) → total .verdict ≡ Refusal k q → (a ≡ Refused k q) × (sheet ≡ old)
+  pub good : total .verdict ≡ Good → ReadsTo file old a sheet

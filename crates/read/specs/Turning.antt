@@ -22,6 +22,7 @@ use Rattle.laying.specs.declared.Joint.{Joint}
 use Rattle.read.specs.declared.Before.{Before}
 use Rattle.read.specs.declared.Moved.{Moved}
 use Rattle.read.specs.declared.Progress.{Progress}
+use Rattle.read.specs.declared.Rule.the-variants.{Off}
 use Rattle.read.specs.declared.Stand.{Stand}
 use Rattle.read.specs.declared.Common.{Common}
 use Rattle.read.specs.declared.Common.the-variants.{Other, Trim, Went as WentOn}
@@ -96,7 +97,7 @@ pub record Passes (by : Moved) (after : Setting) (x : Next) (b d d′ : List ℕ
 abbrev pub TurnsAs : Turned → Next → List ℕ → List ℕ → List ℕ → ℕ → Type 0
 TurnsAs (Bad k) x b d d′ out = Tells (BadStep k) b x × (d′ ≡ d)
 TurnsAs End x b d d′ out = Tells EndStep b x × (d′ ≡ d)
-TurnsAs (Went by after) x b d d′ out = Passes by after x b d d′ out
+TurnsAs (Went by after rule) x b d d′ out = (rule ≡ Off) × Passes by after x b d d′ out
 
 -- `lay_item`: the label's buffer is b before the item and b′ after it
 abbrev pub Turns : Turned → Before → Setting → List ℕ → List ℕ → List ℕ → List ℕ → List ℕ → Type 0

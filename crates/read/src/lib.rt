@@ -3,22 +3,25 @@
 ghost use mathlib.Core.Path.{_≡_};
 ghost use mathlib.Core.List.{List, []};
 ghost use Prim.Native.Nat.{ℕ, _+_, _^_, _≤_, _<_};
-ghost use lib.ListN.{length};
+ghost use lib.ListN.{length, replicate};
 ghost use Rattle.format.specs.State.{startSetting};
 ghost use Rattle.format.specs.Reading.{itemsOf, readOutcome, readBuffer};
 ghost use Rattle.format.specs.Answers.{answerOf};
-ghost use Rattle.measure.specs.Totals.{passOf};
-ghost use Rattle.read.specs.Pass.{Headed, Judges, Fills, sheetOfHead, ReadsTo};
+ghost use Rattle.measure.specs.Totals.{passOf, passedBy};
+ghost use Rattle.read.specs.Pass.{Headed, Judges, Fills, sheetOfHead, ReadsTo, SettlesTo, frontOf, courseOf};
+ghost use Rattle.read.specs.Ruling.{isOn, ReadyTo, RulesIn, AnyItem, ShortTurn, Begins, BeginsAs, itemsBy, LentBy};
+ghost use Rattle.strict.specs.Strict.{strictItems, strictOutcome, strictBuffer};
+ghost use Rattle.table.specs.Told.{Holds};
+ghost use Rattle.item.specs.Seen.{seen, Short as ShortStep};
 ghost use Rattle.read.specs.Turning.{Few, Ready, ReadyFor, SmallJoint, aheadOf, passedOf, recordBy, sameJoint, TurnsLine, Shortly, Turns};
 ghost use Rattle.item.specs.Commonest.{movedTo, extended};
 ghost use Rattle.laying.specs.Quickly.{Joined};
 ghost use Rattle.layout.specs.Freely.{LaidFreely};
 ghost use Rattle.read.specs.Salvage.{reportNumber, reportPlace, salvageOutcome, salvageBuffer, salvagedOf, SalvagesTo};
 ghost use Rattle.format.specs.Bytes.{over};
-ghost use Rattle.format.specs.Header.{fileLimit};
+ghost use Rattle.format.specs.Header.{titleLimit, timeLimit};
 ghost use Rattle.format.specs.Label.{labelLimit};
 ghost use Rattle.short.specs.Brief.{Finds, placeAt};
-ghost use Rattle.format.specs.Sheet.{frontLimit, sheetVersion, layoutAll};
 use decode::get_point;
 use format::Answer;
 use format::LABEL_LIMIT;
@@ -45,6 +48,9 @@ use short::Short;
 use short::new_item;
 use short::old_item;
 use short::sides;
+use strict::Judged;
+use strict::take_next;
+use table::Index;
 
 // How far a pass has come: the next item's place, where the next record goes, how many records
 // there were, and the label's length.
@@ -77,12 +83,24 @@ struct Moved {
     records: usize,
 }
 
+// Whether a pass judges names (#108): by an index, in the buffer that is lent to it.
+enum Rule {
+    Off,
+    On { index: Index },
+}
+
 // What an item comes to in a pass: a refusal; the end; or how far it takes the pass, with the
-// setting after it.
+// setting and the index after it.
 enum Turned {
-    Bad { number: u8 },
+    Bad {
+        number: u8,
+    },
     End,
-    Went { by: Moved, setting: Setting },
+    Went {
+        by: Moved,
+        setting: Setting,
+        rule: Rule,
+    },
 }
 
 // What one of the commonest items comes to: another item; the label's length after a trim; or
@@ -296,7 +314,17 @@ fn before_item(version: u8, here: Progress) -> Before
     }
 }
 
-// The item at the front of s, whichever it is.
+fn went_on(by: Moved, setting: Setting) -> Turned
+    ensures { λ r. ⌜ r ≡ Turned.Went by setting Rule.Off ⌝ }
+{
+    Turned::Went {
+        by,
+        setting,
+        rule: Rule::Off,
+    }
+}
+
+// The item at the front of s, whichever it is: its record is laid in.
 fn lay_item(
     before: Before,
     s: &[u8],
@@ -317,7 +345,7 @@ fn lay_item(
             setting: after,
         } => {
             let by = moved_by(size, len, 0, 0);
-            Turned::Went { by, setting: after }
+            went_on(by, after)
         }
         Step::Made {
             size,
@@ -328,26 +356,139 @@ fn lay_item(
         } => {
             layout::lay_record(sheet, before.out, fields, bytes, len);
             let by = moved_by(size, len, layout::record_size(fields, len), 1);
-            Turned::Went { by, setting: after }
+            went_on(by, after)
         }
     }
 }
 
-// A pass over the items from `place` on: the answer for a sheet with room enough, and the
-// records laid in from `front` on, where there is room for all of them.
-fn pass(file: &[u8], version: u8, place: usize, sheet: &mut [u8], front: usize) -> Passed
-    requires { ⌜ (length (now file) ≤ fileLimit) × (place ≤ length (now file)) × (front ≤ frontLimit) ⌝ }
-    ensures answer { λ r. ⌜ r ≡ passOf front 0 (itemsOf version place (now (file .entry))) ⌝ }
-    ensures sheet { λ _. ⌜ LaidFreely (now (sheet .entry)) (now (sheet .exit)) front (layoutAll sheetVersion (itemsOf version place (now (file .entry)) .records)) ⌝ }
+fn judged_on(by: Moved, setting: Setting, index: Index) -> Turned
+    ensures { λ r. ⌜ r ≡ Turned.Went by setting (Rule.On index) ⌝ }
+{
+    Turned::Went {
+        by,
+        setting,
+        rule: Rule::On { index },
+    }
+}
+
+// What an item's step comes to once the record that it makes is judged, with the label in the
+// first bytes of a buffer.
+fn judge_step(room: &mut [u8], index: Index, step: Step, bytes: &[u8; LABEL_LIMIT]) -> Turned
+    requires { ⌜ Holds (now room) index × ShortStep step × (length (now bytes) ≡ labelLimit) × (index .count < 16777215) ⌝ }
+    ensures { λ r. ⌜ RulesIn r index (now (bytes .entry)) (seen step (now (bytes .entry))) (now (room .entry)) (now (room .exit)) ⌝ }
+{
+    match step {
+        Step::Bad { number } => Turned::Bad { number },
+        Step::End => Turned::End,
+        Step::On { size, len, setting } => {
+            let by = moved_by(size, len, 0, 0);
+            judged_on(by, setting, index)
+        }
+        Step::Made {
+            size,
+            len,
+            setting,
+            fields,
+            kept: _,
+        } => {
+            let judged = strict::judge(room, index, fields, bytes, len);
+            match judged {
+                Judged::Faulty { number } => Turned::Bad { number },
+                Judged::Fine { index: next } => {
+                    let by = moved_by(size, len, layout::record_size(fields, len), 1);
+                    judged_on(by, setting, next)
+                }
+            }
+        }
+    }
+}
+
+// The item at the front of s, with the buffer that a pass is lent: the sheet, or the room for
+// names.
+fn any_item(
+    before: Before,
+    s: &[u8],
+    bytes: &mut [u8; LABEL_LIMIT],
+    setting: Setting,
+    lent: &mut [u8],
+    rule: Rule,
+) -> Turned
+    requires { ⌜ ReadyFor before (now bytes) × ReadyTo rule (now lent) ⌝ }
+    ensures { λ r. ⌜ AnyItem rule r before setting (now (s .entry)) (now (bytes .entry)) (now (bytes .exit)) (now (lent .entry)) (now (lent .exit)) ⌝ }
+{
+    match rule {
+        Rule::Off => lay_item(before, s, bytes, setting, lent),
+        Rule::On { index } => {
+            let step = take_next(before.version, s, bytes, before.len, setting);
+            judge_step(lent, index, step, bytes)
+        }
+    }
+}
+
+fn is_on(rule: Rule) -> bool
+    ensures { λ r. ⌜ r ≡ isOn rule ⌝ }
+{
+    match rule {
+        Rule::Off => false,
+        Rule::On { index: _ } => true,
+    }
+}
+
+// One of the commonest items, where no names are judged.
+fn short_turn(
+    strict: bool,
+    version: u8,
+    s: &[u8],
+    bytes: &mut [u8; LABEL_LIMIT],
+    stand: Stand,
+    lent: &mut [u8],
+) -> Common
+    requires { ⌜ Ready (stand .here) (now bytes) ⌝ }
+    ensures { λ r. ⌜ ShortTurn strict r version stand (now (s .entry)) (now (bytes .entry)) (now (bytes .exit)) (now (lent .entry)) (now (lent .exit)) ⌝ }
+{
+    if strict {
+        return Common::Other;
+    }
+    lay_short(version, s, bytes, stand, lent)
+}
+
+// What a pass comes to where it stops here, at an item that is refused.
+fn refused_at(number: u8, here: Progress) -> Passed
+    ensures { λ r. ⌜ r ≡ passedBy (Verdict.Refusal number (here .at)) (here .out) (here .records) ⌝ }
+{
+    let verdict = Verdict::Refusal {
+        number,
+        place: here.at,
+    };
+    stopped(verdict, here.out, here.records)
+}
+
+// Which items a pass goes over, and where the first record goes.
+struct Course {
+    version: u8,
+    place: usize,
+    front: usize,
+}
+
+// A pass over the items of a file: the answer for a sheet with room enough. It is lent the sheet,
+// and lays the records in, where there is room for all of them; or the room for names, by which
+// it judges stations and cross-sections.
+fn pass(file: &[u8], course: Course, lent: &mut [u8], first: Rule) -> Passed
+    requires { ⌜ Begins (now file) course × BeginsAs first (course .place) (now lent) ⌝ }
+    ensures answer { λ r. ⌜ r ≡ passOf (course .front) 0 (itemsBy first (length (now (lent .entry))) course (now (file .entry))) ⌝ }
+    ensures lent { λ _. ⌜ LentBy first (now (lent .entry)) (now (lent .exit)) course (now (file .entry)) ⌝ }
 {
     let mut label = label::blank();
-    let mut stand = outset(place, front);
+    let mut stand = outset(course.place, course.front);
+    let version = course.version;
+    let strict = is_on(first);
+    let mut ruling = first;
     loop {
         let here = stand.here;
         let setting = stand.setting;
         let at = here.at;
         let rest = &file[at..];
-        let turn = lay_short(version, rest, &mut label.bytes, stand, sheet);
+        let turn = short_turn(strict, version, rest, &mut label.bytes, stand, lent);
         match turn {
             Common::Went { stand: next } => {
                 stand = next;
@@ -358,16 +499,14 @@ fn pass(file: &[u8], version: u8, place: usize, sheet: &mut [u8], front: usize) 
             }
             Common::Other => {
                 let before = before_item(version, here);
-                let it = lay_item(before, rest, &mut label.bytes, setting, sheet);
+                let it = any_item(before, rest, &mut label.bytes, setting, lent, ruling);
                 match it {
-                    Turned::Bad { number } => {
-                        let verdict = Verdict::Refusal { number, place: at };
-                        return stopped(verdict, here.out, here.records);
-                    }
+                    Turned::Bad { number } => return refused_at(number, here),
                     Turned::End => return ended(at, rest, here.out, here.records),
-                    Turned::Went { by, setting } => {
+                    Turned::Went { by, setting, rule } => {
                         let here = ahead(here, by);
                         stand = Stand { here, setting };
+                        ruling = rule;
                     }
                 }
             }
@@ -375,17 +514,16 @@ fn pass(file: &[u8], version: u8, place: usize, sheet: &mut [u8], front: usize) 
     }
 }
 
-// The first pass: the answer for a sheet with room enough, whose first record goes to
-// `front`. The sheet stays as it was.
-fn measured(file: &[u8], version: u8, place: usize, sheet: &mut [u8], front: usize) -> Passed
-    requires { ⌜ (length (now file) ≤ fileLimit) × (place ≤ length (now file)) × (front ≤ frontLimit) × (version ≤ 8) ⌝ }
-    ensures answer { λ r. ⌜ r ≡ passOf front 0 (itemsOf version place (now (file .entry))) ⌝ }
+// The first pass: the answer for a sheet with room enough. The sheet stays as it was.
+fn measured(file: &[u8], sheet: &mut [u8], course: Course) -> Passed
+    requires { ⌜ Begins (now file) course × (course .version ≤ 8) ⌝ }
+    ensures answer { λ r. ⌜ r ≡ passOf (course .front) 0 (itemsOf (course .version) (course .place) (now (file .entry))) ⌝ }
     ensures sheet { λ _. ⌜ now (sheet .exit) ≡ now (sheet .entry) ⌝ }
 {
-    if version < 8 {
-        return pass(file, version, place, &mut sheet[..0], front);
+    if course.version < 8 {
+        return pass(file, course, &mut sheet[..0], Rule::Off);
     }
-    measure::measure(file, place, front)
+    measure::measure(file, course.place, course.front)
 }
 
 // A header that was opened, in numbers: the version, the first item's place, the flag, and
@@ -398,13 +536,24 @@ struct Heading {
     time: usize,
 }
 
+fn course_of(head: Heading) -> Course
+    requires { ⌜ (head .title ≤ titleLimit) × (head .time ≤ timeLimit) ⌝ }
+    ensures { λ r. ⌜ r ≡ courseOf head ⌝ }
+{
+    Course {
+        version: head.version,
+        place: head.place,
+        front: 7 + head.title + head.time,
+    }
+}
+
 // The first pass over the items of a file that was opened.
 fn judged(file: &[u8], sheet: &mut [u8], head: Heading) -> Passed
     requires { ⌜ Headed (now file) head ⌝ }
     ensures { λ r. ⌜ Judges (now (file .entry)) head r × (now (sheet .exit) ≡ now (sheet .entry)) ⌝ }
 {
-    let front = 7 + head.title + head.time;
-    measured(file, head.version, head.place, sheet, front)
+    let course = course_of(head);
+    measured(file, sheet, course)
 }
 
 // The second pass: the sheet of the records before the first refused item, of so many bytes.
@@ -412,20 +561,19 @@ fn fill(file: &[u8], sheet: &mut [u8], head: Heading, bytes: usize)
     requires { ⌜ Headed (now file) head × Fills (now file) head bytes (now sheet) ⌝ }
     ensures { λ _. ⌜ now (sheet .exit) ≡ over (sheetOfHead (now (file .entry)) head) (now (sheet .entry)) ⌝ }
 {
-    let front = 7 + head.title + head.time;
     let ends = 24 + head.title;
     let from = ends + 1;
     let stops = from + head.time;
     layout::put_front(sheet, head.extended, &file[24..ends], &file[from..stops]);
-    pass(file, head.version, head.place, &mut sheet[..bytes], front);
+    let course = course_of(head);
+    pass(file, course, &mut sheet[..bytes], Rule::Off);
 }
 
-// Reads the items of a file that was opened, in two passes: 11 comes last.
-fn read_items(file: &[u8], sheet: &mut [u8], head: Heading) -> Answer
-    requires { ⌜ Headed (now file) head ⌝ }
-    ensures { λ r. ⌜ ReadsTo (now (file .entry)) (now (sheet .entry)) r (now (sheet .exit)) ⌝ }
+// What reading comes to after its first pass: 11 comes last, and then the sheet is filled.
+fn settle(file: &[u8], sheet: &mut [u8], head: Heading, total: Passed) -> Answer
+    requires { ⌜ Headed (now file) head × (total .verdict ≡ Verdict.Good → Judges (now file) head total) ⌝ }
+    ensures { λ r. ⌜ SettlesTo (now (file .entry)) total (now (sheet .entry)) r (now (sheet .exit)) ⌝ }
 {
-    let total = judged(file, sheet, head);
     let verdict = total.verdict;
     let bytes = total.bytes;
     match verdict {
@@ -445,6 +593,15 @@ fn read_items(file: &[u8], sheet: &mut [u8], head: Heading) -> Answer
             }
         }
     }
+}
+
+// Reads the items of a file that was opened, in two passes.
+fn read_items(file: &[u8], sheet: &mut [u8], head: Heading) -> Answer
+    requires { ⌜ Headed (now file) head ⌝ }
+    ensures { λ r. ⌜ ReadsTo (now (file .entry)) (now (sheet .entry)) r (now (sheet .exit)) ⌝ }
+{
+    let total = judged(file, sheet, head);
+    settle(file, sheet, head, total)
 }
 
 // Reads a file into the lent sheet.
@@ -561,6 +718,63 @@ pub fn salvage(file: &[u8], sheet: &mut [u8]) -> Salvaged
                 time,
             };
             salvage_items(file, sheet, heading)
+        }
+    }
+}
+
+// ---- request #108: strict reading
+
+// How much of the room is cleared: all of it, and not only the nodes of so many names, since it
+// may have held anything.
+fn cleared(_names: usize, room: usize) -> usize
+    ensures { λ r. ⌜ r ≡ room ⌝ }
+{
+    room
+}
+
+// The first pass with the names judged in lent room, which then holds zeros.
+fn judge_names(file: &[u8], head: Heading, room: &mut [u8], seed: u64) -> Passed
+    requires { ⌜ Headed (now file) head ⌝ }
+    ensures total { λ r. ⌜ r ≡ passOf (frontOf head) 0 (strictItems (head .version) (length (now (room .entry))) (head .place) (now (file .entry))) ⌝ }
+    ensures room { λ _. ⌜ now (room .exit) ≡ replicate (length (now (room .entry))) 0 ⌝ }
+{
+    let index = table::empty(room, seed);
+    let course = course_of(head);
+    let total = pass(file, course, room, Rule::On { index });
+    let end = cleared(total.records, room.len());
+    piece::clear(&mut room[..end]);
+    total
+}
+
+// Reads a file into the lent sheet and refuses unknown and moved stations, with lent room
+// for an index of names and a seed for its hash. The room then holds zeros.
+pub fn read_strict(file: &[u8], sheet: &mut [u8], room: &mut [u8], seed: u64) -> Answer
+    ensures answer { λ r. ⌜ answerOf r ≡ strictOutcome (now (file .entry)) (length (now (room .entry))) (length (now (sheet .entry))) ⌝ }
+    ensures sheet { λ _. ⌜ now (sheet .exit) ≡ strictBuffer (now (file .entry)) (length (now (room .entry))) (now (sheet .entry)) ⌝ }
+    ensures room { λ _. ⌜ now (room .exit) ≡ replicate (length (now (room .entry))) 0 ⌝ }
+{
+    let opening = header::opening(file);
+    match opening {
+        Head::Shut { number, place } => {
+            piece::clear(room);
+            Answer::Refused { number, place }
+        }
+        Head::Whole {
+            version,
+            place,
+            extended,
+            title,
+            time,
+        } => {
+            let head = Heading {
+                version,
+                place,
+                extended,
+                title,
+                time,
+            };
+            let total = judge_names(file, head, room, seed);
+            settle(file, sheet, head, total)
         }
     }
 }

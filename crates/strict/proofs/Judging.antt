@@ -146,3 +146,9 @@ module _ (room : List ℕ) (i : Index) (earlier : List Record) (K : Knows room i
 
     pub section-unknown : (h : ℕ) → a ≡ Missing h → JudgedTo (Faulty 18) room earlier (section g l) (judged (length room) earlier (section g l))
     section-unknown h e = let x = rw e at t in rw (search-unknown l (sym (x .same)))
+
+-- ---- the index of no names
+
+pub knows-none : (room : List ℕ) (i : Index) → Holds room i → entriesOf room (i .count) ≡ [] → i .count ≡ 0 → Knows room i []
+unfolding searched taken lookup roomOf
+knows-none room i h e z = record { holds = h; answers = λ name. rw e; takes = rw e; few = omega arith }

@@ -1,5 +1,3 @@
 pub mod StrictLaws
 pub mod PromiseLaws
-mod Judging
-mod Turn
-mod Whole
+pub mod Judging

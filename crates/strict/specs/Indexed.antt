@@ -2,10 +2,8 @@
 use Prim.Native.Nat.{ℕ, _≤_}
 use mathlib.Core.Path.{_≡_}
 use mathlib.Core.List.{List, _∷_}
-use lib.ListN.{length, take}
-use Rattle.format.specs.Fields.{stateOf}
-use Rattle.format.specs.Label.{labelLimit}
-use Rattle.format.specs.State.{State, Record, station, section, Next, bad, end, on, made}
+use lib.ListN.{length}
+use Rattle.format.specs.State.{Record, station, section, Next, bad, end, on, made}
 use Rattle.format.specs.declared.Point.{Point}
 use Rattle.format.specs.declared.Section.{Section}
 use Rattle.table.specs.Entries.{Answer as Looked, somewhere, nowhere, lookup, roomOf, entriesOf}
@@ -14,8 +12,6 @@ use Rattle.table.specs.declared.Index.{Index}
 use Rattle.strict.specs.Strict.{Searched, found, unknown, searched, taken, Judgement, fine, faulty, judged}
 use Rattle.strict.specs.declared.Judged.{Judged}
 use Rattle.strict.specs.declared.Judged.the-variants.{Faulty, Fine}
-use Rattle.strict.specs.declared.Turned.{Turned}
-use Rattle.strict.specs.declared.Turned.the-variants.{Bad, End, Went}
 
 abbrev pub asSearched : Looked → Searched
 asSearched (somewhere p) = found p
@@ -58,26 +54,9 @@ strictNext room earlier (on n st) = on n st
 strictNext room earlier (bad k) = bad k
 strictNext room earlier end = end
 
--- an item of n bytes, with this state after it
-abbrev pub Goes : Next → ℕ → State → Type 0
-Goes (bad k) n st = ⊥
-Goes end n st = ⊥
-Goes (on k s) n st = (k ≡ n) × (s ≡ st)
-Goes (made k r s) n st = (k ≡ n) × (s ≡ st)
-
 -- the records made after it
 abbrev pub behind : Next → List Record → List Record
 behind (made n r st) earlier = r ∷ earlier
 behind (bad k) earlier = earlier
 behind end earlier = earlier
 behind (on n st) earlier = earlier
-
--- what an item comes to, and the index after it: b is the label's buffer
-abbrev pub TurnedTo : Turned → List ℕ → List ℕ → List Record → Next → Type 0
-TurnedTo (Bad k) room b earlier x = x ≡ bad k
-TurnedTo End room b earlier x = x ≡ end
-TurnedTo (Went n m st i) room b earlier x = Goes x n (stateOf st (take m b)) × (m ≤ labelLimit) × Knows room i (behind x earlier)
-
--- whatever came earlier, where the index knows it
-abbrev pub TurnsIn : Turned → List ℕ → List ℕ → Index → List ℕ → Next → Type 0
-TurnsIn a before after i b x = (earlier : List Record) → Knows before i earlier → TurnedTo a after b earlier (strictNext (length before) earlier x)

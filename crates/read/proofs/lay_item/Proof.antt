@@ -24,19 +24,22 @@ returns-2 c = (rw (c .enum-told .given .1) at (c .before .before .take-item .ens
 
 returns-3 : tie.Need-returns-3
 returns-3 c =
-    let T = rw (c .before .before .it2 .given .1) at (c .before .before .before .before .take-item .ensures .0) in
-    passes-on _ _ _ _ _ _ _ _ _ T (c .moved-by .ensures) refl
+    let T = rw (c .before .before .before .it2 .given .1) at (c .before .before .before .before .before .take-item .ensures .0) in
+    rw (c .went-on .ensures) (refl, passes-on _ _ _ _ _ _ _ _ _ T (c .before .moved-by .ensures) refl)
 
 returns-4 : tie.Need-returns-4
 returns-4 c =
-    let T = rw (c .before .before .before .before .before .before .before .before .it3 .given .1) at (c .before .before .before .before .before .before .before .before .before .before .take-item .ensures .0) in
-    passes-made _ _ _ _ _ _ _ _ _ _ _ _ T (c .moved-by2 .ensures) (c .before .record-size .ensures)
-    (freely-if _ _ _ _ (c .before .before .before .before .lay-record .ensures))
+    let T = rw (c .before .before .before .before .before .before .before .before .before .it3 .given .1) at (c .before .before .before .before .before .before .before .before .before .before .before .take-item .ensures .0) in
+    rw (c .went-on2 .ensures) (
+      refl,
+      passes-made _ _ _ _ _ _ _ _ _ _ _ _ T (c .before .moved-by2 .ensures) (c .before .before .record-size .ensures)
+          (freely-if _ _ _ _ (c .before .before .before .before .before .lay-record .ensures)),
+    )
 
 -- the search closes the other needs
 pub lay-item-spec : {M : Type 1} → statement M
 lay-item-spec =
     tie.close
     (tie.spec (λ c κs. search needs) (λ c. search needs) (λ c. search needs) (λ c. search needs) (λ c κs. search needs)
-    (λ c. search needs) lay-record-requires record-size-requires (λ c κs. search needs) returns returns-2 returns-3
-    (λ c. search needs) returns-4)
+    (λ c κs. search needs) (λ c. search needs) lay-record-requires record-size-requires (λ c κs. search needs) (λ c κs. search needs)
+    returns returns-2 returns-3 (λ c. search needs) returns-4)
