@@ -1,6 +1,7 @@
-// The records of the commonest items, laid in by themselves. Reading and stepping each tell
-// such items apart in a function of their own: one with two callers would not be joined to
-// the loop of reading. What lays the records is small enough to be joined to both.
+// The records of the commonest items, laid in by themselves: for a step, which leaves all else
+// in its buffer as it was, and for a pass of reading, which lays record behind record, so that
+// what stands behind one is free. Which item it is, reading and stepping each tell in a function
+// of their own: one with two callers would not be joined to the loop of reading.
 ghost use mathlib.Core.Path.{_≡_};
 ghost use Prim.Native.Nat.{_+_, _-_, _^_, _≤_, _<_};
 ghost use lib.ListN.{length, take};
