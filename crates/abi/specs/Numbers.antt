@@ -8,21 +8,21 @@ use Rattle.abi.specs.declared.OpenNumbers.{OpenNumbers}
 use Rattle.abi.specs.declared.StepNumbers.{StepNumbers}
 
 -- number 0 is success, with bytes, records and version; any other is the refusal's number, with its place
-abbrev pub outcomeNumbers : Outcome → AnswerNumbers
-outcomeNumbers (accepted bytes records version) = record { number = 0; bytes = bytes; records = records; version = version }
-outcomeNumbers (refused number place) = record { number = number; bytes = place; records = 0; version = 0 }
+abbrev pub outcome_numbers : Outcome → AnswerNumbers
+outcome_numbers (accepted bytes records version) = record { number = 0; bytes = bytes; records = records; version = version }
+outcome_numbers (refused number place) = record { number = number; bytes = place; records = 0; version = 0 }
 
-abbrev pub answerNumbers : Answer → AnswerNumbers
-answerNumbers a = outcomeNumbers (answer_of a)
+abbrev pub answer_numbers : Answer → AnswerNumbers
+answer_numbers a = outcome_numbers (answer_of a)
 
 -- number 0 is success, with the version and the first item's place; any other is the refusal's number, with its place
-abbrev pub openNumbers : OpenOutcome → OpenNumbers
-openNumbers (begun version place) = record { number = 0; place = place; version = version }
-openNumbers (unopened number place) = record { number = number; place = place; version = 0 }
+abbrev pub open_numbers : OpenOutcome → OpenNumbers
+open_numbers (begun version place) = record { number = 0; place = place; version = version }
+open_numbers (unopened number place) = record { number = number; place = place; version = 0 }
 
 -- 1 a record, with its bytes and how many bytes of the label were kept; 2 no record; 3 the end; 4 a refusal, with its number and place
-abbrev pub stepNumbers : StepOutcome → StepNumbers
-stepNumbers (wrote bytes kept) = record { what = 1; bytes = bytes; kept = kept; number = 0 }
-stepNumbers nothing = record { what = 2; bytes = 0; kept = 0; number = 0 }
-stepNumbers ends = record { what = 3; bytes = 0; kept = 0; number = 0 }
-stepNumbers (refuses number place) = record { what = 4; bytes = place; kept = 0; number = number }
+abbrev pub step_numbers : StepOutcome → StepNumbers
+step_numbers (wrote bytes kept) = record { what = 1; bytes = bytes; kept = kept; number = 0 }
+step_numbers nothing = record { what = 2; bytes = 0; kept = 0; number = 0 }
+step_numbers ends = record { what = 3; bytes = 0; kept = 0; number = 0 }
+step_numbers (refuses number place) = record { what = 4; bytes = place; kept = 0; number = number }

@@ -5,12 +5,12 @@ use Rattle.abi.specs.declared.SummaryNumbers.{SummaryNumbers}
 use Rattle.abi.specs.declared.EntranceNumbers.{EntranceNumbers}
 
 -- number 0 is success, with the words that the summary takes; any other is the refusal's number, with its place
-abbrev pub summaryNumbers : SummaryOutcome → SummaryNumbers
-summaryNumbers (takes words) = record { number = 0; place = 0; words = words }
-summaryNumbers (untaken number place) = record { number = number; place = place; words = 0 }
+abbrev pub summary_numbers : SummaryOutcome → SummaryNumbers
+summary_numbers (takes words) = record { number = 0; place = 0; words = words }
+summary_numbers (untaken number place) = record { number = number; place = place; words = 0 }
 
 -- the same with the count, and found 1 with the next entrance's record, or 0 where there is none
-abbrev pub entranceNumbers : EntrancesOutcome → EntranceNumbers
-entranceNumbers (holds count (At record')) = record { number = 0; place = 0; count = count; found = 1; next = record' }
-entranceNumbers (holds count Nowhere) = record { number = 0; place = 0; count = count; found = 0; next = 0 }
-entranceNumbers (unheld number place) = record { number = number; place = place; count = 0; found = 0; next = 0 }
+abbrev pub entrance_numbers : EntrancesOutcome → EntranceNumbers
+entrance_numbers (holds count (At record')) = record { number = 0; place = 0; count = count; found = 1; next = record' }
+entrance_numbers (holds count Nowhere) = record { number = 0; place = 0; count = count; found = 0; next = 0 }
+entrance_numbers (unheld number place) = record { number = number; place = place; count = 0; found = 0; next = 0 }

@@ -9,6 +9,6 @@ abbrev pub origin_of : ℤ → ℤ → ℤ → Origin
 origin_of x y z = record { x = x; y = y; z = z }
 
 -- number 0 is success, with how many legs came; any other is the refusal's number, with its place
-abbrev pub viewNumbers : ViewOutcome → ViewNumbers
-viewNumbers (viewed legs) = record { number = 0; place = 0; legs = legs }
-viewNumbers (unviewed number place) = record { number = number; place = place; legs = 0 }
+abbrev pub view_numbers : ViewOutcome → ViewNumbers
+view_numbers (viewed legs) = record { number = 0; place = 0; legs = legs }
+view_numbers (unviewed number place) = record { number = number; place = place; legs = 0 }

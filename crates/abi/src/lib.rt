@@ -1,11 +1,11 @@
 // Answers as numbers, for C and Rust.
 ghost use Rattle.std.specs.Prelude.{◌≡◌};
 ghost use Rattle.format.specs.Summary.{holds};
-ghost use Rattle.format.specs.Answers.{laterOf, opened_of, steppedOf, viewedOf, summedOf, entrancesOf};
-ghost use Rattle.abi.specs.Numbers.{answerNumbers, openNumbers, stepNumbers};
-ghost use Rattle.abi.specs.Compares.{comparedOf};
-ghost use Rattle.abi.specs.Views.{viewNumbers};
-ghost use Rattle.abi.specs.Summaries.{summaryNumbers, entranceNumbers};
+ghost use Rattle.format.specs.Answers.{later_of, opened_of, stepped_of, viewed_of, summed_of, entrances_of};
+ghost use Rattle.abi.specs.Numbers.{answer_numbers, open_numbers, step_numbers};
+ghost use Rattle.abi.specs.Compares.{compared_of};
+ghost use Rattle.abi.specs.Views.{view_numbers};
+ghost use Rattle.abi.specs.Summaries.{summary_numbers, entrance_numbers};
 
 use format::{Answer, Entrances, Handed, Later, NextEntrance, Opened, Stepped, Summed, Viewed};
 
@@ -28,7 +28,7 @@ pub fn long(x: u8) -> u64
 }
 
 pub fn tell(a: Answer) -> AnswerNumbers
-    ensures { result ≡ answerNumbers a }
+    ensures { result ≡ answer_numbers a }
 {
     match a {
         Answer::Done {
@@ -61,7 +61,7 @@ pub struct OpenNumbers {
 }
 
 pub fn tell_open(o: Opened) -> OpenNumbers
-    ensures { result ≡ openNumbers (opened_of o) }
+    ensures { result ≡ open_numbers (opened_of o) }
 {
     match o {
         Opened::At { version, place } => OpenNumbers {
@@ -101,7 +101,7 @@ fn plain(what: u64) -> StepNumbers
 }
 
 pub fn tell_step(s: Stepped) -> StepNumbers
-    ensures { result ≡ stepNumbers (steppedOf s) }
+    ensures { result ≡ step_numbers (stepped_of s) }
 {
     match s {
         Stepped::Record { bytes, kept } => StepNumbers {
@@ -161,7 +161,7 @@ fn refused(file: u64, number: u8, place: usize) -> Compared
 }
 
 pub fn tell_later(l: Later, line: Handed) -> Compared
-    ensures { result ≡ comparedOf (laterOf l) line }
+    ensures { result ≡ compared_of (later_of l) line }
 {
     match l {
         Later::First => judged(1, line),
@@ -183,7 +183,7 @@ pub struct ViewNumbers {
 }
 
 pub fn tell_viewed(r: Viewed) -> ViewNumbers
-    ensures { result ≡ viewNumbers (viewedOf r) }
+    ensures { result ≡ view_numbers (viewed_of r) }
 {
     match r {
         Viewed::Legs { legs } => ViewNumbers {
@@ -210,7 +210,7 @@ pub struct SummaryNumbers {
 }
 
 pub fn tell_summed(s: Summed) -> SummaryNumbers
-    ensures { result ≡ summaryNumbers (summedOf s) }
+    ensures { result ≡ summary_numbers (summed_of s) }
 {
     match s {
         Summed::Takes { words } => SummaryNumbers {
@@ -240,7 +240,7 @@ pub struct EntranceNumbers {
 }
 
 fn tell_next(count: u64, next: NextEntrance) -> EntranceNumbers
-    ensures { result ≡ entranceNumbers (holds count next) }
+    ensures { result ≡ entrance_numbers (holds count next) }
 {
     match next {
         NextEntrance::At { record } => EntranceNumbers {
@@ -261,7 +261,7 @@ fn tell_next(count: u64, next: NextEntrance) -> EntranceNumbers
 }
 
 pub fn tell_entrances(e: Entrances) -> EntranceNumbers
-    ensures { result ≡ entranceNumbers (entrancesOf e) }
+    ensures { result ≡ entrance_numbers (entrances_of e) }
 {
     match e {
         Entrances::Hold { count, next } => tell_next(count, next),

@@ -2,10 +2,10 @@
 use Prim.Native.Nat.{ℕ}
 use mathlib.Core.Path.{◌≡◌, ap, ◌∙◌}
 use mathlib.Core.List.{List}
-use Rattle.sha256.specs.Streams.{Stream, updated, streamOf, runningOf, stateStream}
+use Rattle.sha256.specs.Streams.{Stream, updated, stream_of, running_of, state_stream}
 use Rattle.sha256.specs.declared.Running.{Running}
 
-pub update-stores : (s n d d' b : List ℕ) (run next : Running) → run ≡ runningOf s → runningOf n ≡ next → streamOf next d' ≡ updated (streamOf run d) b
-    → stateStream n d' ≡ updated (stateStream s d) b
-update-stores s n d d' b run next e f u =
-    ap (λ (y : Running). streamOf y d') f ∙ (u ∙ ap (λ (y : Running). updated (streamOf y d) b) e)
+pub update_stores : (s n d d' b : List ℕ) (run next : Running) → run ≡ running_of s → running_of n ≡ next → stream_of next d' ≡ updated (stream_of run d) b
+    → state_stream n d' ≡ updated (state_stream s d) b
+update_stores s n d d' b run next e f u =
+    ap (λ (y : Running). stream_of y d') f ∙ (u ∙ ap (λ (y : Running). updated (stream_of y d) b) e)

@@ -3,8 +3,8 @@ use mathlib.Core.Path.{◌≡◌, ap, ◌∙◌}
 use Rattle.format.specs.Answers.{answer_of}
 use Rattle.format.specs.Refusals.{Outcome}
 use Rattle.format.specs.declared.Answer.{Answer}
-use Rattle.abi.specs.Numbers.{outcomeNumbers, answerNumbers}
+use Rattle.abi.specs.Numbers.{outcome_numbers, answer_numbers}
 use Rattle.abi.specs.declared.AnswerNumbers.{AnswerNumbers}
 
-pub tells : (a : Answer) {o : Outcome} {r : AnswerNumbers} → r ≡ answerNumbers a → answer_of a ≡ o → r ≡ outcomeNumbers o
-tells a e f = e ∙ ap outcomeNumbers f
+pub tells : (a : Answer) {o : Outcome} {r : AnswerNumbers} → r ≡ answer_numbers a → answer_of a ≡ o → r ≡ outcome_numbers o
+tells a e f = e ∙ ap outcome_numbers f

@@ -8,8 +8,8 @@ abbrev cell : List (List ℤ) → ℕ → ℕ → ℤ
 cell b row column = get_or (get_or b row []) column (pos 0)
 
 -- number 0 is success, with how many legs took part and the six bounds; any other is the refusal's number, with its place
-abbrev pub reachNumbers : ReachOutcome → ReachNumbers
-reachNumbers (spans b legs) =
+abbrev pub reach_numbers : ReachOutcome → ReachNumbers
+reach_numbers (spans b legs) =
     record {
       number = 0;
       place = 0;
@@ -21,7 +21,7 @@ reachNumbers (spans b legs) =
       greatest_y = cell b 1 1;
       greatest_z = cell b 1 2;
     }
-reachNumbers (unspanned number place) =
+reach_numbers (unspanned number place) =
     record {
       number = number;
       place = place;

@@ -1,29 +1,29 @@
 // The library for C and Rust: each answer as numbers.
 ghost use Rattle.std.specs.Prelude.{◌≡◌, length, replicate};
-ghost use Rattle.format.specs.Header.{openingOf};
-ghost use Rattle.format.specs.Reading.{readOutcome, readBuffer};
-ghost use Rattle.format.specs.Writing.{v8, v7, writeOutcome, writeBuffer};
-ghost use Rattle.format.specs.Conversion.{convertOutcome, convertBuffer};
-ghost use Rattle.format.specs.Times.{compareOf, laterPart};
-ghost use Rattle.format.specs.Editing.{editOutcome, editBuffer};
-ghost use Rattle.format.specs.Stepping.{openStand, step_of, stepBuffer};
-ghost use Rattle.format.specs.Reach.{reachOf};
-ghost use Rattle.format.specs.Viewer.{view_of, viewBuffer, ViewExact};
-ghost use Rattle.format.specs.Summary.{summaryOutcome, summaryWords, entrancesOutcome, updateOutcome, updateWords};
-ghost use Rattle.format.specs.Answers.{openOutcome, reachedOf};
+ghost use Rattle.format.specs.Header.{opening_of};
+ghost use Rattle.format.specs.Reading.{read_outcome, read_buffer};
+ghost use Rattle.format.specs.Writing.{v8, v7, write_outcome, write_buffer};
+ghost use Rattle.format.specs.Conversion.{convert_outcome, convert_buffer};
+ghost use Rattle.format.specs.Times.{compare_of, later_part};
+ghost use Rattle.format.specs.Editing.{edit_outcome, edit_buffer};
+ghost use Rattle.format.specs.Stepping.{open_stand, step_of, step_buffer};
+ghost use Rattle.format.specs.Reach.{reach_of};
+ghost use Rattle.format.specs.Viewer.{view_of, view_buffer, ViewExact};
+ghost use Rattle.format.specs.Summary.{summary_outcome, summary_words, entrances_outcome, update_outcome, update_words};
+ghost use Rattle.format.specs.Answers.{open_outcome, reached_of};
 ghost use Rattle.step.specs.Standing.{Opens};
-ghost use Rattle.step.specs.Going.{nextRecord, nextBuffer};
-ghost use Rattle.held.specs.Numbers.{held_of, stateStand};
-ghost use Rattle.abi.specs.Numbers.{outcomeNumbers, openNumbers, stepNumbers};
-ghost use Rattle.read.specs.Salvage.{salvageOutcome, salvageBuffer, salvagedOf};
-ghost use Rattle.strict.specs.Strict.{strictOutcome, strictBuffer};
-ghost use Rattle.sha256.specs.Digest.{sha256Of};
-ghost use Rattle.sha256.specs.Streams.{updated, finished, begun, runningOf, stateStream};
-ghost use Rattle.abi.specs.Compares.{comparedOf};
-ghost use Rattle.capi.specs.Reaches.{reachNumbers};
-ghost use Rattle.capi.specs.Salvages.{salvageNumbers};
-ghost use Rattle.abi.specs.Views.{origin_of, viewNumbers};
-ghost use Rattle.abi.specs.Summaries.{summaryNumbers, entranceNumbers};
+ghost use Rattle.step.specs.Going.{next_record, next_buffer};
+ghost use Rattle.held.specs.Numbers.{held_of, state_stand};
+ghost use Rattle.abi.specs.Numbers.{outcome_numbers, open_numbers, step_numbers};
+ghost use Rattle.read.specs.Salvage.{salvage_outcome, salvage_buffer, salvaged_of};
+ghost use Rattle.strict.specs.Strict.{strict_outcome, strict_buffer};
+ghost use Rattle.sha256.specs.Digest.{sha256_of};
+ghost use Rattle.sha256.specs.Streams.{updated, finished, begun, running_of, state_stream};
+ghost use Rattle.abi.specs.Compares.{compared_of};
+ghost use Rattle.capi.specs.Reaches.{reach_numbers};
+ghost use Rattle.capi.specs.Salvages.{salvage_numbers};
+ghost use Rattle.abi.specs.Views.{origin_of, view_numbers};
+ghost use Rattle.abi.specs.Summaries.{summary_numbers, entrance_numbers};
 
 use abi::{
     AnswerNumbers, Compared, EntranceNumbers, OpenNumbers, StepNumbers, SummaryNumbers, ViewNumbers,
@@ -52,8 +52,8 @@ pub struct ReachNumbers {
 // Reads a file into the lent sheet.
 #[unsafe(no_mangle)]
 pub extern "C" fn cockledrift_read(file: &[u8], sheet: &mut [u8]) -> AnswerNumbers
-    ensures answer { result ≡ outcomeNumbers (readOutcome file.now (length sheet.old)) }
-    ensures sheet { sheet.new ≡ readBuffer file.now sheet.old }
+    ensures answer { result ≡ outcome_numbers (read_outcome file.now (length sheet.old)) }
+    ensures sheet { sheet.new ≡ read_buffer file.now sheet.old }
 {
     let a = read::read(file, sheet);
     abi::tell(a)
@@ -76,7 +76,7 @@ pub struct SalvageNumbers {
 }
 
 fn tell_saved(s: Salvaged) -> SalvageNumbers
-    ensures { result ≡ salvageNumbers (salvagedOf s) }
+    ensures { result ≡ salvage_numbers (salvaged_of s) }
 {
     match s {
         Salvaged::Saved {
@@ -111,8 +111,8 @@ fn tell_saved(s: Salvaged) -> SalvageNumbers
 // sheet.
 #[unsafe(no_mangle)]
 pub extern "C" fn cockledrift_salvage(file: &[u8], sheet: &mut [u8]) -> SalvageNumbers
-    ensures answer { result ≡ salvageNumbers (salvageOutcome file.now (length sheet.old)) }
-    ensures sheet { sheet.new ≡ salvageBuffer file.now sheet.old }
+    ensures answer { result ≡ salvage_numbers (salvage_outcome file.now (length sheet.old)) }
+    ensures sheet { sheet.new ≡ salvage_buffer file.now sheet.old }
 {
     let s = read::salvage(file, sheet);
     tell_saved(s)
@@ -127,8 +127,8 @@ pub extern "C" fn cockledrift_read_strict(
     room: &mut [u8],
     seed: u64,
 ) -> AnswerNumbers
-    ensures answer { result ≡ outcomeNumbers (strictOutcome file.now (length room.old) (length sheet.old)) }
-    ensures sheet { sheet.new ≡ strictBuffer file.now (length room.old) sheet.old }
+    ensures answer { result ≡ outcome_numbers (strict_outcome file.now (length room.old) (length sheet.old)) }
+    ensures sheet { sheet.new ≡ strict_buffer file.now (length room.old) sheet.old }
     ensures room { room.new ≡ replicate (length room.old) 0 }
 {
     let a = read::read_strict(file, sheet, room, seed);
@@ -138,8 +138,8 @@ pub extern "C" fn cockledrift_read_strict(
 // Writes a sheet as a v8 file into the lent buffer.
 #[unsafe(no_mangle)]
 pub extern "C" fn cockledrift_write(sheet: &[u8], out: &mut [u8]) -> AnswerNumbers
-    ensures answer { result ≡ outcomeNumbers (writeOutcome v8 sheet.now (length out.old)) }
-    ensures file { out.new ≡ writeBuffer v8 sheet.now out.old }
+    ensures answer { result ≡ outcome_numbers (write_outcome v8 sheet.now (length out.old)) }
+    ensures file { out.new ≡ write_buffer v8 sheet.now out.old }
 {
     let a = write::write(sheet, out);
     abi::tell(a)
@@ -148,8 +148,8 @@ pub extern "C" fn cockledrift_write(sheet: &[u8], out: &mut [u8]) -> AnswerNumbe
 // Writes a sheet as a v7 file into the lent buffer.
 #[unsafe(no_mangle)]
 pub extern "C" fn cockledrift_write_v7(sheet: &[u8], out: &mut [u8]) -> AnswerNumbers
-    ensures answer { result ≡ outcomeNumbers (writeOutcome v7 sheet.now (length out.old)) }
-    ensures file { out.new ≡ writeBuffer v7 sheet.now out.old }
+    ensures answer { result ≡ outcome_numbers (write_outcome v7 sheet.now (length out.old)) }
+    ensures file { out.new ≡ write_buffer v7 sheet.now out.old }
 {
     let a = write_v7::write_v7(sheet, out);
     abi::tell(a)
@@ -162,9 +162,9 @@ pub extern "C" fn cockledrift_convert(
     sheet: &mut [u8],
     out: &mut [u8],
 ) -> AnswerNumbers
-    ensures answer { result ≡ outcomeNumbers (convertOutcome file.now (length sheet.old) (length out.old)) }
-    ensures sheet { sheet.new ≡ readBuffer file.now sheet.old }
-    ensures file { out.new ≡ convertBuffer file.now (length sheet.old) out.old }
+    ensures answer { result ≡ outcome_numbers (convert_outcome file.now (length sheet.old) (length out.old)) }
+    ensures sheet { sheet.new ≡ read_buffer file.now sheet.old }
+    ensures file { out.new ≡ convert_buffer file.now (length sheet.old) out.old }
 {
     let converted = convert::convert(file, sheet, out);
     abi::tell(converted)
@@ -174,7 +174,7 @@ pub extern "C" fn cockledrift_convert(
 // place and length are.
 #[unsafe(no_mangle)]
 pub extern "C" fn cockledrift_compare(first: &[u8], second: &[u8]) -> Compared
-    ensures { result ≡ comparedOf (compareOf first.now second.now) (laterPart first.now second.now) }
+    ensures { result ≡ compared_of (compare_of first.now second.now) (later_part first.now second.now) }
 {
     let l = timeline::compare(first, second);
     let line = timeline::later_part(first, second);
@@ -191,8 +191,8 @@ pub extern "C" fn cockledrift_edit(
     new: &[u8],
     out: &mut [u8],
 ) -> AnswerNumbers
-    ensures answer { result ≡ outcomeNumbers (editOutcome file.now first count new.now (length out.old)) }
-    ensures file { out.new ≡ editBuffer file.now first count new.now out.old }
+    ensures answer { result ≡ outcome_numbers (edit_outcome file.now first count new.now (length out.old)) }
+    ensures file { out.new ≡ edit_buffer file.now first count new.now out.old }
 {
     let a = edit::edit(file, first, count, new, out);
     abi::tell(a)
@@ -203,8 +203,8 @@ pub extern "C" fn cockledrift_edit(
 // anything.
 #[unsafe(no_mangle)]
 pub extern "C" fn cockledrift_open(file: &[u8], state: &mut [u64; STAND_NUMBERS]) -> OpenNumbers
-    ensures answer { result ≡ openNumbers (openOutcome (openingOf file.now)) }
-    ensures stand { Opens (held_of state.new) (openStand file.now) }
+    ensures answer { result ≡ open_numbers (open_outcome (opening_of file.now)) }
+    ensures stand { Opens (held_of state.new) (open_stand file.now) }
 {
     let stand = step::open_at(file);
     let numbers = held::numbers_of(stand);
@@ -222,9 +222,9 @@ pub extern "C" fn cockledrift_step(
     label: &mut [u8; LABEL_LIMIT],
     out: &mut [u8],
 ) -> StepNumbers
-    ensures answer { result ≡ stepNumbers (step_of (stateStand state.old label.old) file.now (length out.old)).answer }
-    ensures stand { stateStand state.new label.new ≡ (step_of (stateStand state.old label.old) file.now (length out.old)).stand }
-    ensures record { out.new ≡ stepBuffer (stateStand state.old label.old) file.now out.old }
+    ensures answer { result ≡ step_numbers (step_of (state_stand state.old label.old) file.now (length out.old)).answer }
+    ensures stand { state_stand state.new label.new ≡ (step_of (state_stand state.old label.old) file.now (length out.old)).stand }
+    ensures record { out.new ≡ step_buffer (state_stand state.old label.old) file.now out.old }
 {
     let answer = held::one_step(file, state, label, out);
     abi::tell_step(answer)
@@ -239,9 +239,9 @@ pub extern "C" fn cockledrift_next(
     label: &mut [u8; LABEL_LIMIT],
     out: &mut [u8],
 ) -> StepNumbers
-    ensures answer { result ≡ stepNumbers (nextRecord (stateStand state.old label.old) file.now (length out.old)).answer }
-    ensures stand { stateStand state.new label.new ≡ (nextRecord (stateStand state.old label.old) file.now (length out.old)).stand }
-    ensures record { out.new ≡ nextBuffer (stateStand state.old label.old) file.now out.old }
+    ensures answer { result ≡ step_numbers (next_record (state_stand state.old label.old) file.now (length out.old)).answer }
+    ensures stand { state_stand state.new label.new ≡ (next_record (state_stand state.old label.old) file.now (length out.old)).stand }
+    ensures record { out.new ≡ next_buffer (state_stand state.old label.old) file.now out.old }
 {
     let mut left = file.len();
     loop {
@@ -259,7 +259,7 @@ pub extern "C" fn cockledrift_next(
 // Writes the SHA-256 of bytes to the lent digest.
 #[unsafe(no_mangle)]
 pub extern "C" fn cockledrift_sha256(bytes: &[u8], out: &mut [u8; DIGEST])
-    ensures { out.new ≡ sha256Of bytes.now }
+    ensures { out.new ≡ sha256_of bytes.now }
 {
     sha256::sha256(bytes, out);
 }
@@ -267,7 +267,7 @@ pub extern "C" fn cockledrift_sha256(bytes: &[u8], out: &mut [u8; DIGEST])
 // Starts the SHA-256 of bytes that come in parts. The block may hold anything.
 #[unsafe(no_mangle)]
 pub extern "C" fn cockledrift_sha256_start(state: &mut [u64; RUNNING_NUMBERS])
-    ensures { runningOf state.new ≡ begun }
+    ensures { running_of state.new ≡ begun }
 {
     let run = sha256::start();
     let numbers = sha256::numbers_of(run);
@@ -281,7 +281,7 @@ pub extern "C" fn cockledrift_sha256_update(
     block: &mut [u8; BLOCK],
     bytes: &[u8],
 )
-    ensures { stateStream state.new block.new ≡ updated (stateStream state.old block.old) bytes.now }
+    ensures { state_stream state.new block.new ≡ updated (state_stream state.old block.old) bytes.now }
 {
     let run = sha256::running_of(state);
     let next = sha256::update(run, block, bytes);
@@ -296,14 +296,14 @@ pub extern "C" fn cockledrift_sha256_finish(
     block: &[u8; BLOCK],
     out: &mut [u8; DIGEST],
 )
-    ensures { out.new ≡ finished (stateStream state.now block.now) }
+    ensures { out.new ≡ finished (state_stream state.now block.now) }
 {
     let run = sha256::running_of(state);
     sha256::finish(run, block, out);
 }
 
 fn tell_reach(r: Reached) -> ReachNumbers
-    ensures { result ≡ reachNumbers (reachedOf r) }
+    ensures { result ≡ reach_numbers (reached_of r) }
 {
     match r {
         Reached::Box {
@@ -338,7 +338,7 @@ fn tell_reach(r: Reached) -> ReachNumbers
 // How far the survey of that name reaches in a sheet.
 #[unsafe(no_mangle)]
 pub extern "C" fn cockledrift_reach(sheet: &[u8], name: &[u8]) -> ReachNumbers
-    ensures { result ≡ reachNumbers (reachOf sheet.now name.now) }
+    ensures { result ≡ reach_numbers (reach_of sheet.now name.now) }
 {
     let r = reach::reach(sheet, name);
     tell_reach(r)
@@ -353,8 +353,8 @@ pub extern "C" fn cockledrift_viewer_legs(
     z: i32,
     out: &mut [f32],
 ) -> ViewNumbers
-    ensures answer { result ≡ viewNumbers (view_of sheet.now (origin_of x y z) (length out.old)) }
-    ensures numbers { out.new ≡ viewBuffer sheet.now (origin_of x y z) out.old }
+    ensures answer { result ≡ view_numbers (view_of sheet.now (origin_of x y z) (length out.old)) }
+    ensures numbers { out.new ≡ view_buffer sheet.now (origin_of x y z) out.old }
     ensures exact { ViewExact sheet.now (origin_of x y z) (length out.old) out.new }
 {
     let origin = Origin { x, y, z };
@@ -365,8 +365,8 @@ pub extern "C" fn cockledrift_viewer_legs(
 // Makes the summary of a sheet's entrances in the lent words.
 #[unsafe(no_mangle)]
 pub extern "C" fn cockledrift_summary(sheet: &[u8], words: &mut [u64]) -> SummaryNumbers
-    ensures answer { result ≡ summaryNumbers (summaryOutcome sheet.now (length words.old)) }
-    ensures words { words.new ≡ summaryWords sheet.now words.old }
+    ensures answer { result ≡ summary_numbers (summary_outcome sheet.now (length words.old)) }
+    ensures words { words.new ≡ summary_words sheet.now words.old }
 {
     let s = summary::summarize(sheet, words);
     abi::tell_summed(s)
@@ -381,7 +381,7 @@ pub extern "C" fn cockledrift_entrances(
     from: usize,
     to: usize,
 ) -> EntranceNumbers
-    ensures { result ≡ entranceNumbers (entrancesOutcome words.now records from to) }
+    ensures { result ≡ entrance_numbers (entrances_outcome words.now records from to) }
 {
     let e = summary::entrances(words, records, from, to);
     abi::tell_entrances(e)
@@ -397,8 +397,8 @@ pub extern "C" fn cockledrift_summary_update(
     count: usize,
     new: &[u8],
 ) -> SummaryNumbers
-    ensures answer { result ≡ summaryNumbers (updateOutcome records first count new.now (length words.old)) }
-    ensures words { words.new ≡ updateWords records first count new.now words.old }
+    ensures answer { result ≡ summary_numbers (update_outcome records first count new.now (length words.old)) }
+    ensures words { words.new ≡ update_words records first count new.now words.old }
 {
     let s = summary::update(words, records, first, count, new);
     abi::tell_summed(s)

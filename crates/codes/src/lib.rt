@@ -1,22 +1,22 @@
 // The v8 codes of one record. Each piece is written where it fits, so the same code
 // measures when it is lent no bytes.
 ghost use Rattle.std.specs.Prelude.{◌≡◌, ◌++◌, ℕ, ◌+◌, ◌-◌, ◌≤◌, length, drop};
-ghost use Rattle.format.specs.Bytes.{toLe16, toLe32, same};
-ghost use Rattle.format.specs.Fields.{recordOf, state_of};
-ghost use Rattle.format.specs.Sheet.{pointBytes, dimensionBytes, traverseBytes};
+ghost use Rattle.format.specs.Bytes.{to_le16, to_le32, same};
+ghost use Rattle.format.specs.Fields.{record_of, state_of};
+ghost use Rattle.format.specs.Sheet.{point_bytes, dimension_bytes, traverse_bytes};
 ghost use Rattle.format.specs.WellFormed.{WellFormed, GoodDated, GoodLeg, GoodStation, GoodSection};
 ghost use Rattle.format.specs.State.{leg as legRecord, section as sectionRecord};
-ghost use Rattle.format.specs.Codes.{sameDate, datedCodes, v8Dates, samePoint, standsAt, styleIf, dateIf, moveIf, lineCodes, stationCodes, fitsShort, allShort, sectionCodes, errorCodes, codesLimit, codes};
+ghost use Rattle.format.specs.Codes.{same_date, dated_codes, v8_dates, same_point, stands_at, style_if, date_if, move_if, line_codes, station_codes, fits_short, all_short, section_codes, error_codes, codes_limit, codes};
 ghost use Rattle.format.specs.declared.Dated.TheVariants.{Range};
 ghost use Rattle.part.specs.Lays.{Lays, Puts};
-ghost use Rattle.format.specs.Label.{labelLimit};
+ghost use Rattle.format.specs.Label.{label_limit};
 
 use part::{kept_bytes, put, put_label, shared};
 
 // ---- pieces
 
 pub fn point_bytes(p: format::Point) -> [u8; 12]
-    ensures { result ≡ pointBytes toLe32 p }
+    ensures { result ≡ point_bytes to_le32 p }
 {
     let x = number::le32_bytes(p.x);
     let y = number::le32_bytes(p.y);
@@ -28,7 +28,7 @@ pub fn point_bytes(p: format::Point) -> [u8; 12]
 
 // Dimensions as i16.
 pub fn short_bytes(d: format::Dimensions) -> [u8; 8]
-    ensures { result ≡ dimensionBytes toLe16 d }
+    ensures { result ≡ dimension_bytes to_le16 d }
 {
     let l = number::le16_bytes(d.left);
     let r = number::le16_bytes(d.right);
@@ -39,7 +39,7 @@ pub fn short_bytes(d: format::Dimensions) -> [u8; 8]
 
 // Dimensions as i32.
 pub fn long_bytes(d: format::Dimensions) -> [u8; 16]
-    ensures { result ≡ dimensionBytes toLe32 d }
+    ensures { result ≡ dimension_bytes to_le32 d }
 {
     let l = number::le32_bytes(d.left);
     let r = number::le32_bytes(d.right);
@@ -52,7 +52,7 @@ pub fn long_bytes(d: format::Dimensions) -> [u8; 16]
 }
 
 pub fn traverse_bytes(t: format::Traverse) -> [u8; 20]
-    ensures { result ≡ traverseBytes toLe32 t }
+    ensures { result ≡ traverse_bytes to_le32 t }
 {
     let l = number::le32_bytes(t.legs);
     let n = number::le32_bytes(t.total);
@@ -68,7 +68,7 @@ pub fn traverse_bytes(t: format::Traverse) -> [u8; 20]
 // ---- dates and places
 
 pub fn same_date(a: format::Dated, b: format::Dated) -> bool
-    ensures { result ≡ sameDate a b }
+    ensures { result ≡ same_date a b }
 {
     match a {
         format::Dated::Undated => match b {
@@ -90,7 +90,7 @@ pub fn same_date(a: format::Dated, b: format::Dated) -> bool
 }
 
 fn same_point(p: format::Point, q: format::Point) -> bool
-    ensures { result ≡ samePoint p q }
+    ensures { result ≡ same_point p q }
 {
     if p.x != q.x {
         return false;
@@ -103,7 +103,7 @@ fn same_point(p: format::Point, q: format::Point) -> bool
 
 // Whether the position is set and is this place.
 pub fn stands_at(position: format::Position, p: format::Point) -> bool
-    ensures { result ≡ standsAt position p }
+    ensures { result ≡ stands_at position p }
 {
     match position {
         format::Position::Unset => false,
@@ -115,7 +115,7 @@ pub fn stands_at(position: format::Position, p: format::Point) -> bool
 
 fn put_style(out: &mut [u8], at: usize, old: u8, style: u8) -> usize
     requires { at ≤ 32768 }
-    ensures { Lays out.old out.new at (styleIf old style) 1 result }
+    ensures { Lays out.old out.new at (style_if old style) 1 result }
 {
     if old == style {
         return at;
@@ -133,7 +133,7 @@ fn wide_day(n: u16) -> u32
 
 // v8's codes of dates.
 fn v8_dates() -> format::DateCodes
-    ensures { result ≡ v8Dates }
+    ensures { result ≡ v8_dates }
 {
     format::DateCodes {
         none: 0x10,
@@ -146,7 +146,7 @@ fn v8_dates() -> format::DateCodes
 // A range in one byte for its span where that fits, else two days.
 fn put_range(out: &mut [u8], at: usize, codes: format::DateCodes, first: u16, last: u16) -> usize
     requires { (at ≤ 32768) × (first ≤ last) }
-    ensures { Lays out.old out.new at (datedCodes codes (Range first last)) 5 result }
+    ensures { Lays out.old out.new at (dated_codes codes (Range first last)) 5 result }
 {
     let d = number::le16_bytes(wide_day(first));
     let span = last - first;
@@ -161,7 +161,7 @@ fn put_range(out: &mut [u8], at: usize, codes: format::DateCodes, first: u16, la
 
 fn put_date(out: &mut [u8], at: usize, codes: format::DateCodes, date: format::Dated) -> usize
     requires { (at ≤ 32768) × GoodDated date }
-    ensures { Lays out.old out.new at (datedCodes codes date) 5 result }
+    ensures { Lays out.old out.new at (dated_codes codes date) 5 result }
 {
     match date {
         format::Dated::Undated => {
@@ -186,7 +186,7 @@ pub fn put_date_if(
     date: format::Dated,
 ) -> usize
     requires { (at ≤ 32768) × GoodDated date }
-    ensures { Lays out.old out.new at (dateIf codes old date) 5 result }
+    ensures { Lays out.old out.new at (date_if codes old date) 5 result }
 {
     if same_date(old, date) {
         return at;
@@ -197,7 +197,7 @@ pub fn put_date_if(
 // The same in v8's codes.
 fn put_new_date_if(out: &mut [u8], at: usize, old: format::Dated, date: format::Dated) -> usize
     requires { (at ≤ 32768) × GoodDated date }
-    ensures { Lays out.old out.new at (dateIf v8Dates old date) 5 result }
+    ensures { Lays out.old out.new at (date_if v8_dates old date) 5 result }
 {
     let dates = v8_dates();
     put_date_if(out, at, dates, old, date)
@@ -210,7 +210,7 @@ pub fn put_move_if(
     from: format::Point,
 ) -> usize
     requires { at ≤ 32768 }
-    ensures { Lays out.old out.new at (moveIf position from) 13 result }
+    ensures { Lays out.old out.new at (move_if position from) 13 result }
 {
     if stands_at(position, from) {
         return at;
@@ -230,8 +230,8 @@ fn put_line(
     flags: u8,
     to: format::Point,
 ) -> usize
-    requires { (at ≤ labelLimit) × (length last.now ≤ labelLimit) × (length name.now ≤ labelLimit) × (flags ≤ 7) }
-    ensures { Lays out.old out.new at (lineCodes last.now flags to name.now) 4120 result }
+    requires { (at ≤ label_limit) × (length last.now ≤ label_limit) × (length name.now ≤ label_limit) × (flags ≤ 7) }
+    ensures { Lays out.old out.new at (line_codes last.now flags to name.now) 4120 result }
 {
     let place = point_bytes(to);
     let s = shared(last, name);
@@ -274,8 +274,8 @@ fn put_leg(
     name: &[u8],
     leg: format::Leg,
 ) -> usize
-    requires { (length last.now ≤ labelLimit) × GoodLeg leg name.now }
-    ensures { Lays out.old out.new 0 (codes (state_of setting last.now) (legRecord leg name.now)) codesLimit result }
+    requires { (length last.now ≤ label_limit) × GoodLeg leg name.now }
+    ensures { Lays out.old out.new 0 (codes (state_of setting last.now) (legRecord leg name.now)) codes_limit result }
 {
     let date = leg.date;
     let from = leg.from;
@@ -289,8 +289,8 @@ fn put_leg(
 }
 
 fn put_station(out: &mut [u8], last: &[u8], name: &[u8], station: format::Station) -> usize
-    requires { (length last.now ≤ labelLimit) × GoodStation station name.now }
-    ensures { Lays out.old out.new 0 (stationCodes last.now station name.now) 4120 result }
+    requires { (length last.now ≤ label_limit) × GoodStation station name.now }
+    ensures { Lays out.old out.new 0 (station_codes last.now station name.now) 4120 result }
 {
     let place = station.place;
     let code = [0x80 + station.flags];
@@ -303,7 +303,7 @@ fn put_station(out: &mut [u8], last: &[u8], name: &[u8], station: format::Statio
 
 // Whether an i32's bit pattern is that of an i16.
 fn fits_short(n: u32) -> bool
-    ensures { result ≡ fitsShort n }
+    ensures { result ≡ fits_short n }
 {
     if n <= 32767 {
         return true;
@@ -312,7 +312,7 @@ fn fits_short(n: u32) -> bool
 }
 
 pub fn all_short(d: format::Dimensions) -> bool
-    ensures { result ≡ allShort d }
+    ensures { result ≡ all_short d }
 {
     if !fits_short(d.left) {
         return false;
@@ -328,8 +328,8 @@ pub fn all_short(d: format::Dimensions) -> bool
 
 // The XSECT item itself.
 fn put_xsect(out: &mut [u8], at: usize, last: &[u8], name: &[u8], section: format::Section) -> usize
-    requires { (at ≤ labelLimit) × (length last.now ≤ labelLimit) × GoodSection section name.now }
-    ensures { Lays out.old out.new at (sectionCodes last.now section name.now) 4124 result }
+    requires { (at ≤ label_limit) × (length last.now ≤ label_limit) × GoodSection section name.now }
+    ensures { Lays out.old out.new at (section_codes last.now section name.now) 4124 result }
 {
     let size = section.size;
     let end = section.last;
@@ -355,7 +355,7 @@ fn put_section(
     name: &[u8],
     section: format::Section,
 ) -> usize
-    requires { (length last.now ≤ labelLimit) × GoodSection section name.now }
+    requires { (length last.now ≤ label_limit) × GoodSection section name.now }
     ensures { Lays out.old out.new 0 (codes (state_of setting last.now) (sectionRecord section name.now)) 4129 result }
 {
     let old = setting.date;
@@ -365,7 +365,7 @@ fn put_section(
 }
 
 fn put_error(out: &mut [u8], traverse: format::Traverse) -> usize
-    ensures { Lays out.old out.new 0 (errorCodes traverse) 21 result }
+    ensures { Lays out.old out.new 0 (error_codes traverse) 21 result }
 {
     let code = [0x1f];
     let a = put(out, 0, &code);
@@ -383,8 +383,8 @@ pub fn put_record(
     name: &[u8],
     fields: format::Fields,
 ) -> usize
-    requires { (length last.now ≤ labelLimit) × WellFormed (recordOf fields name.now) }
-    ensures { Puts out.old out.new (codes (state_of setting last.now) (recordOf fields name.now)) codesLimit result }
+    requires { (length last.now ≤ label_limit) × WellFormed (record_of fields name.now) }
+    ensures { Puts out.old out.new (codes (state_of setting last.now) (record_of fields name.now)) codes_limit result }
 {
     match fields {
         format::Fields::Leg {

@@ -1,17 +1,17 @@
 // Conversion: reads a file of any version to a lent sheet, then writes it as v8. A sheet
 // made by reading is never refused with 12 or 13, so 16 and 11 are left (#113).
 ghost use Rattle.std.specs.Prelude.{◌≡◌, length};
-ghost use Rattle.format.specs.Reading.{readBuffer};
-ghost use Rattle.format.specs.Conversion.{convertOutcome, convertBuffer};
+ghost use Rattle.format.specs.Reading.{read_buffer};
+ghost use Rattle.format.specs.Conversion.{convert_outcome, convert_buffer};
 ghost use Rattle.format.specs.Answers.{answer_of};
 
 use format::Answer;
 
 // After a writer's refusal the sheet stands and the file buffer is untouched.
 pub fn convert(file: &[u8], sheet: &mut [u8], out: &mut [u8]) -> Answer
-    ensures answer { answer_of result ≡ convertOutcome file.now (length sheet.old) (length out.old) }
-    ensures sheet { sheet.new ≡ readBuffer file.now sheet.old }
-    ensures file { out.new ≡ convertBuffer file.now (length sheet.old) out.old }
+    ensures answer { answer_of result ≡ convert_outcome file.now (length sheet.old) (length out.old) }
+    ensures sheet { sheet.new ≡ read_buffer file.now sheet.old }
+    ensures file { out.new ≡ convert_buffer file.now (length sheet.old) out.old }
 {
     let a = read::read(file, sheet);
     match a {

@@ -1,17 +1,17 @@
 -- What the converter writes for an input, document 01, "Cases at the edges", the converter. Assumes nothing.
 use Rattle.std.specs.Prelude.{ℕ, List, length, ltb}
 use Rattle.format.specs.Bytes.{pick}
-use Rattle.format.specs.Conversion.{convertedFile, convertOutcome}
-use Rattle.listing.specs.Lines.{inputLimit, tooLongLine, outcomeText}
+use Rattle.format.specs.Conversion.{converted_file, convert_outcome}
+use Rattle.listing.specs.Lines.{input_limit, too_long_line, outcome_text}
 
 -- "a sheet of at most 32,768 bytes and a v8 file of at most 16,384 (11 beyond either)"
-abbrev pub converterSheetLimit : ℕ
-converterSheetLimit = 32768
+abbrev pub converter_sheet_limit : ℕ
+converter_sheet_limit = 32768
 
-abbrev pub converterFileLimit : ℕ
-converterFileLimit = 16384
+abbrev pub converter_file_limit : ℕ
+converter_file_limit = 16384
 
 -- "The converter reads the same way, .. and writes the file to standard output, or the same refusal line"
-unfoldable pub converterText : List ℕ → List ℕ
-converterText input =
-    pick (ltb inputLimit (length input)) tooLongLine (outcomeText (convertOutcome input converterSheetLimit converterFileLimit) (convertedFile input))
+unfoldable pub converter_text : List ℕ → List ℕ
+converter_text input =
+    pick (ltb input_limit (length input)) too_long_line (outcome_text (convert_outcome input converter_sheet_limit converter_file_limit) (converted_file input))

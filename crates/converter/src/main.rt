@@ -1,8 +1,8 @@
 // Converts a 3d file of any version to v8. The file is standard input, at most 16,384
 // bytes; the v8 file, or the refusal's line, goes to standard output.
 ghost use Rattle.std.specs.Prelude.{◌≡◌, ◌+◌, ◌≤◌, length, take};
-ghost use Rattle.listing.specs.Lines.{inputLimit};
-ghost use Rattle.converter.specs.Converter.{converterSheetLimit, converterFileLimit, converterText};
+ghost use Rattle.listing.specs.Lines.{input_limit};
+ghost use Rattle.converter.specs.Converter.{converter_sheet_limit, converter_file_limit, converter_text};
 
 use format::Answer;
 use listing::Printed;
@@ -13,8 +13,8 @@ const INPUT_LIMIT: usize = 16384;
 // The output for the n bytes that were read to the front of input, over the front of
 // out; its length. What input has room for beyond the limit tells that there was more.
 fn output_of(input: &[u8], n: usize, sheet: &mut [u8], out: &mut [u8]) -> usize
-    requires { (length input.now ≡ inputLimit + 1) × (n ≤ length input.now) × (length sheet.old ≡ converterSheetLimit) × (length out.old ≡ converterFileLimit) }
-    ensures { (result ≤ converterFileLimit) × (take result out.new ≡ converterText (take n input.now)) }
+    requires { (length input.now ≡ input_limit + 1) × (n ≤ length input.now) × (length sheet.old ≡ converter_sheet_limit) × (length out.old ≡ converter_file_limit) }
+    ensures { (result ≤ converter_file_limit) × (take result out.new ≡ converter_text (take n input.now)) }
 {
     let file = &input[..n];
     if INPUT_LIMIT < n {

@@ -1,10 +1,10 @@
 -- What a writer counts from record to record, and its answer where there is room enough. Assumes nothing.
 use Rattle.std.specs.Prelude.{ℕ, ◌+◌, ◌≤◌, ◌≡◌, List, length, take, ltb}
 use Rattle.format.specs.Bytes.{pick, over}
-use Rattle.format.specs.Header.{Header, fileLimit}
+use Rattle.format.specs.Header.{Header, file_limit}
 use Rattle.format.specs.State.{State, start, Record}
-use Rattle.format.specs.Refusals.{or_else, Result, Outcome, accepted, outcomeOf}
-use Rattle.format.specs.Writing.{Writer, encodeAll, fileOf, sizeVerdict, filedOutcome, writtenOutcome}
+use Rattle.format.specs.Refusals.{or_else, Result, Outcome, accepted, outcome_of}
+use Rattle.format.specs.Writing.{Writer, encode_all, file_of, size_verdict, filed_outcome, written_outcome}
 use Rattle.format.specs.Answers.{answer_of}
 use Rattle.format.specs.declared.Verdict.{Verdict}
 use Rattle.format.specs.declared.Verdict.TheVariants.{Good, Refusal}
@@ -16,12 +16,12 @@ use Rattle.counts.specs.declared.Tally.{Tally}
 
 -- a sum that stays once it is over what refusal 16 allows
 unfoldable pub bounded : ℕ → ℕ → ℕ
-bounded total n = pick (ltb fileLimit total) total (total + n)
+bounded total n = pick (ltb file_limit total) total (total + n)
 
 -- counts that leave room for one record more: bytes are at most a record over what refusal 16 allows
 pub record Fits (w : Writer) (t : Tally) : Type 0 where
-  pub few_bytes : t.bytes ≤ fileLimit + w.longest
-  pub few-records : t.records ≤ 18446744073709551614
+  pub few_bytes : t.bytes ≤ file_limit + w.longest
+  pub few_records : t.records ≤ 18446744073709551614
 
 -- in a state the codes of r are written into d behind the bytes so far, where they fit, which leaves d'; where they do not, the bytes so
 -- far stay, and the rest is as the codes leave it
@@ -38,14 +38,14 @@ pub record Adds (w : Writer) (st : State) (r : Record) (d d' : List ℕ) (t t' :
 
 -- at the end of so many bytes and records of a version
 abbrev pub settled : ℕ → Verdict → ℕ → ℕ → Outcome
-settled version fault bytes records = outcomeOf (or_else fault (sizeVerdict bytes)) bytes records version bytes
+settled version fault bytes records = outcome_of (or_else fault (size_verdict bytes)) bytes records version bytes
 
-unfoldable pub finalOutcome : Writer → Verdict → ℕ → ℕ → Outcome
-finalOutcome w fault bytes records = settled w.version fault bytes records
+unfoldable pub final_outcome : Writer → Verdict → ℕ → ℕ → Outcome
+final_outcome w fault bytes records = settled w.version fault bytes records
 
 -- the closing codes are written into d behind the bytes so far, where they fit, which leaves d'; where they do not, the bytes so far stay
 pub record Finished (w : Writer) (d d' closing : List ℕ) (t : Tally) (r : Answer) : Type 0 where
-  pub answer : answer_of r ≡ finalOutcome w t.fault (t.bytes + length closing) t.records
+  pub answer : answer_of r ≡ final_outcome w t.fault (t.bytes + length closing) t.records
   pub kept : length d' ≡ length d
   pub stays : t.bytes ≤ length d → take t.bytes d' ≡ take t.bytes d
   pub written : t.bytes + length closing ≤ length d → d' ≡ laid d t.bytes closing
@@ -54,24 +54,24 @@ pub record Finished (w : Writer) (d d' closing : List ℕ) (t : Tally) (r : Answ
 
 -- their codes from the start on, with the closing codes
 abbrev pub encoded : Writer → Result → List ℕ
-encoded w x = encodeAll w start x.records
+encoded w x = encode_all w start x.records
 
-abbrev pub restOutcome : Writer → ℕ → Result → Outcome
-restOutcome w head x = let bytes = head + length (encoded w x) in filedOutcome w x bytes bytes
+abbrev pub rest_outcome : Writer → ℕ → Result → Outcome
+rest_outcome w head x = let bytes = head + length (encoded w x) in filed_outcome w x bytes bytes
 
 -- the answer, and d', which holds the codes from head on where the file is good and d has room for it
 pub record Rest (w : Writer) (x : Result) (head : ℕ) (d d' : List ℕ) (r : Answer) : Type 0 where
-  pub answer : answer_of r ≡ restOutcome w head x
+  pub answer : answer_of r ≡ rest_outcome w head x
   pub kept : length d' ≡ length d
-  pub written : (b n v : ℕ) → restOutcome w head x ≡ accepted b n v → b ≤ length d → d' ≡ laid d head (encoded w x)
+  pub written : (b n v : ℕ) → rest_outcome w head x ≡ accepted b n v → b ≤ length d → d' ≡ laid d head (encoded w x)
 
 -- ---- a header and records whole
 
-abbrev pub fileOutcome : Writer → Header → Result → Outcome
-fileOutcome w h x = writtenOutcome w h x (length (fileOf w h x.records))
+abbrev pub file_outcome : Writer → Header → Result → Outcome
+file_outcome w h x = written_outcome w h x (length (file_of w h x.records))
 
 -- the answer, and d', which holds the file from its front on where it is good and d has room for it
 pub record Passed (w : Writer) (h : Header) (x : Result) (d d' : List ℕ) (r : Answer) : Type 0 where
-  pub answer : answer_of r ≡ fileOutcome w h x
+  pub answer : answer_of r ≡ file_outcome w h x
   pub kept : length d' ≡ length d
-  pub written : (b n v : ℕ) → fileOutcome w h x ≡ accepted b n v → b ≤ length d → d' ≡ over (fileOf w h x.records) d
+  pub written : (b n v : ℕ) → file_outcome w h x ≡ accepted b n v → b ≤ length d → d' ≡ over (file_of w h x.records) d

@@ -1,17 +1,17 @@
 // Writing one record after another: the codes of each go behind those before it, and
 // bytes, records and the first fault are counted.
 ghost use Rattle.std.specs.Prelude.{◌≡◌, [], ◌+◌, ◌≤◌, length};
-ghost use Rattle.format.specs.Fields.{recordOf, state_of};
+ghost use Rattle.format.specs.Fields.{record_of, state_of};
 ghost use Rattle.format.specs.Refusals.{or_else};
 ghost use Rattle.format.specs.WellFormed.{WellFormed};
-ghost use Rattle.format.specs.Header.{fileLimit};
+ghost use Rattle.format.specs.Header.{file_limit};
 ghost use Rattle.format.specs.Bytes.{pick};
-ghost use Rattle.format.specs.Codes.{codesLimit, unsayable, settingAfter, closing};
+ghost use Rattle.format.specs.Codes.{codes_limit, unsayable, setting_after, closing};
 ghost use Rattle.format.specs.Writing.{v8};
 ghost use Rattle.format.specs.declared.Verdict.TheVariants.{Good, Refusal};
 ghost use Rattle.format.specs.Answers.{answer_of};
 ghost use Rattle.counts.specs.Tallies.{bounded, settled, Fits, Adds, Finished};
-ghost use Rattle.format.specs.Label.{labelLimit};
+ghost use Rattle.format.specs.Label.{label_limit};
 
 use format::{Answer, FILE_LIMIT, Fields, Position, Setting, Verdict};
 
@@ -42,7 +42,7 @@ pub fn first_at(fault: Verdict, bad: bool, refusal: u8, number: usize) -> Verdic
 
 // Whether a record has style 5 after another style.
 fn unsaid(old: u8, fields: Fields) -> bool
-    ensures { result ≡ unsayable old (recordOf fields []) }
+    ensures { result ≡ unsayable old (record_of fields []) }
 {
     match fields {
         Fields::Leg {
@@ -73,7 +73,7 @@ fn unsaid(old: u8, fields: Fields) -> bool
 
 // `old` is the style before the record with this number.
 pub fn first_fault(fault: Verdict, old: u8, fields: Fields, number: usize) -> Verdict
-    ensures { result ≡ or_else fault (pick (unsayable old (recordOf fields [])) (Refusal 13 number) Good) }
+    ensures { result ≡ or_else fault (pick (unsayable old (record_of fields [])) (Refusal 13 number) Good) }
 {
     first_at(fault, unsaid(old, fields), 13, number)
 }
@@ -109,8 +109,8 @@ pub fn put_next(
     name: &[u8],
     fields: Fields,
 ) -> Tally
-    requires { Fits v8 tally × (length last.now ≤ labelLimit) × WellFormed (recordOf fields name.now) }
-    ensures { Adds v8 (state_of setting last.now) (recordOf fields name.now) out.old out.new tally result }
+    requires { Fits v8 tally × (length last.now ≤ label_limit) × WellFormed (record_of fields name.now) }
+    ensures { Adds v8 (state_of setting last.now) (record_of fields name.now) out.old out.new tally result }
 {
     let start = within(tally.bytes, out.len());
     let n = codes::put_record(&mut out[start..], setting, last, name, fields);
@@ -145,7 +145,7 @@ pub fn settle(bytes: usize, records: usize, fault: Verdict, version: u8) -> Answ
 // The end of a file: the closing codes, written where they fit into out behind the
 // bytes so far, and the answer, for room enough.
 pub fn finish(out: &mut [u8], style: u8, total: usize, number: usize, fault: Verdict) -> Answer
-    requires { total ≤ fileLimit + codesLimit }
+    requires { total ≤ file_limit + codes_limit }
     ensures { Finished v8 out.old out.new (closing style) (record { bytes = total; records = number; fault = fault }) result }
 {
     let start = within(total, out.len());
@@ -157,7 +157,7 @@ pub fn finish(out: &mut [u8], style: u8, total: usize, number: usize, fault: Ver
 
 // A leg changes style, date and position, a cross-section the date.
 pub fn setting_after(setting: Setting, fields: Fields) -> Setting
-    ensures { result ≡ settingAfter setting (recordOf fields []) }
+    ensures { result ≡ setting_after setting (record_of fields []) }
 {
     match fields {
         Fields::Leg {

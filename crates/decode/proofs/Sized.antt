@@ -6,7 +6,7 @@ use lib.ListN.{length}
 use borrow.Author.Tests.{lt-ltb, le-ltb}
 use Rattle.format.specs.Bytes.{pick}
 use Rattle.format.specs.Items.{Item, Decoded, whole, sized}
-use Rattle.decode.specs.Seen.{itemSeen, Sound, Reads}
+use Rattle.decode.specs.Seen.{item_seen, Sound, Reads}
 use Rattle.decode.specs.declared.Item.{Item as Told}
 use Rattle.decode.specs.declared.Item.TheVariants.{Faulty}
 
@@ -19,6 +19,6 @@ module _ (n : ℕ) (s : List ℕ) (it : Item) where
   unfolding sized pick
   reads_short h = record { same = simp (lt-ltb _ _ h); sound = tt }
 
-  pub reads_whole : {r : Told} → n ≤ length s → itemSeen r s ≡ whole n it → Sound r s → Reads r s (sized n s it)
+  pub reads_whole : {r : Told} → n ≤ length s → item_seen r s ≡ whole n it → Sound r s → Reads r s (sized n s it)
   unfolding sized pick
   reads_whole h e f = record { same = simp (le-ltb _ _ h) e; sound = f }

@@ -1,9 +1,9 @@
 -- What an item that is read says in document 01's terms. Assumes nothing.
 use Rattle.std.specs.Prelude.{ℕ, ◌+◌, ◌≤◌, ◌≡◌, List, length, take, drop}
-use Rattle.format.specs.Items.{Item, Stop as stopItem, Shorten as shortenItem, Style as styleItem, Move as moveItem, NoDate as noDateItem, Date as dateItem, Error as errorItem, Decoded, faulty, whole}
+use Rattle.format.specs.Items.{Item, Stop as stop_item, Shorten as shorten_item, Style as style_item, Move as move_item, NoDate as no_date_item, Date as date_item, Error as error_item, Decoded, faulty, whole}
 use Rattle.format.specs.declared.Cut.{Cut}
 use Rattle.format.specs.declared.Cut.TheVariants.{Empty, ToDot, Trim, Back}
-use Rattle.decode.specs.Bodies.{bodyItem}
+use Rattle.decode.specs.Bodies.{body_item}
 use Rattle.decode.specs.declared.Body.{Body}
 use Rattle.decode.specs.declared.Body.TheVariants.{Only, Section as SectionBody, Station as StationBody, Line as LineBody}
 use Rattle.decode.specs.declared.Item.{Item as Told}
@@ -19,21 +19,21 @@ dropped (Trim n) = 0
 dropped (Back d) = d
 
 -- an item that changes the label by a cut and appends bytes
-abbrev pub relabelItem : Body → Cut → List ℕ → Item
-relabelItem Only cut added = shortenItem cut
-relabelItem (SectionBody last size) cut added = bodyItem (SectionBody last size) (dropped cut) added
-relabelItem (StationBody flags place) cut added = bodyItem (StationBody flags place) (dropped cut) added
-relabelItem (LineBody flags place) cut added = bodyItem (LineBody flags place) (dropped cut) added
+abbrev pub relabel_item : Body → Cut → List ℕ → Item
+relabel_item Only cut added = shorten_item cut
+relabel_item (SectionBody last size) cut added = body_item (SectionBody last size) (dropped cut) added
+relabel_item (StationBody flags place) cut added = body_item (StationBody flags place) (dropped cut) added
+relabel_item (LineBody flags place) cut added = body_item (LineBody flags place) (dropped cut) added
 
-abbrev pub itemSeen : Told → List ℕ → Decoded
-itemSeen (Faulty k) s = faulty k
-itemSeen Stop s = whole 1 stopItem
-itemSeen (Style style) s = whole 1 (styleItem style)
-itemSeen (Move place) s = whole 13 (moveItem place)
-itemSeen NoDate s = whole 1 noDateItem
-itemSeen (Date n first last) s = whole n (dateItem first last)
-itemSeen (ErrorTold traverse) s = whole 21 (errorItem traverse)
-itemSeen (Relabel n cut from count body) s = whole n (relabelItem body cut (take count (drop from s)))
+abbrev pub item_seen : Told → List ℕ → Decoded
+item_seen (Faulty k) s = faulty k
+item_seen Stop s = whole 1 stop_item
+item_seen (Style style) s = whole 1 (style_item style)
+item_seen (Move place) s = whole 13 (move_item place)
+item_seen NoDate s = whole 1 no_date_item
+item_seen (Date n first last) s = whole n (date_item first last)
+item_seen (ErrorTold traverse) s = whole 21 (error_item traverse)
+item_seen (Relabel n cut from count body) s = whole n (relabel_item body cut (take count (drop from s)))
 
 -- what only cuts appends nothing, and what else has a label cuts as a label part does
 abbrev pub Suits : Body → Cut → ℕ → Type 0
@@ -54,5 +54,5 @@ Sound (ErrorTold traverse) s = Unit
 Sound (Relabel n cut from count body) s = (from + count ≤ length s) × Suits body cut count
 
 pub record Reads (r : Told) (s : List ℕ) (x : Decoded) : Type 0 where
-  pub same : itemSeen r s ≡ x
+  pub same : item_seen r s ≡ x
   pub sound : Sound r s

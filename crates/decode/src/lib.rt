@@ -1,9 +1,9 @@
 // One item of a file: what its bytes say, read where they lie.
 ghost use Rattle.std.specs.Prelude.{◌≡◌, ℕ, ◌≤◌, length, drop};
 ghost use Rattle.format.specs.Bytes.{le16, le32, widened};
-ghost use Rattle.format.specs.Items.{point_of, dimensionsOf, traverseOf, moveItem, errorItem, dayItem, spanItem, daysItem, dayOfSeconds, secondsItem, twoSecondsItem, item_of};
+ghost use Rattle.format.specs.Items.{point_of, dimensions_of, traverse_of, move_item, error_item, day_item, span_item, days_item, day_of_seconds, seconds_item, two_seconds_item, item_of};
 ghost use Rattle.length.specs.Parts.{part_at};
-ghost use Rattle.kind.specs.Kinds.{tailOf, makeOf, labelledBy};
+ghost use Rattle.kind.specs.Kinds.{tail_of, make_of, labelled_by};
 ghost use Rattle.decode.specs.Bodies.{Bodies};
 ghost use Rattle.decode.specs.Seen.{Reads};
 
@@ -80,7 +80,7 @@ pub fn get_point(s: &[u8]) -> Point
 // L R U D as i16
 pub fn short_dimensions(s: &[u8]) -> Dimensions
     requires { 8 ≤ length s.now }
-    ensures { result ≡ dimensionsOf 2 (λ u. widened (le16 u)) s.now }
+    ensures { result ≡ dimensions_of 2 (λ u. widened (le16 u)) s.now }
 {
     let left = get_short(s);
     let right = get_short(&s[2..]);
@@ -97,7 +97,7 @@ pub fn short_dimensions(s: &[u8]) -> Dimensions
 // L R U D as i32
 pub fn long_dimensions(s: &[u8]) -> Dimensions
     requires { 16 ≤ length s.now }
-    ensures { result ≡ dimensionsOf 4 le32 s.now }
+    ensures { result ≡ dimensions_of 4 le32 s.now }
 {
     let left = get_le32(s);
     let right = get_le32(&s[4..]);
@@ -114,7 +114,7 @@ pub fn long_dimensions(s: &[u8]) -> Dimensions
 // legs, length, E, H, V
 fn get_traverse(s: &[u8]) -> Traverse
     requires { 20 ≤ length s.now }
-    ensures { result ≡ traverseOf le32 s.now }
+    ensures { result ≡ traverse_of le32 s.now }
 {
     let legs = get_le32(s);
     let total = get_le32(&s[4..]);
@@ -134,8 +134,8 @@ fn get_traverse(s: &[u8]) -> Traverse
 
 // What they say.
 fn body_at(tail: Tail, rest: &[u8]) -> Body
-    requires { tailOf tail ≤ length rest.now }
-    ensures { Bodies result (λ d added. makeOf tail d added rest.now) }
+    requires { tail_of tail ≤ length rest.now }
+    ensures { Bodies result (λ d added. make_of tail d added rest.now) }
 {
     match tail {
         Tail::Short { last } => Body::Section {
@@ -159,7 +159,7 @@ fn body_at(tail: Tail, rest: &[u8]) -> Body
 
 fn labelled_item(version: u8, bare: bool, tail: Tail, s: &[u8]) -> Item
     requires { 1 ≤ length s.now }
-    ensures { Reads result s.now (labelledBy bare tail (part_at version) (drop 1 s.now)) }
+    ensures { Reads result s.now (labelled_by bare tail (part_at version) (drop 1 s.now)) }
 {
     let t = &s[1..];
     let n = tail_size(tail);
@@ -185,7 +185,7 @@ fn labelled_item(version: u8, bare: bool, tail: Tail, s: &[u8]) -> Item
 // ---- items without a label; s begins with the code
 
 fn move_item(s: &[u8]) -> Item
-    ensures { Reads result s.now (moveItem s.now) }
+    ensures { Reads result s.now (move_item s.now) }
 {
     if s.len() < 13 {
         return Item::Faulty { number: 5 };
@@ -195,7 +195,7 @@ fn move_item(s: &[u8]) -> Item
 }
 
 fn error_item(s: &[u8]) -> Item
-    ensures { Reads result s.now (errorItem s.now) }
+    ensures { Reads result s.now (error_item s.now) }
 {
     if s.len() < 21 {
         return Item::Faulty { number: 5 };
@@ -205,7 +205,7 @@ fn error_item(s: &[u8]) -> Item
 }
 
 fn day_item(s: &[u8]) -> Item
-    ensures { Reads result s.now (dayItem s.now) }
+    ensures { Reads result s.now (day_item s.now) }
 {
     if s.len() < 3 {
         return Item::Faulty { number: 5 };
@@ -219,7 +219,7 @@ fn day_item(s: &[u8]) -> Item
 }
 
 fn span_item(s: &[u8]) -> Item
-    ensures { Reads result s.now (spanItem s.now) }
+    ensures { Reads result s.now (span_item s.now) }
 {
     if s.len() < 4 {
         return Item::Faulty { number: 5 };
@@ -234,7 +234,7 @@ fn span_item(s: &[u8]) -> Item
 }
 
 fn days_item(s: &[u8]) -> Item
-    ensures { Reads result s.now (daysItem s.now) }
+    ensures { Reads result s.now (days_item s.now) }
 {
     if s.len() < 5 {
         return Item::Faulty { number: 5 };
@@ -249,13 +249,13 @@ fn days_item(s: &[u8]) -> Item
 }
 
 fn day_of_seconds(n: u32) -> u32
-    ensures { result ≡ dayOfSeconds n }
+    ensures { result ≡ day_of_seconds n }
 {
     n / 86400 + 25567
 }
 
 fn seconds_item(s: &[u8]) -> Item
-    ensures { Reads result s.now (secondsItem s.now) }
+    ensures { Reads result s.now (seconds_item s.now) }
 {
     if s.len() < 5 {
         return Item::Faulty { number: 5 };
@@ -269,7 +269,7 @@ fn seconds_item(s: &[u8]) -> Item
 }
 
 fn two_seconds_item(s: &[u8]) -> Item
-    ensures { Reads result s.now (twoSecondsItem s.now) }
+    ensures { Reads result s.now (two_seconds_item s.now) }
 {
     if s.len() < 9 {
         return Item::Faulty { number: 5 };

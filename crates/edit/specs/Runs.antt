@@ -1,15 +1,15 @@
 -- An edit of an old file, from its parts to the answer. Assumes nothing.
 use Rattle.std.specs.Prelude.{ℕ, ◌≤◌, ◌≡◌, List, length, take}
 use Rattle.format.specs.Header.{Header}
-use Rattle.format.specs.Sheet.{sheetVersion, recordsOf}
-use Rattle.format.specs.Refusals.{Result, bufferOf}
+use Rattle.format.specs.Sheet.{sheet_version, records_of}
+use Rattle.format.specs.Refusals.{Result, buffer_of}
 use Rattle.format.specs.declared.Verdict.{Verdict}
 use Rattle.format.specs.declared.Verdict.TheVariants.{Good, Refusal}
-use Rattle.format.specs.Writing.{v8, fileOf, writtenOutcome}
-use Rattle.format.specs.Editing.{edited, editOutcome, editBuffer}
+use Rattle.format.specs.Writing.{v8, file_of, written_outcome}
+use Rattle.format.specs.Editing.{edited, edit_outcome, edit_buffer}
 use Rattle.format.specs.Answers.{answer_of}
 use Rattle.format.specs.declared.Answer.{Answer}
-use Rattle.judge.specs.Judging.{OldOpens, oldResult, Cuts}
+use Rattle.judge.specs.Judging.{OldOpens, old_result, Cuts}
 use Rattle.judge.specs.declared.Run.{Run}
 use Rattle.edit.specs.Pens.{PutsNew, WentOn}
 use Rattle.edit.specs.declared.Pen.{Pen}
@@ -19,14 +19,14 @@ use Rattle.edit.specs.declared.Flaw.{Flaw}
 use Rattle.edit.specs.declared.Flaw.TheVariants.{Unflawed, At}
 
 -- 12, with the record's number within the replacement as its place
-abbrev pub flawVerdict : Flaw → Verdict
-flawVerdict Unflawed = Good
-flawVerdict (At n) = Refusal 12 n
+abbrev pub flaw_verdict : Flaw → Verdict
+flaw_verdict Unflawed = Good
+flaw_verdict (At n) = Refusal 12 n
 
 -- the records of the edited sheet, of a replacement with nothing wrong in it
-abbrev pub editedAt : List ℕ → Splice → List ℕ → Result
-editedAt file cut new =
-    record { records = edited (oldResult file cut.old).records cut.run.first cut.run.count (recordsOf sheetVersion new).records; verdict = Good }
+abbrev pub edited_at : List ℕ → Splice → List ℕ → Result
+edited_at file cut new =
+    record { records = edited (old_result file cut.old).records cut.run.first cut.run.count (records_of sheet_version new).records; verdict = Good }
 
 -- a house-written file with a run of its records; the labels before the run and behind it are in b and b'
 pub record CutAt (file : List ℕ) (cut : Splice) (b b' : List ℕ) : Type 0 where
@@ -36,15 +36,15 @@ pub record CutAt (file : List ℕ) (cut : Splice) (b b' : List ℕ) : Type 0 whe
 -- and a replacement that is well-formed
 pub record Spliced (file : List ℕ) (cut : Splice) (new b b' : List ℕ) : Type 0 where
   pub at : CutAt file cut b b'
-  pub well-formed : (recordsOf sheetVersion new).verdict ≡ Good
+  pub well_formed : (records_of sheet_version new).verdict ≡ Good
 
 -- where there is room for them, the old bytes before the run stand at the front of d
 abbrev pub FrontStands : List ℕ → ℕ → List ℕ → Type 0
 FrontStands file at d = at ≤ length d → take at d ≡ take at file
 
 -- the pen before the run, behind the old bytes
-abbrev pub penAt : Splice → Pen
-penAt cut =
+abbrev pub pen_at : Splice → Pen
+pen_at cut =
     record {
       count = record { bytes = cut.front.at; records = cut.run.first; fault = Good };
       setting = cut.front.setting;
@@ -57,15 +57,15 @@ pub record Changed (file : List ℕ) (cut : Splice) (new l b d : List ℕ) (w : 
   pub pen : Pen
   pub label : List ℕ
   pub between : List ℕ
-  pub puts : PutsNew new (penAt cut) l d pen label between
+  pub puts : PutsNew new (pen_at cut) l d pen label between
   pub went : WentOn file (record { place = cut.back; pen = pen; left = cut.rest }) b label between w b' l' d'
 
 -- a header and records are written into d, which leaves d'
 pub record Writes (h : Header) (x : Result) (d d' : List ℕ) (r : Answer) : Type 0 where
-  pub answer : answer_of r ≡ writtenOutcome v8 h x (length d)
-  pub buffer : d' ≡ bufferOf (writtenOutcome v8 h x (length d)) (fileOf v8 h x.records) d
+  pub answer : answer_of r ≡ written_outcome v8 h x (length d)
+  pub buffer : d' ≡ buffer_of (written_outcome v8 h x (length d)) (file_of v8 h x.records) d
 
 -- the answer and the buffer are those of the edit
 pub record Edits (file : List ℕ) (run : Run) (new d d' : List ℕ) (r : Answer) : Type 0 where
-  pub answer : answer_of r ≡ editOutcome file run.first run.count new (length d)
-  pub buffer : d' ≡ editBuffer file run.first run.count new d
+  pub answer : answer_of r ≡ edit_outcome file run.first run.count new (length d)
+  pub buffer : d' ≡ edit_buffer file run.first run.count new d

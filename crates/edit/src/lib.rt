@@ -4,21 +4,21 @@
 // there on the old bytes.
 ghost use Rattle.std.specs.Prelude.{◌≡◌, ◌+◌, ◌≤◌, length, take, drop};
 ghost use Rattle.format.specs.Answers.{answer_of};
-ghost use Rattle.format.specs.Codes.{codesLimit, closing};
-ghost use Rattle.format.specs.Editing.{editOutcome, editBuffer};
-ghost use Rattle.format.specs.Fields.{recordOf, state_of};
-ghost use Rattle.format.specs.Header.{fileLimit};
-ghost use Rattle.format.specs.Label.{labelLimit};
-ghost use Rattle.format.specs.Sheet.{sheetVersion, recordsOf};
+ghost use Rattle.format.specs.Codes.{codes_limit, closing};
+ghost use Rattle.format.specs.Editing.{edit_outcome, edit_buffer};
+ghost use Rattle.format.specs.Fields.{record_of, state_of};
+ghost use Rattle.format.specs.Header.{file_limit};
+ghost use Rattle.format.specs.Label.{label_limit};
+ghost use Rattle.format.specs.Sheet.{sheet_version, records_of};
 ghost use Rattle.format.specs.WellFormed.{WellFormed};
 ghost use Rattle.format.specs.Writing.{v8};
 ghost use Rattle.format.specs.declared.Verdict.TheVariants.{Good};
-ghost use Rattle.scan.specs.Places.{stateAt};
-ghost use Rattle.judge.specs.Judging.{oldHeader, OldOpens};
+ghost use Rattle.scan.specs.Places.{state_at};
+ghost use Rattle.judge.specs.Judging.{old_header, OldOpens};
 ghost use Rattle.counts.specs.Tallies.{Fits, Adds, Finished, Rest, Passed};
-ghost use Rattle.wire.specs.Laid.{laidIf};
-ghost use Rattle.edit.specs.Pens.{penState, samePosition, sameState, PenFits, Emits, PutsNew, Behind, WentOn};
-ghost use Rattle.edit.specs.Runs.{editedAt, flawVerdict, CutAt, Spliced, FrontStands, Changed, Writes, Edits};
+ghost use Rattle.wire.specs.Laid.{laid_if};
+ghost use Rattle.edit.specs.Pens.{pen_state, same_position, same_state, PenFits, Emits, PutsNew, Behind, WentOn};
+ghost use Rattle.edit.specs.Runs.{edited_at, flaw_verdict, CutAt, Spliced, FrontStands, Changed, Writes, Edits};
 
 use counts::Tally;
 use format::{Answer, Fields, LABEL_LIMIT, Position, SHEET_VERSION, Setting, Verdict};
@@ -72,8 +72,8 @@ fn put_after(
     name: &[u8],
     fields: Fields,
 ) -> Tally
-    requires { PenFits pen last.now × Fits v8 pen.count × WellFormed (recordOf fields name.now) }
-    ensures { Adds v8 (penState pen last.now) (recordOf fields name.now) out.old out.new pen.count result }
+    requires { PenFits pen last.now × Fits v8 pen.count × WellFormed (record_of fields name.now) }
+    ensures { Adds v8 (pen_state pen last.now) (record_of fields name.now) out.old out.new pen.count result }
 {
     let before = &last[..];
     let len = pen.len;
@@ -90,8 +90,8 @@ fn put_one(
     name: &[u8],
     fields: Fields,
 ) -> Pen
-    requires { PenFits pen last.old × Fits v8 pen.count × WellFormed (recordOf fields name.now) × (length name.now ≤ labelLimit) }
-    ensures { Emits pen last.old (recordOf fields name.now) out.old out.new result last.new }
+    requires { PenFits pen last.old × Fits v8 pen.count × WellFormed (record_of fields name.now) × (length name.now ≤ label_limit) }
+    ensures { Emits pen last.old (record_of fields name.now) out.old out.new result last.new }
 {
     let old = pen.len;
     let setting = pen.setting;
@@ -108,7 +108,7 @@ fn put_one(
 
 // Whether both positions are unset, or are one place.
 fn same_position(a: Position, b: Position) -> bool
-    ensures { result ≡ samePosition a b }
+    ensures { result ≡ same_position a b }
 {
     match a {
         Position::Unset => match b {
@@ -122,8 +122,8 @@ fn same_position(a: Position, b: Position) -> bool
 // Whether reading the old file and writing the new one are in the same state: style,
 // date, position and label are all that a record finds.
 fn level(place: Place, name: &[u8; LABEL_LIMIT], pen: Pen, last: &[u8; LABEL_LIMIT]) -> bool
-    requires { (place.len ≤ labelLimit) × (length name.now ≡ labelLimit) × PenFits pen last.now }
-    ensures { result ≡ sameState (stateAt place name.now) (penState pen last.now) }
+    requires { (place.len ≤ label_limit) × (length name.now ≡ label_limit) × PenFits pen last.now }
+    ensures { result ≡ same_state (state_at place name.now) (pen_state pen last.now) }
 {
     let read = place.setting;
     let written = pen.setting;
@@ -184,7 +184,7 @@ fn put_behind(
 
 // The records of a replacement that is well-formed.
 fn put_new(new: &[u8], out: &mut [u8], pen: Pen, last: &mut [u8; LABEL_LIMIT]) -> Pen
-    requires { PenFits pen last.old × (pen.count.bytes ≤ fileLimit + codesLimit) × (pen.count.records ≤ fileLimit) × ((recordsOf sheetVersion new.now).verdict ≡ Good) }
+    requires { PenFits pen last.old × (pen.count.bytes ≤ file_limit + codes_limit) × (pen.count.records ≤ file_limit) × ((records_of sheet_version new.now).verdict ≡ Good) }
     ensures { PutsNew new.now pen last.old out.old result last.new out.new }
 {
     let mut at: usize = 0;
@@ -204,7 +204,7 @@ fn put_new(new: &[u8], out: &mut [u8], pen: Pen, last: &mut [u8; LABEL_LIMIT]) -
 
 // The first bad record of a replacement.
 fn first_flaw(new: &[u8]) -> Flaw
-    ensures { flawVerdict result ≡ (recordsOf sheetVersion new.now).verdict }
+    ensures { flaw_verdict result ≡ (records_of sheet_version new.now).verdict }
 {
     let mut at: usize = 0;
     let mut number: usize = 0;
@@ -228,8 +228,8 @@ fn first_flaw(new: &[u8]) -> Flaw
 
 // Bytes laid into out from `at` on, where they fit.
 fn lay(out: &mut [u8], at: usize, s: &[u8])
-    requires { (at ≤ fileLimit + codesLimit) × (length s.now ≤ fileLimit) }
-    ensures { out.new ≡ laidIf out.old at s.now }
+    requires { (at ≤ file_limit + codes_limit) × (length s.now ≤ file_limit) }
+    ensures { out.new ≡ laid_if out.old at s.now }
 {
     let end = at + s.len();
     if out.len() < end {
@@ -241,7 +241,7 @@ fn lay(out: &mut [u8], at: usize, s: &[u8])
 // The end of the edited file: the old bytes from `at` on, which hold `left` records, and
 // the answer, for room enough.
 fn put_tail(file: &[u8], at: usize, out: &mut [u8], count: Tally, left: usize) -> Answer
-    requires { (at ≤ length file.now) × (length file.now ≤ fileLimit) × (count.bytes ≤ fileLimit + codesLimit) × (count.records + left ≤ 18446744073709551615) }
+    requires { (at ≤ length file.now) × (length file.now ≤ file_limit) × (count.bytes ≤ file_limit + codes_limit) × (count.records + left ≤ 18446744073709551615) }
     ensures { Finished v8 out.old out.new (drop at file.now) (record { bytes = count.bytes; records = count.records + left; fault = count.fault }) result }
 {
     let total = count.bytes;
@@ -311,7 +311,7 @@ fn put_edited(
     behind: Label,
 ) -> Answer
     requires { Spliced file.now cut new.now before.bytes behind.bytes × FrontStands file.now cut.front.at out.old }
-    ensures { Rest v8 (editedAt file.now cut new.now) cut.old.place out.old out.new result }
+    ensures { Rest v8 (edited_at file.now cut new.now) cut.old.place out.old out.new result }
 {
     let mut last = before;
     let mut name = behind;
@@ -337,7 +337,7 @@ fn pass(
     behind: Label,
 ) -> Answer
     requires { Spliced file.now cut new.now before.bytes behind.bytes }
-    ensures { Passed v8 (oldHeader file.now cut.old) (editedAt file.now cut new.now) out.old out.new result }
+    ensures { Passed v8 (old_header file.now cut.old) (edited_at file.now cut new.now) out.old out.new result }
 {
     let front = cut.front;
     let end = front.at;
@@ -355,7 +355,7 @@ fn write_edited(
     behind: Label,
 ) -> Answer
     requires { Spliced file.now cut new.now before.bytes behind.bytes }
-    ensures { Writes (oldHeader file.now cut.old) (editedAt file.now cut new.now) out.old out.new result }
+    ensures { Writes (old_header file.now cut.old) (edited_at file.now cut new.now) out.old out.new result }
 {
     let answer = pass(file, cut, new, &mut out[..0], before, behind);
     match answer {
@@ -438,8 +438,8 @@ fn edit_opened(file: &[u8], old: Old, run: Run, new: &[u8], out: &mut [u8]) -> A
 // Replaces `count` records of a house-written file, from `first` on, by those of `new`,
 // and writes the edited file to the front of out.
 pub fn edit(file: &[u8], first: usize, count: usize, new: &[u8], out: &mut [u8]) -> Answer
-    ensures answer { answer_of result ≡ editOutcome file.now first count new.now (length out.old) }
-    ensures file { out.new ≡ editBuffer file.now first count new.now out.old }
+    ensures answer { answer_of result ≡ edit_outcome file.now first count new.now (length out.old) }
+    ensures file { out.new ≡ edit_buffer file.now first count new.now out.old }
 {
     let head = header::opening(file);
     match head {

@@ -10,81 +10,81 @@ use lib.ListN.{length, take, drop}
 use lib.Seq.{take_at}
 use lib.Dec.{ltb}
 use Rattle.format.specs.Bytes.{pick, over, Bytes}
-use Rattle.format.specs.Header.{Header, Opening, shut, opened, openingOf, fileLimit}
+use Rattle.format.specs.Header.{Header, Opening, shut, opened, opening_of, file_limit}
 use Rattle.format.specs.State.{State, start, Record, Next, bad, end, on, made}
-use Rattle.format.specs.Sheet.{sheetVersion, sheetOf, sheetResult, frontHeader}
-use Rattle.format.specs.Refusals.{readerNumber, Result, stop, Outcome, accepted, refused, outcomeOf, bufferOf}
+use Rattle.format.specs.Sheet.{sheet_version, sheet_of, sheet_result, front_header}
+use Rattle.format.specs.Refusals.{reader_number, Result, stop, Outcome, accepted, refused, outcome_of, buffer_of}
 use Rattle.format.specs.declared.Verdict.{Verdict}
 use Rattle.format.specs.declared.Verdict.TheVariants.{Good, Refusal}
-use Rattle.format.specs.Reading.{next, ended, afterItem, read_step, run, items_of, readFrom, readOutcome, readBuffer}
-use Rattle.format.specs.Writing.{v8, fileOf, sizeVerdict, filedOutcome, writtenOutcome, writeOutcome, writeBuffer}
-use Rattle.format.specs.Editing.{editOutcome}
-use Rattle.format.specs.Conversion.{convertedFile, convertedOutcome, convertOutcome, convertBuffer}
-use Rattle.format.proofs.Basics.{pick-case}
-use Rattle.format.proofs.IterateLaws.{iter-ind}
-use Rattle.format.proofs.HeaderLaws.{FitsOpening, fits-opening, opening-fits}
+use Rattle.format.specs.Reading.{next, ended, after_item, read_step, run, items_of, read_from, read_outcome, read_buffer}
+use Rattle.format.specs.Writing.{v8, file_of, size_verdict, filed_outcome, written_outcome, write_outcome, write_buffer}
+use Rattle.format.specs.Editing.{edit_outcome}
+use Rattle.format.specs.Conversion.{converted_file, converted_outcome, convert_outcome, convert_buffer}
+use Rattle.format.proofs.Basics.{pick_case}
+use Rattle.format.proofs.IterateLaws.{iter_ind}
+use Rattle.format.proofs.HeaderLaws.{FitsOpening, fits_opening, opening_fits}
 use Rattle.format.proofs.RefusalLaws.{never}
-use Rattle.format.proofs.ReadingLaws.{SizedNext, next-sized}
-use Rattle.format.proofs.SheetLaws.{sheet-records}
-use Rattle.format.proofs.GoodRecords.{items-formed, items-sayable}
-use Rattle.format.proofs.RoundTrip.{Accepted, accepted-means, accepted-fits, writes}
-use Rattle.format.proofs.OurFiles.{Ours, file-ours, never-14}
+use Rattle.format.proofs.ReadingLaws.{SizedNext, next_sized}
+use Rattle.format.proofs.SheetLaws.{sheet_records}
+use Rattle.format.proofs.GoodRecords.{items_formed, items_sayable}
+use Rattle.format.proofs.RoundTrip.{Accepted, accepted_means, accepted_fits, writes}
+use Rattle.format.proofs.OurFiles.{Ours, file_ours, never_14}
 
 -- ---- the numbers that reading refuses with
 
 abbrev ReadersVerdict : Verdict → Type 0
 ReadersVerdict Good = Unit
-ReadersVerdict (Refusal n p) = readerNumber n ≡ true
+ReadersVerdict (Refusal n p) = reader_number n ≡ true
 
-after-numbers : (at m : ℕ) (s : List ℕ) (x : Next) (go : ℕ → State → Result) → SizedNext m x → ((k : ℕ) (st : State) → ReadersVerdict (go k st).verdict)
-    → ReadersVerdict (afterItem x at s go).verdict
+after_numbers : (at m : ℕ) (s : List ℕ) (x : Next) (go : ℕ → State → Result) → SizedNext m x → ((k : ℕ) (st : State) → ReadersVerdict (go k st).verdict)
+    → ReadersVerdict (after_item x at s go).verdict
 unfolding ended
-after-numbers at m s (bad k) go z f = z
-after-numbers at m s end go z f = pick-case ReadersVerdict _ _ _ (λ e. refl) λ e. tt
-after-numbers at m s (on n st) go z f = f n st
-after-numbers at m s (made n r st) go z f = f n st
+after_numbers at m s (bad k) go z f = z
+after_numbers at m s end go z f = pick_case ReadersVerdict _ _ _ (λ e. refl) λ e. tt
+after_numbers at m s (on n st) go z f = f n st
+after_numbers at m s (made n r st) go z f = f n st
 
-items-numbers : (version place : ℕ) (file : List ℕ) → ReadersVerdict (items_of version place file).verdict
+items_numbers : (version place : ℕ) (file : List ℕ) → ReadersVerdict (items_of version place file).verdict
 unfolding items_of run read_step
-items-numbers version place file =
-    iter-ind (read_step version) (λ p. stop (Refusal 5 p)) (λ s st x. ReadersVerdict x.verdict) (λ p s st. refl)
-    (λ p s st go f. after-numbers p (length s) s (next version s st) go (next-sized version s st) f) place (drop place file) start
+items_numbers version place file =
+    iter_ind (read_step version) (λ p. stop (Refusal 5 p)) (λ s st x. ReadersVerdict x.verdict) (λ p s st. refl)
+    (λ p s st go f. after_numbers p (length s) s (next version s st) go (next_sized version s st) f) place (drop place file) start
 
-outcome-numbers : (v : Verdict) (bytes records version room n p : ℕ) → ReadersVerdict v → outcomeOf v bytes records version room ≡ refused n p
-    → readerNumber n ≡ true
+outcome_numbers_lem : (v : Verdict) (bytes records version room n p : ℕ) → ReadersVerdict v → outcome_of v bytes records version room ≡ refused n p
+    → reader_number n ≡ true
 unfolding pick
-outcome-numbers (Refusal k q) bytes records version room n p r e = let z : k ≡ n = cc in rw z at r
-outcome-numbers Good bytes records version room n p r e = go (ltb room bytes) e
+outcome_numbers_lem (Refusal k q) bytes records version room n p r e = let z : k ≡ n = cc in rw z at r
+outcome_numbers_lem Good bytes records version room n p r e = go (ltb room bytes) e
   where
-    go : (t : Bool) → pick t (refused 11 bytes) (accepted bytes records version) ≡ refused n p → readerNumber n ≡ true
+    go : (t : Bool) → pick t (refused 11 bytes) (accepted bytes records version) ≡ refused n p → reader_number n ≡ true
     go true e = let z : 11 ≡ n = cc in rw (← z)
     go false e = absurd (never n p bytes records version (sym e))
 
-pub read-numbers : (file : List ℕ) (room n p : ℕ) → readOutcome file room ≡ refused n p → readerNumber n ≡ true
-unfolding readOutcome
-read-numbers file room n p = go (openingOf file) (fits-opening file)
+pub read_numbers : (file : List ℕ) (room n p : ℕ) → read_outcome file room ≡ refused n p → reader_number n ≡ true
+unfolding read_outcome
+read_numbers file room n p = go (opening_of file) (fits_opening file)
   where
-    go : (o : Opening) → FitsOpening file o → readFrom o file room ≡ refused n p → readerNumber n ≡ true
+    go : (o : Opening) → FitsOpening file o → read_from o file room ≡ refused n p → reader_number n ≡ true
     go (shut k q) f e = let z : k ≡ n = cc in rw z at f
     go (opened v q h) f e =
         let x = items_of v q file in
-        outcome-numbers x.verdict (length (sheetOf sheetVersion h x.records)) (length x.records) v room n p (items-numbers v q file) e
+        outcome_numbers_lem x.verdict (length (sheet_of sheet_version h x.records)) (length x.records) v room n p (items_numbers v q file) e
 
 -- ---- a new file of so many bytes
 
 -- what is answered of it once nothing but its size and the room can be wrong
-abbrev newOutcome : ℕ → ℕ → ℕ → Outcome
-newOutcome bytes count room = outcomeOf (sizeVerdict bytes) bytes count 8 room
+abbrev new_outcome : ℕ → ℕ → ℕ → Outcome
+new_outcome bytes count room = outcome_of (size_verdict bytes) bytes count 8 room
 
 -- 16, or 11 with the length needed
 abbrev pub Size : ℕ → ℕ → ℕ → Type 0
 Size bytes n p = ((n ≡ 16) × (p ≡ 0)) ⊎ ((n ≡ 11) × (p ≡ bytes))
 
-new-refused : (bytes count room n p : ℕ) → newOutcome bytes count room ≡ refused n p → Size bytes n p
-unfolding sizeVerdict pick
-new-refused bytes count room n p e = go (ltb fileLimit bytes) (ltb room bytes) refl e
+new_refused : (bytes count room n p : ℕ) → new_outcome bytes count room ≡ refused n p → Size bytes n p
+unfolding size_verdict pick
+new_refused bytes count room n p e = go (ltb file_limit bytes) (ltb room bytes) refl e
   where
-    go : (s t : Bool) → ltb room bytes ≡ t → outcomeOf (pick s (Refusal 16 0) Good) bytes count 8 room ≡ refused n p → Size bytes n p
+    go : (s t : Bool) → ltb room bytes ≡ t → outcome_of (pick s (Refusal 16 0) Good) bytes count 8 room ≡ refused n p → Size bytes n p
     go true t q e = inl (cc, cc)
     go false true q e = let f : refused 11 bytes ≡ refused n p = rw q at e in inr (cc, cc)
     go false false q e = absurd (never n p bytes count 8 (let f : accepted bytes count 8 ≡ refused n p = rw q at e in sym f))
@@ -96,144 +96,144 @@ other n p bytes f g (inr e) = g e.0
 
 -- ---- an accepted reading, written
 
-module _ (file lent : List ℕ) (bytes : Bytes file) (size count version : ℕ) (accept : readOutcome file (length lent) ≡ accepted size count version) where
+module _ (file lent : List ℕ) (bytes : Bytes file) (size count version : ℕ) (accept : read_outcome file (length lent) ≡ accepted size count version) where
   abbrev gave : List ℕ
-  gave = take size (readBuffer file lent)
+  gave = take size (read_buffer file lent)
 
   abbrev new : List ℕ
-  new = convertedFile file
+  new = converted_file file
 
   -- the file opened
-  module _ (v p : ℕ) (h : Header) (opens : openingOf file ≡ opened v p h) where
+  module _ (v p : ℕ) (h : Header) (opens : opening_of file ≡ opened v p h) where
     abbrev rs : List Record
     rs = (items_of v p file).records
 
     abbrev sheet : List ℕ
-    sheet = sheetOf sheetVersion h rs
+    sheet = sheet_of sheet_version h rs
 
-    accepted-read : Accepted (items_of v p file).verdict (length sheet) (length rs) v (length lent) size count version
-    unfolding readOutcome
-    accepted-read = accepted-means (items_of v p file).verdict (length sheet) (length rs) v (length lent) size count version (rw opens at accept)
+    accepted_read : Accepted (items_of v p file).verdict (length sheet) (length rs) v (length lent) size count version
+    unfolding read_outcome
+    accepted_read = accepted_means (items_of v p file).verdict (length sheet) (length rs) v (length lent) size count version (rw opens at accept)
 
-    gave-is : gave ≡ sheet
-    unfolding readBuffer over
-    gave-is = rw (accept, opens) (take_at sheet (drop (length sheet) lent) size (sym accepted-read.bytes-are))
+    gave_is : gave ≡ sheet
+    unfolding read_buffer over
+    gave_is = rw (accept, opens) (take_at sheet (drop (length sheet) lent) size (sym accepted_read.bytes_are))
 
-    back : (sheetResult sheet ≡ record { records = rs; verdict = Good }) × (frontHeader sheet ≡ h)
-    back = sheet-records h (opening-fits file opens).header rs (items-formed v p file bytes)
+    back : (sheet_result sheet ≡ record { records = rs; verdict = Good }) × (front_header sheet ≡ h)
+    back = sheet_records h (opening_fits file opens).header rs (items_formed v p file bytes)
 
-    new_is : new ≡ fileOf v8 h rs
-    unfolding convertedFile
+    new_is : new ≡ file_of v8 h rs
+    unfolding converted_file
     new_is = rw opens
 
-    answer_at : (room : ℕ) → writeOutcome v8 gave room ≡ newOutcome (length new) count room
-    unfolding writeOutcome writtenOutcome filedOutcome
-    answer_at room = rw (gave-is, back.0, back.1, items-sayable v p file bytes, new_is, accepted-read.records-are)
+    answer_at : (room : ℕ) → write_outcome v8 gave room ≡ new_outcome (length new) count room
+    unfolding write_outcome written_outcome filed_outcome
+    answer_at room = rw (gave_is, back.0, back.1, items_sayable v p file bytes, new_is, accepted_read.records_are)
 
-    buffer-at : (old : List ℕ) → writeBuffer v8 gave old ≡ bufferOf (newOutcome (length new) count (length old)) new old
-    unfolding writeBuffer
-    buffer-at old = rw (answer_at (length old), gave-is, back.0, back.1, new_is)
+    buffer_at : (old : List ℕ) → write_buffer v8 gave old ≡ buffer_of (new_outcome (length new) count (length old)) new old
+    unfolding write_buffer
+    buffer_at old = rw (answer_at (length old), gave_is, back.0, back.1, new_is)
 
-    ours_at : (room b n w : ℕ) → writeOutcome v8 gave room ≡ accepted b n w → Ours new h rs
-    unfolding writeOutcome
+    ours_at : (room b n w : ℕ) → write_outcome v8 gave room ≡ accepted b n w → Ours new h rs
+    unfolding write_outcome
     ours_at room b n w e =
         let x : Result = record { records = rs; verdict = Good } in
-        let q : writtenOutcome v8 h x room ≡ accepted b n w = rw (gave-is, back.0, back.1) at e in
-        rw new_is (file-ours h (opening-fits file opens).header x b n w (items-formed v p file bytes) (writes v8 h x room b n w q))
+        let q : written_outcome v8 h x room ≡ accepted b n w = rw (gave_is, back.0, back.1) at e in
+        rw new_is (file_ours h (opening_fits file opens).header x b n w (items_formed v p file bytes) (writes v8 h x room b n w q))
 
-  with-opening : {P : Type 0} → ((v p : ℕ) (h : Header) → openingOf file ≡ opened v p h → P) → P
-  unfolding readOutcome
-  with-opening {P} f = go (openingOf file) refl accept
+  with_opening : {P : Type 0} → ((v p : ℕ) (h : Header) → opening_of file ≡ opened v p h → P) → P
+  unfolding read_outcome
+  with_opening {P} f = go (opening_of file) refl accept
     where
-      go : (o : Opening) → openingOf file ≡ o → readFrom o file (length lent) ≡ accepted size count version → P
+      go : (o : Opening) → opening_of file ≡ o → read_from o file (length lent) ≡ accepted size count version → P
       go (shut k q) r e = absurd (never k q size count version e)
       go (opened v p h) r e = f v p h r
 
   -- writing the sheet answers 16, then 11, else the new file's bytes and the same record count
-  pub read-written : (room : ℕ) → writeOutcome v8 gave room ≡ newOutcome (length new) count room
-  read-written room = with-opening (λ v p h q. answer_at v p h q room)
+  pub read_written : (room : ℕ) → write_outcome v8 gave room ≡ new_outcome (length new) count room
+  read_written room = with_opening (λ v p h q. answer_at v p h q room)
 
-  pub read-written-buffer : (old : List ℕ) → writeBuffer v8 gave old ≡ bufferOf (newOutcome (length new) count (length old)) new old
-  read-written-buffer old = with-opening (λ v p h q. buffer-at v p h q old)
+  pub read_written_buffer : (old : List ℕ) → write_buffer v8 gave old ≡ buffer_of (new_outcome (length new) count (length old)) new old
+  read_written_buffer old = with_opening (λ v p h q. buffer_at v p h q old)
 
   -- "a sheet made by reading is never refused with 12 or 13 by the v8 writer": a refusal is 16, or 11 with the new file's length
-  pub only-16-11 : (room n p : ℕ) → writeOutcome v8 gave room ≡ refused n p → Size (length new) n p
-  only-16-11 room n p e = new-refused (length new) count room n p (sym (read-written room) ∙ e)
+  pub only_16_11 : (room n p : ℕ) → write_outcome v8 gave room ≡ refused n p → Size (length new) n p
+  only_16_11 room n p e = new_refused (length new) count room n p (sym (read_written room) ∙ e)
 
-  pub never-12 : (room p : ℕ) → writeOutcome v8 gave room ≡ refused 12 p → ⊥
-  never-12 room p e = other 12 p (length new) (λ q. omega arith) (λ q. omega arith) (only-16-11 room 12 p e)
+  pub never_12 : (room p : ℕ) → write_outcome v8 gave room ≡ refused 12 p → ⊥
+  never_12 room p e = other 12 p (length new) (λ q. omega arith) (λ q. omega arith) (only_16_11 room 12 p e)
 
-  pub never-13 : (room p : ℕ) → writeOutcome v8 gave room ≡ refused 13 p → ⊥
-  never-13 room p e = other 13 p (length new) (λ q. omega arith) (λ q. omega arith) (only-16-11 room 13 p e)
+  pub never_13 : (room p : ℕ) → write_outcome v8 gave room ≡ refused 13 p → ⊥
+  never_13 room p e = other 13 p (length new) (λ q. omega arith) (λ q. omega arith) (only_16_11 room 13 p e)
 
   -- the new file is house-written
-  pub new-never-14 : (room b n w : ℕ) → writeOutcome v8 gave room ≡ accepted b n w
-      → (first run : ℕ) (put : List ℕ) (room' p : ℕ) → editOutcome new first run put room' ≡ refused 14 p → ⊥
-  new-never-14 room b n w e = with-opening (λ v p h r. never-14 (ours_at v p h r room b n w e))
+  pub new_never_14 : (room b n w : ℕ) → write_outcome v8 gave room ≡ accepted b n w
+      → (first run : ℕ) (put : List ℕ) (room' p : ℕ) → edit_outcome new first run put room' ≡ refused 14 p → ⊥
+  new_never_14 room b n w e = with_opening (λ v p h r. never_14 (ours_at v p h r room b n w e))
 
 -- ---- conversion: "the reader's, then 16 and 11"
 
 module _ (file sheet : List ℕ) where
   -- a refusal of the reader is passed on
-  pub convert-refused : (n p : ℕ) → readOutcome file (length sheet) ≡ refused n p
-      → (old : List ℕ) → (convertOutcome file (length sheet) (length old) ≡ refused n p) × (convertBuffer file (length sheet) old ≡ old)
-  unfolding convertOutcome convertBuffer
-  convert-refused n p e old = (rw e, rw e)
+  pub convert_refused : (n p : ℕ) → read_outcome file (length sheet) ≡ refused n p
+      → (old : List ℕ) → (convert_outcome file (length sheet) (length old) ≡ refused n p) × (convert_buffer file (length sheet) old ≡ old)
+  unfolding convert_outcome convert_buffer
+  convert_refused n p e old = (rw e, rw e)
 
   module _ (bytes : Bytes file) where
     -- "Conversion reads to a lent sheet, then writes"
-    pub convert-written : (b n v : ℕ) → readOutcome file (length sheet) ≡ accepted b n v
-        → (old : List ℕ) → (convertOutcome file (length sheet) (length old) ≡ writeOutcome v8 (take b (readBuffer file sheet)) (length old))
-        × (convertBuffer file (length sheet) old ≡ writeBuffer v8 (take b (readBuffer file sheet)) old)
-    unfolding convertOutcome convertBuffer
-    convert-written b n v e old =
-        let a = read-written file sheet bytes b n v e (length old) in
-        let w = read-written-buffer file sheet bytes b n v e old in
+    pub convert_written : (b n v : ℕ) → read_outcome file (length sheet) ≡ accepted b n v
+        → (old : List ℕ) → (convert_outcome file (length sheet) (length old) ≡ write_outcome v8 (take b (read_buffer file sheet)) (length old))
+        × (convert_buffer file (length sheet) old ≡ write_buffer v8 (take b (read_buffer file sheet)) old)
+    unfolding convert_outcome convert_buffer
+    convert_written b n v e old =
+        let a = read_written file sheet bytes b n v e (length old) in
+        let w = read_written_buffer file sheet bytes b n v e old in
         (rw (e, a), rw (e, w))
 
 -- a refusal is the reader's, or 16, or 11 with the new file's length
-pub convert-refusals : (file : List ℕ) (sheetRoom room n p : ℕ) → convertOutcome file sheetRoom room ≡ refused n p
-    → (readOutcome file sheetRoom ≡ refused n p) ⊎ Size (length (convertedFile file)) n p
-unfolding convertOutcome
-convert-refusals file sheetRoom room n p = go (readOutcome file sheetRoom)
+pub convert_refusals : (file : List ℕ) (sheetRoom room n p : ℕ) → convert_outcome file sheetRoom room ≡ refused n p
+    → (read_outcome file sheetRoom ≡ refused n p) ⊎ Size (length (converted_file file)) n p
+unfolding convert_outcome
+convert_refusals file sheetRoom room n p = go (read_outcome file sheetRoom)
   where
-    go : (o : Outcome) → convertedOutcome o (length (convertedFile file)) room ≡ refused n p
-        → (o ≡ refused n p) ⊎ Size (length (convertedFile file)) n p
-    go (accepted b count v) e = inr (new-refused (length (convertedFile file)) count room n p e)
+    go : (o : Outcome) → converted_outcome o (length (converted_file file)) room ≡ refused n p
+        → (o ≡ refused n p) ⊎ Size (length (converted_file file)) n p
+    go (accepted b count v) e = inr (new_refused (length (converted_file file)) count room n p e)
     go (refused k q) e = inl e
 
 -- so its number is one that reading gives, and neither 12 nor 13
-pub convert-numbers : (file : List ℕ) (sheetRoom room n p : ℕ) → convertOutcome file sheetRoom room ≡ refused n p → readerNumber n ≡ true
-convert-numbers file sheetRoom room n p e = go (convert-refusals file sheetRoom room n p e)
+pub convert_numbers : (file : List ℕ) (sheetRoom room n p : ℕ) → convert_outcome file sheetRoom room ≡ refused n p → reader_number n ≡ true
+convert_numbers file sheetRoom room n p e = go (convert_refusals file sheetRoom room n p e)
   where
-    go : (readOutcome file sheetRoom ≡ refused n p) ⊎ Size (length (convertedFile file)) n p → readerNumber n ≡ true
-    go (inl f) = read-numbers file sheetRoom n p f
+    go : (read_outcome file sheetRoom ≡ refused n p) ⊎ Size (length (converted_file file)) n p → reader_number n ≡ true
+    go (inl f) = read_numbers file sheetRoom n p f
     go (inr (inl f)) = rw f.0
     go (inr (inr f)) = rw f.0
 
 -- an accepted conversion leaves the new file at the buffer's front
-pub converted-file : (file : List ℕ) (sheetRoom : ℕ) (old : List ℕ) (b n w : ℕ) → convertOutcome file sheetRoom (length old) ≡ accepted b n w
-    → (take b (convertBuffer file sheetRoom old) ≡ convertedFile file) × (b ≤ length old)
-unfolding convertOutcome convertBuffer over
-converted-file file sheetRoom old b n w = go (readOutcome file sheetRoom)
+pub converted_file_lem : (file : List ℕ) (sheetRoom : ℕ) (old : List ℕ) (b n w : ℕ) → convert_outcome file sheetRoom (length old) ≡ accepted b n w
+    → (take b (convert_buffer file sheetRoom old) ≡ converted_file file) × (b ≤ length old)
+unfolding convert_outcome convert_buffer over
+converted_file_lem file sheetRoom old b n w = go (read_outcome file sheetRoom)
   where
     new : List ℕ
-    new = convertedFile file
+    new = converted_file file
 
-    go : (o : Outcome) → convertedOutcome o (length new) (length old) ≡ accepted b n w
-        → (take b (bufferOf (convertedOutcome o (length new) (length old)) new old) ≡ new) × (b ≤ length old)
+    go : (o : Outcome) → converted_outcome o (length new) (length old) ≡ accepted b n w
+        → (take b (buffer_of (converted_outcome o (length new) (length old)) new old) ≡ new) × (b ≤ length old)
     go (accepted size count v) e =
-        let A = accepted-means (sizeVerdict (length new)) (length new) count 8 (length old) b n w e in
-        (rw e (take_at new (drop (length new) old) b (sym A.bytes-are)), accepted-fits A)
+        let A = accepted_means (size_verdict (length new)) (length new) count 8 (length old) b n w e in
+        (rw e (take_at new (drop (length new) old) b (sym A.bytes_are)), accepted_fits A)
     go (refused k q) e = absurd (never k q b n w e)
 
 -- and it is house-written: an edit of it never answers 14
-pub converted-never-14 : (file : List ℕ) → Bytes file → (sheet old : List ℕ) (b n w : ℕ) → convertOutcome file (length sheet) (length old) ≡ accepted b n w
-    → (first run : ℕ) (put : List ℕ) (room p : ℕ) → editOutcome (take b (convertBuffer file (length sheet) old)) first run put room ≡ refused 14 p → ⊥
-converted-never-14 file bytes sheet old b n w e first run put room p f = go (readOutcome file (length sheet)) refl
+pub converted_never_14 : (file : List ℕ) → Bytes file → (sheet old : List ℕ) (b n w : ℕ) → convert_outcome file (length sheet) (length old) ≡ accepted b n w
+    → (first run : ℕ) (put : List ℕ) (room p : ℕ) → edit_outcome (take b (convert_buffer file (length sheet) old)) first run put room ≡ refused 14 p → ⊥
+converted_never_14 file bytes sheet old b n w e first run put room p f = go (read_outcome file (length sheet)) refl
   where
-    go : (o : Outcome) → readOutcome file (length sheet) ≡ o → ⊥
+    go : (o : Outcome) → read_outcome file (length sheet) ≡ o → ⊥
     go (accepted size count v) q =
-        new-never-14 file sheet bytes size count v q (length old) b n w (sym (convert-written file sheet bytes size count v q old).0 ∙ e) first run put room p
-        (rw (converted-file file (length sheet) old b n w e).0 at f)
-    go (refused k q) r = never k q b n w (sym (convert-refused file sheet k q r old).0 ∙ e)
+        new_never_14 file sheet bytes size count v q (length old) b n w (sym (convert_written file sheet bytes size count v q old).0 ∙ e) first run put room p
+        (rw (converted_file_lem file (length sheet) old b n w e).0 at f)
+    go (refused k q) r = never k q b n w (sym (convert_refused file sheet k q r old).0 ∙ e)

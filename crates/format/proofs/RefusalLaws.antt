@@ -5,28 +5,28 @@ use lib.Dec.{ltb}
 use borrow.Author.Tests.{le-ltb}
 use native.Mathlib.Omega.{arith}
 use Rattle.format.specs.Bytes.{pick}
-use Rattle.format.specs.Refusals.{Outcome, accepted, refused, outcomeOf}
+use Rattle.format.specs.Refusals.{Outcome, accepted, refused, outcome_of}
 use Rattle.format.specs.declared.Verdict.TheVariants.{Good, Refusal}
 use Rattle.format.specs.declared.Verdict.{Verdict}
-use Rattle.format.proofs.Basics.{pick-false}
+use Rattle.format.proofs.Basics.{pick_false}
 
 pub never : (k p b n v : ℕ) → refused k p ≡ accepted b n v → ⊥
 never k p b n v e = let z : ◌≡◌ {A = ℕ} 0 1 = cc in omega arith
 
 -- with just the room that is needed
-pub outcome_fits : (bytes records version : ℕ) → outcomeOf Good bytes records version bytes ≡ accepted bytes records version
-outcome_fits bytes records version = pick-false _ _ (le-ltb bytes bytes (omega arith))
+pub outcome_fits : (bytes records version : ℕ) → outcome_of Good bytes records version bytes ≡ accepted bytes records version
+outcome_fits bytes records version = pick_false _ _ (le-ltb bytes bytes (omega arith))
 
-pub outcome-bytes : (w : Verdict) (bytes records version b n v : ℕ) → outcomeOf w bytes records version bytes ≡ accepted b n v → b ≡ bytes
-outcome-bytes Good bytes records version b n v e = let z = sym (outcome_fits bytes records version) ∙ e in cc
-outcome-bytes (Refusal k p) bytes records version b n v e = absurd (never k p b n v e)
+pub outcome_bytes : (w : Verdict) (bytes records version b n v : ℕ) → outcome_of w bytes records version bytes ≡ accepted b n v → b ≡ bytes
+outcome_bytes Good bytes records version b n v e = let z = sym (outcome_fits bytes records version) ∙ e in cc
+outcome_bytes (Refusal k p) bytes records version b n v e = absurd (never k p b n v e)
 
 -- that answer, where there is so much room
 abbrev pub capped : Outcome → ℕ → Outcome
 capped (accepted b n v) room = pick (ltb room b) (refused 11 b) (accepted b n v)
 capped (refused k p) room = refused k p
 
-pub outcome-capped : (w : Verdict) (bytes records version room : ℕ)
-    → outcomeOf w bytes records version room ≡ capped (outcomeOf w bytes records version bytes) room
-outcome-capped Good bytes records version room = rw (outcome_fits bytes records version)
-outcome-capped (Refusal k p) bytes records version room = refl
+pub outcome_capped : (w : Verdict) (bytes records version room : ℕ)
+    → outcome_of w bytes records version room ≡ capped (outcome_of w bytes records version bytes) room
+outcome_capped Good bytes records version room = rw (outcome_fits bytes records version)
+outcome_capped (Refusal k p) bytes records version room = refl

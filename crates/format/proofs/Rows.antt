@@ -6,52 +6,52 @@ use mathlib.Core.Bool.{Bool, true, false, ◌||◌}
 use lib.ListN.{length}
 use lib.Dec.{leb}
 use borrow.Author.Tests.{leb-true}
-use Rattle.format.specs.Bytes.{le16, le32, toLe16, toLe32, widened}
-use Rattle.format.specs.Items.{point_of, dimensionsOf, traverseOf}
-use Rattle.format.specs.Sheet.{pointBytes, dimensionBytes, traverseBytes}
+use Rattle.format.specs.Bytes.{le16, le32, to_le16, to_le32, widened}
+use Rattle.format.specs.Items.{point_of, dimensions_of, traverse_of}
+use Rattle.format.specs.Sheet.{point_bytes, dimension_bytes, traverse_bytes}
 use Rattle.format.specs.WellFormed.{GoodPoint, GoodDimensions, GoodTraverse}
-use Rattle.format.specs.Codes.{fitsShort, allShort}
+use Rattle.format.specs.Codes.{fits_short, all_short}
 use Rattle.format.specs.declared.Point.{Point}
 use Rattle.format.specs.declared.Dimensions.{Dimensions}
 use Rattle.format.specs.declared.Traverse.{Traverse}
-use Rattle.format.proofs.Basics.{both, le32-to, widened-low, widened-high}
+use Rattle.format.proofs.Basics.{both, le32_to, widened_low, widened_high}
 
-pub point-back : (p : Point) (rest : List ℕ) → GoodPoint p → point_of le32 (pointBytes toLe32 p ++ rest) ≡ p
-unfolding toLe32
-point-back p rest g = simp (le32-to, g.x_fits, g.y-fits, g.z-fits)
+pub point_back : (p : Point) (rest : List ℕ) → GoodPoint p → point_of le32 (point_bytes to_le32 p ++ rest) ≡ p
+unfolding to_le32
+point_back p rest g = simp (le32_to, g.x_fits, g.y_fits, g.z_fits)
 
-pub traverse-back : (t : Traverse) (rest : List ℕ) → GoodTraverse t → traverseOf le32 (traverseBytes toLe32 t ++ rest) ≡ t
-unfolding toLe32
-traverse-back t rest g = simp (le32-to, g.legs-fit, g.total-fits, g.e-fits, g.h_fits, g.v-fits)
+pub traverse_back : (t : Traverse) (rest : List ℕ) → GoodTraverse t → traverse_of le32 (traverse_bytes to_le32 t ++ rest) ≡ t
+unfolding to_le32
+traverse_back t rest g = simp (le32_to, g.legs_fit, g.total_fits, g.e_fits, g.h_fits, g.v_fits)
 
-pub wide-dimensions-back : (d : Dimensions) (rest : List ℕ) → GoodDimensions d → dimensionsOf 4 le32 (dimensionBytes toLe32 d ++ rest) ≡ d
-unfolding toLe32
-wide-dimensions-back d rest g = simp (le32-to, g.left-fits, g.right-fits, g.up_fits, g.down_fits)
+pub wide_dimensions_back : (d : Dimensions) (rest : List ℕ) → GoodDimensions d → dimensions_of 4 le32 (dimension_bytes to_le32 d ++ rest) ≡ d
+unfolding to_le32
+wide_dimensions_back d rest g = simp (le32_to, g.left_fits, g.right_fits, g.up_fits, g.down_fits)
 
 -- an i32 that fits an i16 is written in two bytes
-short_back : (n : ℕ) (rest : List ℕ) → fitsShort n ≡ true → n < 4294967296 → widened (le16 (toLe16 n ++ rest)) ≡ n
-unfolding fitsShort
+short_back : (n : ℕ) (rest : List ℕ) → fits_short n ≡ true → n < 4294967296 → widened (le16 (to_le16 n ++ rest)) ≡ n
+unfolding fits_short
 short_back n rest f h = go (leb n 32767) refl f
   where
-    go : (b : Bool) → leb n 32767 ≡ b → (b || leb 4294934528 n) ≡ true → widened (le16 (toLe16 n ++ rest)) ≡ n
-    go true e q = widened-low n rest (leb-true n 32767 e)
-    go false e q = widened-high n rest (leb-true 4294934528 n q) h
+    go : (b : Bool) → leb n 32767 ≡ b → (b || leb 4294934528 n) ≡ true → widened (le16 (to_le16 n ++ rest)) ≡ n
+    go true e q = widened_low n rest (leb-true n 32767 e)
+    go false e q = widened_high n rest (leb-true 4294934528 n q) h
 
-pub short-dimensions-back : (d : Dimensions) (rest : List ℕ) → GoodDimensions d → allShort d ≡ true
-    → dimensionsOf 2 (λ s. widened (le16 s)) (dimensionBytes toLe16 d ++ rest) ≡ d
-unfolding allShort toLe16
-short-dimensions-back d rest g e =
-    let p = both (fitsShort d.left) _ e in
-    let q = both (fitsShort d.right) _ p.1 in
-    let r = both (fitsShort d.up) (fitsShort d.down) q.1 in
-    simp (short_back, p.0, q.0, r.0, r.1, g.left-fits, g.right-fits, g.up_fits, g.down_fits)
+pub short_dimensions_back : (d : Dimensions) (rest : List ℕ) → GoodDimensions d → all_short d ≡ true
+    → dimensions_of 2 (λ s. widened (le16 s)) (dimension_bytes to_le16 d ++ rest) ≡ d
+unfolding all_short to_le16
+short_dimensions_back d rest g e =
+    let p = both (fits_short d.left) _ e in
+    let q = both (fits_short d.right) _ p.1 in
+    let r = both (fits_short d.up) (fits_short d.down) q.1 in
+    simp (short_back, p.0, q.0, r.0, r.1, g.left_fits, g.right_fits, g.up_fits, g.down_fits)
 
 -- ---- lengths, which do not depend on the numbers
 
-pub le16-width : (n : ℕ) → length (toLe16 n) ≡ 2
-unfolding toLe16
-le16-width n = refl
+pub le16_width : (n : ℕ) → length (to_le16 n) ≡ 2
+unfolding to_le16
+le16_width n = refl
 
-pub le32-width : (n : ℕ) → length (toLe32 n) ≡ 4
-unfolding toLe32
-le32-width n = refl
+pub le32_width : (n : ℕ) → length (to_le32 n) ≡ 4
+unfolding to_le32
+le32_width n = refl

@@ -4,17 +4,17 @@ use Prim.Native.Nat.{ℕ}
 use mathlib.Core.Path.{◌≡◌, refl}
 use mathlib.Core.List.{List, [], ◌∷◌, ◌++◌}
 use lib.IntN.{ℤ, pos, negsuc}
-use Rattle.format.specs.Bytes.{pick, be16, be32, toBe16, toBe32, same}
-use Rattle.format.specs.Header.{lineEnd, endsInReturn}
+use Rattle.format.specs.Bytes.{pick, be16, be32, to_be16, to_be32, same}
+use Rattle.format.specs.Header.{line_end, ends_in_return}
 use Rattle.format.specs.State.{Record, station}
-use Rattle.format.specs.Iterate.{iter, iterUp}
-use Rattle.format.specs.Sheet.{sheetVersion, undatedVersion, layout, layoutAll, headerLayout, sheetOf, goodDate, dateFrom, legEntry, stationEntry, sectionEntry, undatedSectionEntry, bodyEntry, framed, entry_of, recordsStep, recordsFrom, recordsOf, goodText, goodHeader, goodFront, frontHeader, behindFront, versionResult, versionOf, sheetResult}
-use Rattle.format.specs.Reach.{signed, begins, takesPart, legsOf}
-use Rattle.format.specs.Viewer.{differences, tooFar, farVerdict, ViewOutcome, viewed, unviewed, view_of, viewDifferences}
+use Rattle.format.specs.Iterate.{iter, iter_up}
+use Rattle.format.specs.Sheet.{sheet_version, undated_version, layout, layout_all, header_layout, sheet_of, good_date, date_from, leg_entry, station_entry, section_entry, undated_section_entry, body_entry, framed, entry_of, records_step, records_from, records_of, good_text, good_header, good_front, front_header, behind_front, version_result, version_of, sheet_result}
+use Rattle.format.specs.Reach.{signed, begins, takes_part, legs_of}
+use Rattle.format.specs.Viewer.{differences, too_far, far_verdict, ViewOutcome, viewed, unviewed, view_of, view_differences}
 use Rattle.format.specs.declared.Point.{Point}
 use Rattle.format.specs.declared.Origin.{Origin}
 use Rattle.format.proofs.Cases.{origin}
-use Rattle.format.proofs.ReachCases.{between, point, sheetIn}
+use Rattle.format.proofs.ReachCases.{between, point, sheet_in}
 
 -- the answer, and the differences of all legs
 record View : Type 0 where
@@ -34,8 +34,8 @@ abbrev dues : List Row → List View
 dues [] = []
 dues (r ∷ rs) = r.due ∷ dues rs
 
-abbrev from-origin : Origin
-from-origin = record { x = pos 0; y = pos 0; z = pos 0 }
+abbrev from_origin : Origin
+from_origin = record { x = pos 0; y = pos 0; z = pos 0 }
 
 -- an origin at the lowest x
 abbrev from_lowest : Origin
@@ -45,61 +45,61 @@ abbrev shows : ViewOutcome → List ℤ → View
 shows answer numbers = record { answer = answer; numbers = numbers }
 
 abbrev seen : List ℕ → Origin → ℕ → View
-seen sheet o room = shows (view_of sheet o room) (viewDifferences sheet o)
+seen sheet o room = shows (view_of sheet o room) (view_differences sheet o)
 
 abbrev viewing : List Record → Origin → ℕ → View
-viewing rs = seen (sheetIn sheetVersion rs)
+viewing rs = seen (sheet_in sheet_version rs)
 
 -- a leg from 1 2 3 to -1 -2 -3, one from the lowest x, and a station
 abbrev short : Record
 short = between (point 1 2 3) (point 0xffffffff 0xfffffffe 0xfffffffd) []
 
-abbrev lowest-leg : Record
-lowest-leg = between (point 0x80000000 0 0) (point 0x80000001 1 3) (97 ∷ [])
+abbrev lowest_leg : Record
+lowest_leg = between (point 0x80000000 0 0) (point 0x80000001 1 3) (97 ∷ [])
 
-abbrev stop-at : Record
-stop-at = station (record { flags = 0; place = point 9 9 9 }) (97 ∷ [])
+abbrev stop_at : Record
+stop_at = station (record { flags = 0; place = point 9 9 9 }) (97 ∷ [])
 
 -- a leg to an x, along the origin
-abbrev to-x : ℕ → Record
-to-x x = between origin (point x 0 0) []
+abbrev to_x : ℕ → Record
+to_x x = between origin (point x 0 0) []
 
-abbrev to-x-numbers : ℤ → List ℤ
-to-x-numbers d = pos 0 ∷ pos 0 ∷ pos 0 ∷ d ∷ pos 0 ∷ pos 0 ∷ []
+abbrev to_x_numbers : ℤ → List ℤ
+to_x_numbers d = pos 0 ∷ pos 0 ∷ pos 0 ∷ d ∷ pos 0 ∷ pos 0 ∷ []
 
 -- two legs too far, and their numbers
-abbrev far-legs : List Record
-far-legs = to-x 0x7fffffff ∷ to-x 0x7fffffff ∷ []
+abbrev far_legs : List Record
+far_legs = to_x 0x7fffffff ∷ to_x 0x7fffffff ∷ []
 
-abbrev far-numbers : List ℤ
-far-numbers = to-x-numbers (pos 0x7fffffff) ++ to-x-numbers (pos 0x7fffffff)
+abbrev far_numbers : List ℤ
+far_numbers = to_x_numbers (pos 0x7fffffff) ++ to_x_numbers (pos 0x7fffffff)
 
-abbrev short-numbers : List ℤ
-short-numbers = pos 1 ∷ pos 2 ∷ pos 3 ∷ negsuc 0 ∷ negsuc 1 ∷ negsuc 2 ∷ []
+abbrev short_numbers : List ℤ
+short_numbers = pos 1 ∷ pos 2 ∷ pos 3 ∷ negsuc 0 ∷ negsuc 1 ∷ negsuc 2 ∷ []
 
 abbrev table : List Row
 table =
     -- "from x y z, then to x y z"; "Legs come in sheet order, the answer is their count"
-    record { given = viewing (stop-at ∷ short ∷ stop-at ∷ to-x 7 ∷ []) from-origin 12; due = shows (viewed 2) (short-numbers ++ to-x-numbers (pos 7)) }
+    record { given = viewing (stop_at ∷ short ∷ stop_at ∷ to_x 7 ∷ []) from_origin 12; due = shows (viewed 2) (short_numbers ++ to_x_numbers (pos 7)) }
     -- "less an origin"
-    ∷ record { given = viewing (lowest-leg ∷ []) from_lowest 6; due = shows (viewed 1) (pos 0 ∷ pos 1 ∷ negsuc 2 ∷ pos 1 ∷ pos 2 ∷ pos 0 ∷ []) }
+    ∷ record { given = viewing (lowest_leg ∷ []) from_lowest 6; due = shows (viewed 1) (pos 0 ∷ pos 1 ∷ negsuc 2 ∷ pos 1 ∷ pos 2 ∷ pos 0 ∷ []) }
     -- "Each difference of magnitude at most 16,777,216"; "Any larger difference refuses the call"
-    ∷ record { given = viewing (to-x 0x01000000 ∷ []) from-origin 6; due = shows (viewed 1) (to-x-numbers (pos 16777216)) }
-    ∷ record { given = viewing (to-x 0xff000000 ∷ []) from-origin 6; due = shows (viewed 1) (to-x-numbers (negsuc 16777215)) }
-    ∷ record { given = viewing (to-x 0x01000001 ∷ []) from-origin 6; due = shows (unviewed 20 0) (to-x-numbers (pos 16777217)) }
-    ∷ record { given = viewing (to-x 0xfeffffff ∷ []) from-origin 6; due = shows (unviewed 20 0) (to-x-numbers (negsuc 16777216)) }
+    ∷ record { given = viewing (to_x 0x01000000 ∷ []) from_origin 6; due = shows (viewed 1) (to_x_numbers (pos 16777216)) }
+    ∷ record { given = viewing (to_x 0xff000000 ∷ []) from_origin 6; due = shows (viewed 1) (to_x_numbers (negsuc 16777215)) }
+    ∷ record { given = viewing (to_x 0x01000001 ∷ []) from_origin 6; due = shows (unviewed 20 0) (to_x_numbers (pos 16777217)) }
+    ∷ record { given = viewing (to_x 0xfeffffff ∷ []) from_origin 6; due = shows (unviewed 20 0) (to_x_numbers (negsuc 16777216)) }
     -- "the record number of the first leg too far", before 11
-    ∷ record { given = viewing (stop-at ∷ to-x 1 ∷ far-legs) from-origin 0; due = shows (unviewed 20 2) (to-x-numbers (pos 1) ++ far-numbers) }
+    ∷ record { given = viewing (stop_at ∷ to_x 1 ∷ far_legs) from_origin 0; due = shows (unviewed 20 2) (to_x_numbers (pos 1) ++ far_numbers) }
     -- "then 11 with the count of numbers needed"
-    ∷ record { given = viewing (short ∷ short ∷ []) from-origin 11; due = shows (unviewed 11 12) (short-numbers ++ short-numbers) }
+    ∷ record { given = viewing (short ∷ short ∷ []) from_origin 11; due = shows (unviewed 11 12) (short_numbers ++ short_numbers) }
     -- no leg; both versions of a sheet
-    ∷ record { given = viewing (stop-at ∷ []) from-origin 0; due = shows (viewed 0) [] }
-    ∷ record { given = seen (sheetIn undatedVersion (short ∷ [])) from-origin 6; due = shows (viewed 1) short-numbers }
+    ∷ record { given = viewing (stop_at ∷ []) from_origin 0; due = shows (viewed 0) [] }
+    ∷ record { given = seen (sheet_in undated_version (short ∷ [])) from_origin 6; due = shows (viewed 1) short_numbers }
     -- "12, then 20"
-    ∷ record { given = seen [] from-origin 6; due = shows (unviewed 12 0) [] }
-    ∷ record { given = seen (sheetIn sheetVersion far-legs ++ (0 ∷ [])) from-origin 0; due = shows (unviewed 12 2) far-numbers }
+    ∷ record { given = seen [] from_origin 6; due = shows (unviewed 12 0) [] }
+    ∷ record { given = seen (sheet_in sheet_version far_legs ++ (0 ∷ [])) from_origin 0; due = shows (unviewed 12 2) far_numbers }
     ∷ []
 
-pub viewer-cases : givens table ≡ dues table
-unfolding pick be16 be32 toBe16 toBe32 same lineEnd endsInReturn iter iterUp layout layoutAll headerLayout sheetOf goodDate dateFrom legEntry stationEntry sectionEntry undatedSectionEntry bodyEntry framed entry_of recordsStep recordsFrom recordsOf goodText goodHeader goodFront frontHeader behindFront versionResult versionOf sheetResult signed begins takesPart legsOf differences tooFar farVerdict view_of viewDifferences
-viewer-cases = refl
+pub viewer_cases : givens table ≡ dues table
+unfolding pick be16 be32 to_be16 to_be32 same line_end ends_in_return iter iter_up layout layout_all header_layout sheet_of good_date date_from leg_entry station_entry section_entry undated_section_entry body_entry framed entry_of records_step records_from records_of good_text good_header good_front front_header behind_front version_result version_of sheet_result signed begins takes_part legs_of differences too_far far_verdict view_of view_differences
+viewer_cases = refl

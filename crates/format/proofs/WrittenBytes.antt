@@ -7,23 +7,23 @@ use native.Mathlib.Omega.{arith}
 use lib.ListN.{length}
 use lib.Dec.{ltb, leb}
 use borrow.Author.Tests.{ltb-true, leb-true}
-use Rattle.format.specs.Bytes.{pick, toLe16, toLe32, Bytes}
+use Rattle.format.specs.Bytes.{pick, to_le16, to_le32, Bytes}
 use Rattle.format.specs.Header.{Header, magic}
 use Rattle.format.specs.State.{State, start, Record, leg, station, section, error}
-use Rattle.format.specs.Sheet.{pointBytes, dimensionBytes, traverseBytes}
+use Rattle.format.specs.Sheet.{point_bytes, dimension_bytes, traverse_bytes}
 use Rattle.format.specs.WellFormed.{GoodDated, GoodHeader, WellFormed, AllWellFormed}
-use Rattle.format.specs.Writing.{Writer, v8, v7, codesAll, encodeAll, fileOf}
-use Rattle.format.specs.V7Codes.{sixteens, trimCodes, shortenCodes, oldLengthCodes, addedCodes, labelledCodes, v7Dates, v7SectionCodes, v7Codes}
-use Rattle.format.specs.V7Codes.{v7Closing, v7HeaderCodes}
-use Rattle.format.specs.Codes.{lengthCodes, partCodes, labelCodes, common, datedCodes, v8Dates, styleIf, dateIf, moveIf, lineCodes}
-use Rattle.format.specs.Codes.{stationCodes, sectionCodes, errorCodes, codes, closing, headerCodes}
+use Rattle.format.specs.Writing.{Writer, v8, v7, codes_all, encode_all, file_of}
+use Rattle.format.specs.V7Codes.{sixteens, trim_codes, shorten_codes, old_length_codes, added_codes, labelled_codes, v7_dates, v7_section_codes, v7_codes}
+use Rattle.format.specs.V7Codes.{v7_closing, v7_header_codes}
+use Rattle.format.specs.Codes.{length_codes, part_codes, label_codes, common, dated_codes, v8_dates, style_if, date_if, move_if, line_codes}
+use Rattle.format.specs.Codes.{station_codes, section_codes, error_codes, codes, closing, header_codes}
 use Rattle.format.specs.declared.DateCodes.{DateCodes}
 use Rattle.format.specs.declared.Point.{Point}
 use Rattle.format.specs.declared.Dimensions.{Dimensions}
 use Rattle.format.specs.declared.Traverse.{Traverse}
 use Rattle.format.specs.declared.Dated.{Dated}
 use Rattle.format.specs.declared.Dated.TheVariants.{Undated, Day, Range}
-use Rattle.format.proofs.Basics.{pick-case, both}
+use Rattle.format.proofs.Basics.{pick_case, both}
 use Rattle.format.proofs.SheetLaws.{bytes_drop}
 
 -- ---- lists of bytes; the record lets the lists themselves be found
@@ -31,86 +31,86 @@ use Rattle.format.proofs.SheetLaws.{bytes_drop}
 pub record All (s : List ℕ) : Type 0 where
   pub below : Bytes s
 
-pub bytes-nil : All []
-bytes-nil = record { below = λ i. omega arith }
+pub bytes_nil : All []
+bytes_nil = record { below = λ i. omega arith }
 
-cons-below : (b : ℕ) (s : List ℕ) → b < 256 → Bytes s → Bytes (b ∷ s)
-cons-below b s h f zero = h
-cons-below b s h f (suc i) = f i
+cons_below : (b : ℕ) (s : List ℕ) → b < 256 → Bytes s → Bytes (b ∷ s)
+cons_below b s h f zero = h
+cons_below b s h f (suc i) = f i
 
-pub bytes-cons : (b : ℕ) (s : List ℕ) → b < 256 → All s → All (b ∷ s)
-bytes-cons b s h f = record { below = cons-below b s h f.below }
+pub bytes_cons : (b : ℕ) (s : List ℕ) → b < 256 → All s → All (b ∷ s)
+bytes_cons b s h f = record { below = cons_below b s h f.below }
 
-append-below : (s t : List ℕ) → Bytes s → Bytes t → Bytes (s ++ t)
-append-below [] t f g i = g i
-append-below (b ∷ s) t f g zero = f 0
-append-below (b ∷ s) t f g (suc i) = append-below s t (λ j. f (suc j)) g i
+append_below : (s t : List ℕ) → Bytes s → Bytes t → Bytes (s ++ t)
+append_below [] t f g i = g i
+append_below (b ∷ s) t f g zero = f 0
+append_below (b ∷ s) t f g (suc i) = append_below s t (λ j. f (suc j)) g i
 
-pub bytes-append : (s t : List ℕ) → All s → All t → All (s ++ t)
-bytes-append s t f g = record { below = append-below s t f.below g.below }
+pub bytes_append : (s t : List ℕ) → All s → All t → All (s ++ t)
+bytes_append s t f g = record { below = append_below s t f.below g.below }
 
-le16-bytes : (n : ℕ) → All (toLe16 n)
-unfolding toLe16
-le16-bytes n = bytes-cons _ _ (omega arith) (bytes-cons _ _ (omega arith) bytes-nil)
+le16_bytes : (n : ℕ) → All (to_le16 n)
+unfolding to_le16
+le16_bytes n = bytes_cons _ _ (omega arith) (bytes_cons _ _ (omega arith) bytes_nil)
 
-le32-bytes : (n : ℕ) → All (toLe32 n)
-unfolding toLe32
-le32-bytes n = bytes-cons _ _ (omega arith) (bytes-cons _ _ (omega arith) (bytes-cons _ _ (omega arith) (bytes-cons _ _ (omega arith) bytes-nil)))
+le32_bytes : (n : ℕ) → All (to_le32 n)
+unfolding to_le32
+le32_bytes n = bytes_cons _ _ (omega arith) (bytes_cons _ _ (omega arith) (bytes_cons _ _ (omega arith) (bytes_cons _ _ (omega arith) bytes_nil)))
 
 module _ (to : ℕ → List ℕ) (f : (n : ℕ) → All (to n)) where
-  point-bytes : (p : Point) → All (pointBytes to p)
-  point-bytes p = bytes-append _ _ (f p.x) (bytes-append _ _ (f p.y) (f p.z))
+  point_bytes_lem : (p : Point) → All (point_bytes to p)
+  point_bytes_lem p = bytes_append _ _ (f p.x) (bytes_append _ _ (f p.y) (f p.z))
 
-  dimensions-bytes : (d : Dimensions) → All (dimensionBytes to d)
-  dimensions-bytes d = bytes-append _ _ (f d.left) (bytes-append _ _ (f d.right) (bytes-append _ _ (f d.up) (f d.down)))
+  dimensions_bytes : (d : Dimensions) → All (dimension_bytes to d)
+  dimensions_bytes d = bytes_append _ _ (f d.left) (bytes_append _ _ (f d.right) (bytes_append _ _ (f d.up) (f d.down)))
 
-  traverse-bytes : (t : Traverse) → All (traverseBytes to t)
-  traverse-bytes t = bytes-append _ _ (f t.legs) (bytes-append _ _ (f t.total) (bytes-append _ _ (f t.e) (bytes-append _ _ (f t.h) (f t.v))))
+  traverse_bytes_lem : (t : Traverse) → All (traverse_bytes to t)
+  traverse_bytes_lem t = bytes_append _ _ (f t.legs) (bytes_append _ _ (f t.total) (bytes_append _ _ (f t.e) (bytes_append _ _ (f t.h) (f t.v))))
 
 -- ---- label parts and dates
 
-length-bytes : (n : ℕ) → All (lengthCodes n)
-unfolding lengthCodes
-length-bytes n =
-    pick-case All _ _ _ (λ e. (let h : n < 255 = ltb-true _ _ e in bytes-cons n [] (omega arith) bytes-nil))
-    (λ e. bytes-cons 0xff _ (omega arith) (le32-bytes n))
+length_bytes : (n : ℕ) → All (length_codes n)
+unfolding length_codes
+length_bytes n =
+    pick_case All _ _ _ (λ e. (let h : n < 255 = ltb-true _ _ e in bytes_cons n [] (omega arith) bytes_nil))
+    (λ e. bytes_cons 0xff _ (omega arith) (le32_bytes n))
 
-part_bytes : (d a : ℕ) → All (partCodes d a)
-unfolding partCodes
+part_bytes : (d a : ℕ) → All (part_codes d a)
+unfolding part_codes
 part_bytes d a =
-    pick-case All _ _ _
+    pick_case All _ _ _
     (λ e.
     let p = both (leb d 15) (leb a 15) (both (leb d 15 && leb a 15) (ltb 0 d || ltb 0 a) e).0 in
     let h : d ≤ 15 = leb-true _ _ p.0 in
     let k : a ≤ 15 = leb-true _ _ p.1 in
-    bytes-cons (16 * d + a) [] (omega arith) bytes-nil)
-    (λ e. bytes-cons 0 _ (omega arith) (bytes-append _ _ (length-bytes d) (length-bytes a)))
+    bytes_cons (16 * d + a) [] (omega arith) bytes_nil)
+    (λ e. bytes_cons 0 _ (omega arith) (bytes_append _ _ (length_bytes d) (length_bytes a)))
 
-label-bytes : (l m : List ℕ) (k : ℕ) → All m → All (labelCodes l m k)
-unfolding labelCodes
-label-bytes l m k f = bytes-append _ _ (part_bytes (length l - k) (length m - k)) (record { below = bytes_drop m f.below k })
+label_bytes : (l m : List ℕ) (k : ℕ) → All m → All (label_codes l m k)
+unfolding label_codes
+label_bytes l m k f = bytes_append _ _ (part_bytes (length l - k) (length m - k)) (record { below = bytes_drop m f.below k })
 
 -- the codes of a version's dates are bytes
 record DateBytes (c : DateCodes) : Type 0 where
   pub none_below : c.none < 256
-  pub day-below : c.day < 256
+  pub day_below : c.day < 256
   pub span_below : c.span < 256
-  pub days-below : c.days < 256
+  pub days_below : c.days < 256
 
-date-bytes : {c : DateCodes} → DateBytes c → (date : Dated) → GoodDated date → All (datedCodes c date)
-date-bytes {c} B Undated g = bytes-cons c.none [] B.none_below bytes-nil
-date-bytes {c} B (Day d) g = bytes-cons c.day _ B.day-below (le16-bytes d)
-date-bytes {c} B (Range d e) g =
-    pick-case All _ _ _
+date_bytes_lem : {c : DateCodes} → DateBytes c → (date : Dated) → GoodDated date → All (dated_codes c date)
+date_bytes_lem {c} B Undated g = bytes_cons c.none [] B.none_below bytes_nil
+date_bytes_lem {c} B (Day d) g = bytes_cons c.day _ B.day_below (le16_bytes d)
+date_bytes_lem {c} B (Range d e) g =
+    pick_case All _ _ _
     (λ q. (let h : e - d ≤ 255 = leb-true _ _ q in
-    bytes-cons c.span _ B.span_below (bytes-append _ _ (le16-bytes d) (bytes-cons (e - d) [] (omega arith) bytes-nil))))
-    (λ q. bytes-cons c.days _ B.days-below (bytes-append _ _ (le16-bytes d) (le16-bytes e)))
+    bytes_cons c.span _ B.span_below (bytes_append _ _ (le16_bytes d) (bytes_cons (e - d) [] (omega arith) bytes_nil))))
+    (λ q. bytes_cons c.days _ B.days_below (bytes_append _ _ (le16_bytes d) (le16_bytes e)))
 
-v8-dates : DateBytes v8Dates
-v8-dates = record { none_below = omega arith; day-below = omega arith; span_below = omega arith; days-below = omega arith }
+v8_dates_lem : DateBytes v8_dates
+v8_dates_lem = record { none_below = omega arith; day_below = omega arith; span_below = omega arith; days_below = omega arith }
 
-v7-dates : DateBytes v7Dates
-v7-dates = record { none_below = omega arith; day-below = omega arith; span_below = omega arith; days-below = omega arith }
+v7_dates_lem : DateBytes v7_dates
+v7_dates_lem = record { none_below = omega arith; day_below = omega arith; span_below = omega arith; days_below = omega arith }
 
 -- ---- records
 
@@ -124,141 +124,141 @@ abbrev pub AllLabelBytes : List Record → Type 0
 AllLabelBytes [] = Unit
 AllLabelBytes (r ∷ rs) = LabelBytes r × AllLabelBytes rs
 
-if-bytes : (test : Bool) (code : List ℕ) → All code → All (pick test [] code)
-if-bytes test code f = pick-case All _ _ _ (λ e. bytes-nil) (λ e. f)
+if_bytes : (test : Bool) (code : List ℕ) → All code → All (pick test [] code)
+if_bytes test code f = pick_case All _ _ _ (λ e. bytes_nil) (λ e. f)
 
-pub codes-bytes : (st : State) (r : Record) → WellFormed r → LabelBytes r → All (codes st r)
-unfolding styleIf dateIf moveIf lineCodes stationCodes sectionCodes errorCodes
-codes-bytes st (leg g label) w f =
-    let h = w.style-fits in
-    let k = w.flags-fit in
-    let p = point-bytes toLe32 le32-bytes in
-    bytes-append _ _ (if-bytes _ _ (bytes-cons g.style [] (omega arith) bytes-nil))
-    (bytes-append _ _ (if-bytes _ _ (date-bytes v8-dates g.date w.date-fits))
-    (bytes-append _ _ (if-bytes _ _ (bytes-cons 0x0f _ (omega arith) (p g.from)))
-    (pick-case All _ _ _ (λ e. bytes-cons (0x60 + g.flags) _ (omega arith) (p g.to))
-    (λ e. bytes-cons (0x40 + g.flags) _ (omega arith) (bytes-append _ _ (label-bytes st.label label _ f) (p g.to))))))
-codes-bytes st (station s label) w f =
-    let k = w.flags-fit in
-    bytes-cons (0x80 + s.flags) _ (omega arith) (bytes-append _ _ (label-bytes st.label label _ f) (point-bytes toLe32 le32-bytes s.place))
-codes-bytes st (section s label) w f =
+pub codes_bytes : (st : State) (r : Record) → WellFormed r → LabelBytes r → All (codes st r)
+unfolding style_if date_if move_if line_codes station_codes section_codes error_codes
+codes_bytes st (leg g label) w f =
+    let h = w.style_fits in
+    let k = w.flags_fit in
+    let p = point_bytes_lem to_le32 le32_bytes in
+    bytes_append _ _ (if_bytes _ _ (bytes_cons g.style [] (omega arith) bytes_nil))
+    (bytes_append _ _ (if_bytes _ _ (date_bytes_lem v8_dates_lem g.date w.date_fits))
+    (bytes_append _ _ (if_bytes _ _ (bytes_cons 0x0f _ (omega arith) (p g.from)))
+    (pick_case All _ _ _ (λ e. bytes_cons (0x60 + g.flags) _ (omega arith) (p g.to))
+    (λ e. bytes_cons (0x40 + g.flags) _ (omega arith) (bytes_append _ _ (label_bytes st.label label _ f) (p g.to))))))
+codes_bytes st (station s label) w f =
+    let k = w.flags_fit in
+    bytes_cons (0x80 + s.flags) _ (omega arith) (bytes_append _ _ (label_bytes st.label label _ f) (point_bytes_lem to_le32 le32_bytes s.place))
+codes_bytes st (section s label) w f =
     let k = w.last_fits in
-    bytes-append _ _ (if-bytes _ _ (date-bytes v8-dates s.date w.date-fits))
-    (pick-case All _ _ _
-    (λ e. bytes-cons (0x30 + s.last) _ (omega arith) (bytes-append _ _ (label-bytes st.label label _ f) (dimensions-bytes toLe16 le16-bytes s.size)))
-    (λ e. bytes-cons (0x32 + s.last) _ (omega arith) (bytes-append _ _ (label-bytes st.label label _ f) (dimensions-bytes toLe32 le32-bytes s.size))))
-codes-bytes st (error t) g f = bytes-cons 0x1f _ (omega arith) (traverse-bytes toLe32 le32-bytes t)
+    bytes_append _ _ (if_bytes _ _ (date_bytes_lem v8_dates_lem s.date w.date_fits))
+    (pick_case All _ _ _
+    (λ e. bytes_cons (0x30 + s.last) _ (omega arith) (bytes_append _ _ (label_bytes st.label label _ f) (dimensions_bytes to_le16 le16_bytes s.size)))
+    (λ e. bytes_cons (0x32 + s.last) _ (omega arith) (bytes_append _ _ (label_bytes st.label label _ f) (dimensions_bytes to_le32 le32_bytes s.size))))
+codes_bytes st (error t) g f = bytes_cons 0x1f _ (omega arith) (traverse_bytes_lem to_le32 le32_bytes t)
 
-closing-bytes : (style : ℕ) → All (closing style)
+closing_bytes : (style : ℕ) → All (closing style)
 unfolding closing
-closing-bytes style = pick-case All _ _ _ (λ e. bytes-cons 0 [] (omega arith) bytes-nil)
-    (λ e. bytes-cons 0 _ (omega arith) (bytes-cons 0 [] (omega arith) bytes-nil))
+closing_bytes style = pick_case All _ _ _ (λ e. bytes_cons 0 [] (omega arith) bytes_nil)
+    (λ e. bytes_cons 0 _ (omega arith) (bytes_cons 0 [] (omega arith) bytes_nil))
 
 -- whether every number is below 256
 all_bytes : List ℕ → Bool
 all_bytes [] = true
 all_bytes (b ∷ s) = ltb b 256 && all_bytes s
 
-computed-bytes : (s : List ℕ) → all_bytes s ≡ true → All s
+computed_bytes : (s : List ℕ) → all_bytes s ≡ true → All s
 unfolding all_bytes
-computed-bytes [] e = bytes-nil
-computed-bytes (b ∷ s) e = let p = both (ltb b 256) (all_bytes s) e in bytes-cons b s (ltb-true _ _ p.0) (computed-bytes s p.1)
+computed_bytes [] e = bytes_nil
+computed_bytes (b ∷ s) e = let p = both (ltb b 256) (all_bytes s) e in bytes_cons b s (ltb-true _ _ p.0) (computed_bytes s p.1)
 
-magic-bytes : All magic
+magic_bytes : All magic
 unfolding magic all_bytes
-magic-bytes = computed-bytes magic refl
+magic_bytes = computed_bytes magic refl
 
 -- ---- v7
 
-sixteens-bytes : (n : ℕ) → All (sixteens n)
+sixteens_bytes : (n : ℕ) → All (sixteens n)
 unfolding sixteens
-sixteens-bytes zero = bytes-nil
-sixteens-bytes (suc n) = bytes-cons 0x1f _ (omega arith) (sixteens-bytes n)
+sixteens_bytes zero = bytes_nil
+sixteens_bytes (suc n) = bytes_cons 0x1f _ (omega arith) (sixteens_bytes n)
 
-shorten-bytes : (n k : ℕ) → All (shortenCodes n k)
-unfolding shortenCodes trimCodes
-shorten-bytes n k =
-    pick-case All _ _ _ (λ e. if-bytes _ _ (bytes-cons 0x00 [] (omega arith) bytes-nil))
-    (λ e. bytes-append _ _ (sixteens-bytes _) (if-bytes _ _ (bytes-cons (0x0f + (n - k) % 16) [] (omega arith) bytes-nil)))
+shorten_bytes : (n k : ℕ) → All (shorten_codes n k)
+unfolding shorten_codes trim_codes
+shorten_bytes n k =
+    pick_case All _ _ _ (λ e. if_bytes _ _ (bytes_cons 0x00 [] (omega arith) bytes_nil))
+    (λ e. bytes_append _ _ (sixteens_bytes _) (if_bytes _ _ (bytes_cons (0x0f + (n - k) % 16) [] (omega arith) bytes_nil)))
 
-old-length-bytes : (n : ℕ) → All (oldLengthCodes n)
-unfolding oldLengthCodes
-old-length-bytes n =
-    pick-case All _ _ _ (λ e. (let h : n < 0xfe = ltb-true _ _ e in bytes-cons n [] (omega arith) bytes-nil))
-    (λ e. pick-case All _ _ _ (λ q. bytes-cons 0xfe _ (omega arith) (le16-bytes (n - 254))) (λ q. bytes-cons 0xff _ (omega arith) (le32-bytes n)))
+old_length_bytes : (n : ℕ) → All (old_length_codes n)
+unfolding old_length_codes
+old_length_bytes n =
+    pick_case All _ _ _ (λ e. (let h : n < 0xfe = ltb-true _ _ e in bytes_cons n [] (omega arith) bytes_nil))
+    (λ e. pick_case All _ _ _ (λ q. bytes_cons 0xfe _ (omega arith) (le16_bytes (n - 254))) (λ q. bytes_cons 0xff _ (omega arith) (le32_bytes n)))
 
-labelled-bytes : (l m : List ℕ) (code : ℕ) (fields : List ℕ) → code < 256 → All m → All fields → All (labelledCodes l m code fields)
-unfolding labelledCodes addedCodes
-labelled-bytes l m code fields h f g =
-    bytes-append _ _ (shorten-bytes _ _)
-    (bytes-cons code _ h (bytes-append _ _ (bytes-append _ _ (old-length-bytes _) (record { below = bytes_drop m f.below (common l m) })) g))
+labelled_bytes : (l m : List ℕ) (code : ℕ) (fields : List ℕ) → code < 256 → All m → All fields → All (labelled_codes l m code fields)
+unfolding labelled_codes added_codes
+labelled_bytes l m code fields h f g =
+    bytes_append _ _ (shorten_bytes _ _)
+    (bytes_cons code _ h (bytes_append _ _ (bytes_append _ _ (old_length_bytes _) (record { below = bytes_drop m f.below (common l m) })) g))
 
-pub v7-codes-bytes : (st : State) (r : Record) → WellFormed r → LabelBytes r → All (v7Codes st r)
-unfolding dateIf moveIf v7SectionCodes
-v7-codes-bytes st (leg g label) w f =
-    let k = w.flags-fit in
-    let p = point-bytes toLe32 le32-bytes in
-    bytes-append _ _ (if-bytes _ _ (date-bytes v7-dates g.date w.date-fits))
-    (bytes-append _ _ (if-bytes _ _ (bytes-cons 0x0f _ (omega arith) (p g.from))) (labelled-bytes _ label (0x80 + g.flags) _ (omega arith) f (p g.to)))
-v7-codes-bytes st (station s label) w f =
-    let k = w.flags-fit in
-    labelled-bytes _ label (0x40 + s.flags) _ (omega arith) f (point-bytes toLe32 le32-bytes s.place)
-v7-codes-bytes st (section s label) w f =
+pub v7_codes_bytes : (st : State) (r : Record) → WellFormed r → LabelBytes r → All (v7_codes st r)
+unfolding date_if move_if v7_section_codes
+v7_codes_bytes st (leg g label) w f =
+    let k = w.flags_fit in
+    let p = point_bytes_lem to_le32 le32_bytes in
+    bytes_append _ _ (if_bytes _ _ (date_bytes_lem v7_dates_lem g.date w.date_fits))
+    (bytes_append _ _ (if_bytes _ _ (bytes_cons 0x0f _ (omega arith) (p g.from))) (labelled_bytes _ label (0x80 + g.flags) _ (omega arith) f (p g.to)))
+v7_codes_bytes st (station s label) w f =
+    let k = w.flags_fit in
+    labelled_bytes _ label (0x40 + s.flags) _ (omega arith) f (point_bytes_lem to_le32 le32_bytes s.place)
+v7_codes_bytes st (section s label) w f =
     let k = w.last_fits in
-    bytes-append _ _ (if-bytes _ _ (date-bytes v7-dates s.date w.date-fits))
-    (pick-case All _ _ _ (λ e. labelled-bytes _ label (0x30 + s.last) _ (omega arith) f (dimensions-bytes toLe16 le16-bytes s.size))
-    (λ e. labelled-bytes _ label (0x32 + s.last) _ (omega arith) f (dimensions-bytes toLe32 le32-bytes s.size)))
-v7-codes-bytes st (error t) w f = bytes-cons 0x22 _ (omega arith) (traverse-bytes toLe32 le32-bytes t)
+    bytes_append _ _ (if_bytes _ _ (date_bytes_lem v7_dates_lem s.date w.date_fits))
+    (pick_case All _ _ _ (λ e. labelled_bytes _ label (0x30 + s.last) _ (omega arith) f (dimensions_bytes to_le16 le16_bytes s.size))
+    (λ e. labelled_bytes _ label (0x32 + s.last) _ (omega arith) f (dimensions_bytes to_le32 le32_bytes s.size)))
+v7_codes_bytes st (error t) w f = bytes_cons 0x22 _ (omega arith) (traverse_bytes_lem to_le32 le32_bytes t)
 
 -- ---- files
 
 -- what a writer makes of a good header, of a record and of the end is bytes
 record WritesBytes (w : Writer) : Type 0 where
   pub head_bytes : (h : Header) → GoodHeader h → All h.title → All h.time → All (w.head h)
-  pub record-bytes : (st : State) (r : Record) → WellFormed r → LabelBytes r → All (w.codes st r)
-  pub end-bytes : (st : State) → All (w.closing st)
+  pub record_bytes : (st : State) (r : Record) → WellFormed r → LabelBytes r → All (w.codes st r)
+  pub end_bytes : (st : State) → All (w.closing st)
 
-v8-bytes : WritesBytes v8
-unfolding headerCodes
-v8-bytes =
+v8_bytes : WritesBytes v8
+unfolding header_codes
+v8_bytes =
     record {
       head_bytes = λ h g ft fm.
           (let x = g.extended_fits in
-          bytes-append magic _ magic-bytes
-          (bytes-cons 118 _ (omega arith) (bytes-cons 56 _ (omega arith) (bytes-cons 10 _ (omega arith)
-          (bytes-append _ _ ft (bytes-cons 10 _ (omega arith)
-          (bytes-append _ _ fm (bytes-cons 10 _ (omega arith) (bytes-cons (h.extended * 128) [] (omega arith) bytes-nil)))))))));
-      record-bytes = codes-bytes;
-      end-bytes = λ st. closing-bytes st.setting.style;
+          bytes_append magic _ magic_bytes
+          (bytes_cons 118 _ (omega arith) (bytes_cons 56 _ (omega arith) (bytes_cons 10 _ (omega arith)
+          (bytes_append _ _ ft (bytes_cons 10 _ (omega arith)
+          (bytes_append _ _ fm (bytes_cons 10 _ (omega arith) (bytes_cons (h.extended * 128) [] (omega arith) bytes_nil)))))))));
+      record_bytes = codes_bytes;
+      end_bytes = λ st. closing_bytes st.setting.style;
     }
 
-v7-bytes : WritesBytes v7
-unfolding v7HeaderCodes v7Closing
-v7-bytes =
+v7_bytes : WritesBytes v7
+unfolding v7_header_codes v7_closing
+v7_bytes =
     record {
       head_bytes = λ h g ft fm.
-          bytes-append magic _ magic-bytes
-          (bytes-cons 118 _ (omega arith) (bytes-cons 55 _ (omega arith) (bytes-cons 10 _ (omega arith)
-          (bytes-append _ _ ft (bytes-cons 10 _ (omega arith) (bytes-append _ _ fm (bytes-cons 10 [] (omega arith) bytes-nil)))))));
-      record-bytes = v7-codes-bytes;
-      end-bytes = λ st. pick-case All _ _ _ (λ e. bytes-cons 0x00 [] (omega arith) bytes-nil)
-          (λ e. bytes-cons 0x00 _ (omega arith) (bytes-cons 0x00 [] (omega arith) bytes-nil));
+          bytes_append magic _ magic_bytes
+          (bytes_cons 118 _ (omega arith) (bytes_cons 55 _ (omega arith) (bytes_cons 10 _ (omega arith)
+          (bytes_append _ _ ft (bytes_cons 10 _ (omega arith) (bytes_append _ _ fm (bytes_cons 10 [] (omega arith) bytes_nil)))))));
+      record_bytes = v7_codes_bytes;
+      end_bytes = λ st. pick_case All _ _ _ (λ e. bytes_cons 0x00 [] (omega arith) bytes_nil)
+          (λ e. bytes_cons 0x00 _ (omega arith) (bytes_cons 0x00 [] (omega arith) bytes_nil));
     }
 
 module _ {w : Writer} (B : WritesBytes w) where
-  all-bytes : (rs : List Record) (st : State) → AllWellFormed rs → AllLabelBytes rs → All (codesAll w st rs)
-  unfolding codesAll
-  all-bytes [] st g f = bytes-nil
-  all-bytes (r ∷ rs) st g f = bytes-append _ _ (B.record-bytes st r g.0 f.0) (all-bytes rs (w.after st r) g.1 f.1)
+  all_bytes_lem : (rs : List Record) (st : State) → AllWellFormed rs → AllLabelBytes rs → All (codes_all w st rs)
+  unfolding codes_all
+  all_bytes_lem [] st g f = bytes_nil
+  all_bytes_lem (r ∷ rs) st g f = bytes_append _ _ (B.record_bytes st r g.0 f.0) (all_bytes_lem rs (w.after st r) g.1 f.1)
 
   -- a good header and records whose texts are bytes give a file of bytes
-  file-bytes : (h : Header) (rs : List Record) → GoodHeader h → All h.title → All h.time → AllWellFormed rs → AllLabelBytes rs → All (fileOf w h rs)
-  unfolding fileOf encodeAll
-  file-bytes h rs g ft fm r f =
-      bytes-append _ _ (B.head_bytes h g ft fm) (bytes-append _ _ (all-bytes rs start r f) (B.end-bytes _))
+  file_bytes : (h : Header) (rs : List Record) → GoodHeader h → All h.title → All h.time → AllWellFormed rs → AllLabelBytes rs → All (file_of w h rs)
+  unfolding file_of encode_all
+  file_bytes h rs g ft fm r f =
+      bytes_append _ _ (B.head_bytes h g ft fm) (bytes_append _ _ (all_bytes_lem rs start r f) (B.end_bytes _))
 
-pub v8-file-bytes : (h : Header) (rs : List Record) → GoodHeader h → All h.title → All h.time → AllWellFormed rs → AllLabelBytes rs → All (fileOf v8 h rs)
-v8-file-bytes = file-bytes v8-bytes
+pub v8_file_bytes : (h : Header) (rs : List Record) → GoodHeader h → All h.title → All h.time → AllWellFormed rs → AllLabelBytes rs → All (file_of v8 h rs)
+v8_file_bytes = file_bytes v8_bytes
 
-pub v7-file-bytes : (h : Header) (rs : List Record) → GoodHeader h → All h.title → All h.time → AllWellFormed rs → AllLabelBytes rs → All (fileOf v7 h rs)
-v7-file-bytes = file-bytes v7-bytes
+pub v7_file_bytes : (h : Header) (rs : List Record) → GoodHeader h → All h.title → All h.time → AllWellFormed rs → AllLabelBytes rs → All (file_of v7 h rs)
+v7_file_bytes = file_bytes v7_bytes

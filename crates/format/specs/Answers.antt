@@ -3,7 +3,7 @@ use Rattle.std.specs.Prelude.{ℕ, List, [], ◌∷◌, ℤ}
 use Rattle.format.specs.Header.{Opening, shut, opened}
 use Rattle.format.specs.Refusals.{Outcome, accepted, refused}
 use Rattle.format.specs.Stepping.{StepOutcome, wrote, nothing, ends, refuses}
-use Rattle.format.specs.Times.{Comparison, first, second, equal, firstRefused, secondRefused}
+use Rattle.format.specs.Times.{Comparison, first, second, equal, first_refused, second_refused}
 use Rattle.format.specs.Reach.{ReachOutcome, spans, unspanned}
 use Rattle.format.specs.Viewer.{ViewOutcome, viewed, unviewed}
 use Rattle.format.specs.Summary.{SummaryOutcome, takes, untaken, EntrancesOutcome, holds, unheld}
@@ -35,48 +35,48 @@ pub data OpenOutcome : Type 0 where
   begun : ℕ → ℕ → OpenOutcome
   unopened : ℕ → ℕ → OpenOutcome
 
-abbrev pub openOutcome : Opening → OpenOutcome
-openOutcome (shut n p) = unopened n p
-openOutcome (opened version place h) = begun version place
+abbrev pub open_outcome : Opening → OpenOutcome
+open_outcome (shut n p) = unopened n p
+open_outcome (opened version place h) = begun version place
 
 abbrev pub opened_of : Opened → OpenOutcome
 opened_of (At version place) = begun version place
 opened_of (OpenRefused number place) = unopened number place
 
 -- "its record in a lent buffer, no record, the end, or the refusal"
-abbrev pub steppedOf : Stepped → StepOutcome
-steppedOf (Record bytes kept) = wrote bytes kept
-steppedOf Nothing = nothing
-steppedOf End = ends
-steppedOf (StepRefused number place) = refuses number place
+abbrev pub stepped_of : Stepped → StepOutcome
+stepped_of (Record bytes kept) = wrote bytes kept
+stepped_of Nothing = nothing
+stepped_of End = ends
+stepped_of (StepRefused number place) = refuses number place
 
 -- "first, second or same"; "a refusal names the file"
-abbrev pub laterOf : Later → Comparison
-laterOf First = first
-laterOf Second = second
-laterOf Same = equal
-laterOf (FirstRefused number place) = firstRefused number place
-laterOf (SecondRefused number place) = secondRefused number place
+abbrev pub later_of : Later → Comparison
+later_of First = first
+later_of Second = second
+later_of Same = equal
+later_of (FirstRefused number place) = first_refused number place
+later_of (SecondRefused number place) = second_refused number place
 
 -- #102: "the least and greatest x, y and z", "how many legs took part"
 abbrev pub row_of : Corner → List ℤ
 row_of c = c.x ∷ c.y ∷ c.z ∷ []
 
-abbrev pub reachedOf : Reached → ReachOutcome
-reachedOf (Box legs least greatest) = spans (row_of least ∷ row_of greatest ∷ []) legs
-reachedOf (Unreached number place) = unspanned number place
+abbrev pub reached_of : Reached → ReachOutcome
+reached_of (Box legs least greatest) = spans (row_of least ∷ row_of greatest ∷ []) legs
+reached_of (Unreached number place) = unspanned number place
 
 -- #104: "the answer is their count"
-abbrev pub viewedOf : Viewed → ViewOutcome
-viewedOf (Legs legs) = viewed legs
-viewedOf (Unviewed number place) = unviewed number place
+abbrev pub viewed_of : Viewed → ViewOutcome
+viewed_of (Legs legs) = viewed legs
+viewed_of (Unviewed number place) = unviewed number place
 
 -- #109: "how many entrances .. a stretch of records holds and where the next one is"
-abbrev pub entrancesOf : Entrances → EntrancesOutcome
-entrancesOf (Hold count next) = holds count next
-entrancesOf (Unheld number place) = unheld number place
+abbrev pub entrances_of : Entrances → EntrancesOutcome
+entrances_of (Hold count next) = holds count next
+entrances_of (Unheld number place) = unheld number place
 
 -- "Making it and bringing it up to date both answer the words it then takes"
-abbrev pub summedOf : Summed → SummaryOutcome
-summedOf (Takes words) = takes words
-summedOf (Untaken number place) = untaken number place
+abbrev pub summed_of : Summed → SummaryOutcome
+summed_of (Takes words) = takes words
+summed_of (Untaken number place) = untaken number place

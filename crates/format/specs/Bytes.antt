@@ -23,17 +23,17 @@ unfoldable pub be32 : List ℕ → ℕ
 be32 s = get_or s 0 0 * 16777216 + get_or s 1 0 * 65536 + get_or s 2 0 * 256 + get_or s 3 0
 
 -- the bytes of a number: its lowest 16 or 32 bits
-unfoldable pub toLe16 : ℕ → List ℕ
-toLe16 n = n % 256 ∷ n / 256 % 256 ∷ []
+unfoldable pub to_le16 : ℕ → List ℕ
+to_le16 n = n % 256 ∷ n / 256 % 256 ∷ []
 
-unfoldable pub toLe32 : ℕ → List ℕ
-toLe32 n = n % 256 ∷ n / 256 % 256 ∷ n / 65536 % 256 ∷ n / 16777216 % 256 ∷ []
+unfoldable pub to_le32 : ℕ → List ℕ
+to_le32 n = n % 256 ∷ n / 256 % 256 ∷ n / 65536 % 256 ∷ n / 16777216 % 256 ∷ []
 
-unfoldable pub toBe16 : ℕ → List ℕ
-toBe16 n = n / 256 % 256 ∷ n % 256 ∷ []
+unfoldable pub to_be16 : ℕ → List ℕ
+to_be16 n = n / 256 % 256 ∷ n % 256 ∷ []
 
-unfoldable pub toBe32 : ℕ → List ℕ
-toBe32 n = n / 16777216 % 256 ∷ n / 65536 % 256 ∷ n / 256 % 256 ∷ n % 256 ∷ []
+unfoldable pub to_be32 : ℕ → List ℕ
+to_be32 n = n / 16777216 % 256 ∷ n / 65536 % 256 ∷ n / 256 % 256 ∷ n % 256 ∷ []
 
 -- an i16's bit pattern as that of the same number in an i32
 unfoldable pub widened : ℕ → ℕ

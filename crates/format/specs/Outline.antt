@@ -8,39 +8,39 @@ use Rattle.format.specs.Reading.{next}
 -- ---- the sentence
 
 -- the least of a number and those of a list
-unfoldable pub leastOf : ℕ → List ℕ → ℕ
-leastOf n [] = n
-leastOf n (m ∷ ms) = min m (leastOf n ms)
+unfoldable pub least_of : ℕ → List ℕ → ℕ
+least_of n [] = n
+least_of n (m ∷ ms) = min m (least_of n ms)
 
 -- what an item's own drop leaves of a label: of an item that carries a label, the bytes before those that it appends; an item of no label
 -- keeps none
-abbrev pub ownDrop : List ℕ → Item → ℕ
-ownDrop l Stop = 0
-ownDrop l (Shorten cut) = 0
-ownDrop l (Style k) = 0
-ownDrop l (Move p) = 0
-ownDrop l NoDate = 0
-ownDrop l (Date first last) = 0
-ownDrop l (Error t) = 0
-ownDrop l (Xsect last dims d added) = length l - d
-ownDrop l (Label flags p d added) = length l - d
-ownDrop l (Line flags p d added) = length l - d
+abbrev pub own_drop : List ℕ → Item → ℕ
+own_drop l Stop = 0
+own_drop l (Shorten cut) = 0
+own_drop l (Style k) = 0
+own_drop l (Move p) = 0
+own_drop l NoDate = 0
+own_drop l (Date first last) = 0
+own_drop l (Error t) = 0
+own_drop l (Xsect last dims d added) = length l - d
+own_drop l (Label flags p d added) = length l - d
+own_drop l (Line flags p d added) = length l - d
 
-abbrev pub dropLeaves : List ℕ → Decoded → ℕ
-dropLeaves l (faulty k) = 0
-dropLeaves l (whole n it) = ownDrop l it
+abbrev pub drop_leaves : List ℕ → Decoded → ℕ
+drop_leaves l (faulty k) = 0
+drop_leaves l (whole n it) = own_drop l it
 
 -- THE SENTENCE: the bytes kept by an item, of the lengths that the label had in its stretch. Between two items that carry a label nothing
--- lengthens it, so this is what the item's own drop leaves: the law `kept-is-drop`
-abbrev pub keptOver : List ℕ → List ℕ → Decoded → ℕ
-keptOver lengths l it = leastOf (dropLeaves l it) lengths
+-- lengthens it, so this is what the item's own drop leaves: the law `kept_is_drop`
+abbrev pub kept_over : List ℕ → List ℕ → Decoded → ℕ
+kept_over lengths l it = least_of (drop_leaves l it) lengths
 
 -- "the previous item that carried a label": a leg, a station and a section carry one
-abbrev pub carriesLabel : Record → List ℕ → List ℕ → List ℕ
-carriesLabel (leg g label) fresh old = fresh
-carriesLabel (station s label) fresh old = fresh
-carriesLabel (section s label) fresh old = fresh
-carriesLabel (error t) fresh old = old
+abbrev pub carries_label : Record → List ℕ → List ℕ → List ℕ
+carries_label (leg g label) fresh old = fresh
+carries_label (station s label) fresh old = fresh
+carries_label (section s label) fresh old = fresh
+carries_label (error t) fresh old = old
 
 -- the stretch at a place of a file: the label of the previous item that carried one (at first the empty label, "since the start"), and the
 -- lengths that the current label had since then, the latest first and that at the start of the stretch last
@@ -49,4 +49,4 @@ pub data Stretch (version : ℕ) (file : List ℕ) (first : ℕ) : ℕ → State
   goes : {p : ℕ} {st : State} {before lengths : List ℕ} (n : ℕ) (st' : State) → Stretch version file first p st before lengths → next version (drop p file) st ≡ on n st'
       → Stretch version file first (p + n) st' before (length st'.label ∷ lengths)
   makes : {p : ℕ} {st : State} {before lengths : List ℕ} (n : ℕ) (r : Record) (st' : State) → Stretch version file first p st before lengths → next version (drop p file) st ≡ made n r st'
-      → Stretch version file first (p + n) st' (carriesLabel r st'.label before) (carriesLabel r (length st'.label ∷ []) lengths)
+      → Stretch version file first (p + n) st' (carries_label r st'.label before) (carries_label r (length st'.label ∷ []) lengths)

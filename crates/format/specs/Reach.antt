@@ -4,7 +4,7 @@ use Rattle.std.specs.Int.Signed.{lt_z}
 use Rattle.format.specs.Bytes.{pick, same}
 use Rattle.format.specs.State.{Record, leg, station, section, error}
 use Rattle.format.specs.Refusals.{Result}
-use Rattle.format.specs.Sheet.{sheetResult}
+use Rattle.format.specs.Sheet.{sheet_result}
 use Rattle.format.specs.declared.Point.{Point}
 use Rattle.format.specs.declared.Leg.{Leg}
 use Rattle.format.specs.declared.Verdict.{Verdict}
@@ -16,14 +16,14 @@ use Rattle.format.specs.declared.Verdict.TheVariants.{Good, Refusal}
 unfoldable pub signed : ℕ → ℤ
 signed n = pick (ltb n 0x80000000) (pos n) (negsuc (0xffffffff - n))
 
-abbrev pub axisX : Point → ℤ
-axisX p = signed p.x
+abbrev pub axis_x : Point → ℤ
+axis_x p = signed p.x
 
-abbrev pub axisY : Point → ℤ
-axisY p = signed p.y
+abbrev pub axis_y : Point → ℤ
+axis_y p = signed p.y
 
-abbrev pub axisZ : Point → ℤ
-axisZ p = signed p.z
+abbrev pub axis_z : Point → ℤ
+axis_z p = signed p.z
 
 -- ---- the legs that take part
 
@@ -35,15 +35,15 @@ abbrev pub dot : ℕ
 dot = 0x2e
 
 -- "every leg whose label is that name, or begins with it and then a dot. The empty name takes all legs"
-unfoldable pub takesPart : List ℕ → List ℕ → Bool
-takesPart name label = eqb (length name) 0 || (same label name || begins (name ++ (dot ∷ [])) label)
+unfoldable pub takes_part : List ℕ → List ℕ → Bool
+takes_part name label = eqb (length name) 0 || (same label name || begins (name ++ (dot ∷ [])) label)
 
-unfoldable pub legsOf : List ℕ → List Record → List Leg
-legsOf name [] = []
-legsOf name (leg g label ∷ rs) = pick (takesPart name label) (g ∷ legsOf name rs) (legsOf name rs)
-legsOf name (station s label ∷ rs) = legsOf name rs
-legsOf name (section s label ∷ rs) = legsOf name rs
-legsOf name (error t ∷ rs) = legsOf name rs
+unfoldable pub legs_of : List ℕ → List Record → List Leg
+legs_of name [] = []
+legs_of name (leg g label ∷ rs) = pick (takes_part name label) (g ∷ legs_of name rs) (legs_of name rs)
+legs_of name (station s label ∷ rs) = legs_of name rs
+legs_of name (section s label ∷ rs) = legs_of name rs
+legs_of name (error t ∷ rs) = legs_of name rs
 
 -- "both ends of every leg"
 unfoldable pub ends : List Leg → List Point
@@ -73,8 +73,8 @@ lowest = negsuc 0x7fffffff
 -- two rows of three: the least x, y and z, and the greatest
 unfoldable pub bounds_of : List Point → List (List ℤ)
 bounds_of ps =
-    (along lesser axisX highest ps ∷ along lesser axisY highest ps ∷ along lesser axisZ highest ps ∷ [])
-    ∷ (along greater axisX lowest ps ∷ along greater axisY lowest ps ∷ along greater axisZ lowest ps ∷ [])
+    (along lesser axis_x highest ps ∷ along lesser axis_y highest ps ∷ along lesser axis_z highest ps ∷ [])
+    ∷ (along greater axis_x lowest ps ∷ along greater axis_y lowest ps ∷ along greater axis_z lowest ps ∷ [])
     ∷ []
 
 -- ---- the answer
@@ -85,16 +85,16 @@ pub data ReachOutcome : Type 0 where
   unspanned : ℕ → ℕ → ReachOutcome
 
 -- "21, place 0, when no leg takes part"
-abbrev pub legsReach : List Leg → ReachOutcome
-legsReach gs = pick (eqb (length gs) 0) (unspanned 21 0) (spans (bounds_of (ends gs)) (length gs))
+abbrev pub legs_reach : List Leg → ReachOutcome
+legs_reach gs = pick (eqb (length gs) 0) (unspanned 21 0) (spans (bounds_of (ends gs)) (length gs))
 
 -- "12 as for writing, then 21"
-abbrev pub reachFrom : Verdict → List Leg → ReachOutcome
-reachFrom (Refusal n p) gs = unspanned n p
-reachFrom Good gs = legsReach gs
+abbrev pub reach_from : Verdict → List Leg → ReachOutcome
+reach_from (Refusal n p) gs = unspanned n p
+reach_from Good gs = legs_reach gs
 
-abbrev pub resultReach : List ℕ → Result → ReachOutcome
-resultReach name x = reachFrom x.verdict (legsOf name x.records)
+abbrev pub result_reach : List ℕ → Result → ReachOutcome
+result_reach name x = reach_from x.verdict (legs_of name x.records)
 
-unfoldable pub reachOf : List ℕ → List ℕ → ReachOutcome
-reachOf sheet name = resultReach name (sheetResult sheet)
+unfoldable pub reach_of : List ℕ → List ℕ → ReachOutcome
+reach_of sheet name = result_reach name (sheet_result sheet)

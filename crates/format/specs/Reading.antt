@@ -2,11 +2,11 @@
 -- holds. Assumes nothing.
 use Rattle.std.specs.Prelude.{ℕ, ◌+◌, ◌≡◌, List, [], length, drop, ltb}
 use Rattle.format.specs.Bytes.{pick}
-use Rattle.format.specs.Header.{Opening, shut, opened, openingOf}
+use Rattle.format.specs.Header.{Opening, shut, opened, opening_of}
 use Rattle.format.specs.Items.{item_of}
 use Rattle.format.specs.State.{State, start, Record, Next, bad, end, on, made, next_of}
-use Rattle.format.specs.Sheet.{sheetVersion, sheetOf}
-use Rattle.format.specs.Refusals.{Result, stop, also, Outcome, refused, outcomeOf, bufferOf}
+use Rattle.format.specs.Sheet.{sheet_version, sheet_of}
+use Rattle.format.specs.Refusals.{Result, stop, also, Outcome, refused, outcome_of, buffer_of}
 use Rattle.format.specs.declared.Verdict.TheVariants.{Good, Refusal}
 use Rattle.format.specs.declared.Verdict.{Verdict}
 use Rattle.format.specs.Iterate.{iter}
@@ -22,16 +22,16 @@ unfoldable pub ended : ℕ → List ℕ → Verdict
 ended at s = pick (ltb 1 (length s)) (Refusal 10 (at + 1)) Good
 
 -- a refusal has the item's place; a record joins those that follow
-abbrev pub afterItem : Next → ℕ → List ℕ → (ℕ → State → Result) → Result
-afterItem (bad k) at s go = stop (Refusal k at)
-afterItem end at s go = stop (ended at s)
-afterItem (on n st) at s go = go n st
-afterItem (made n r st) at s go = also r (go n st)
+abbrev pub after_item : Next → ℕ → List ℕ → (ℕ → State → Result) → Result
+after_item (bad k) at s go = stop (Refusal k at)
+after_item end at s go = stop (ended at s)
+after_item (on n st) at s go = go n st
+after_item (made n r st) at s go = also r (go n st)
 
 unfoldable pub read_step : ℕ → ℕ → List ℕ → State → (ℕ → State → Result) → Result
-read_step version at s st go = afterItem (next version s st) at s go
+read_step version at s st go = after_item (next version s st) at s go
 
--- the records that the items of s make from a state on, with `at` bytes before s, and why reading stops: the law `run-eq` is its equation
+-- the records that the items of s make from a state on, with `at` bytes before s, and why reading stops: the law `run_eq` is its equation
 unfoldable pub run : ℕ → ℕ → List ℕ → State → Result
 run version at s st = iter (read_step version) (λ p. stop (Refusal 5 p)) at s st
 
@@ -47,20 +47,20 @@ pub data Reached (version : ℕ) (file : List ℕ) (first : ℕ) : ℕ → State
 unfoldable pub items_of : ℕ → ℕ → List ℕ → Result
 items_of version place file = run version place (drop place file) start
 
-abbrev pub readFrom : Opening → List ℕ → ℕ → Outcome
-readFrom (shut n p) file room = refused n p
-readFrom (opened version place h) file room =
+abbrev pub read_from : Opening → List ℕ → ℕ → Outcome
+read_from (shut n p) file room = refused n p
+read_from (opened version place h) file room =
     let x = items_of version place file in
-    outcomeOf x.verdict (length (sheetOf sheetVersion h x.records)) (length x.records) version room
+    outcome_of x.verdict (length (sheet_of sheet_version h x.records)) (length x.records) version room
 
-abbrev pub sheetFrom : Opening → List ℕ → List ℕ
-sheetFrom (shut n p) file = []
-sheetFrom (opened version place h) file = sheetOf sheetVersion h (items_of version place file).records
+abbrev pub sheet_from : Opening → List ℕ → List ℕ
+sheet_from (shut n p) file = []
+sheet_from (opened version place h) file = sheet_of sheet_version h (items_of version place file).records
 
 -- the answer of reading a file into a sheet with room for so many bytes
-unfoldable pub readOutcome : List ℕ → ℕ → Outcome
-readOutcome file room = readFrom (openingOf file) file room
+unfoldable pub read_outcome : List ℕ → ℕ → Outcome
+read_outcome file room = read_from (opening_of file) file room
 
 -- what a lent sheet then holds
-unfoldable pub readBuffer : List ℕ → List ℕ → List ℕ
-readBuffer file old = bufferOf (readOutcome file (length old)) (sheetFrom (openingOf file) file) old
+unfoldable pub read_buffer : List ℕ → List ℕ → List ℕ
+read_buffer file old = buffer_of (read_outcome file (length old)) (sheet_from (opening_of file) file) old

@@ -12,8 +12,8 @@ or_else Good v = v
 or_else (Refusal n p) v = Refusal n p
 
 -- the numbers in "Reading: 16, 1, 2, 3, the v8 byte, then items in order; in an item 4, 5, 6, 7, 9, 8; then 10, then 11"
-abbrev pub readerNumber : ℕ → Bool
-readerNumber n = leb 1 n && (leb n 11 || eqb n 16)
+abbrev pub reader_number : ℕ → Bool
+reader_number n = leb 1 n && (leb n 11 || eqb n 16)
 
 -- ---- the records made before a reading stopped, and why it stopped
 
@@ -35,12 +35,12 @@ pub data Outcome : Type 0 where
   refused : ℕ → ℕ → Outcome
 
 -- 11 comes last, with the length needed
-abbrev pub outcomeOf : Verdict → ℕ → ℕ → ℕ → ℕ → Outcome
-outcomeOf (Refusal n p) bytes records version room = refused n p
-outcomeOf Good bytes records version room = pick (ltb room bytes) (refused 11 bytes) (accepted bytes records version)
+abbrev pub outcome_of : Verdict → ℕ → ℕ → ℕ → ℕ → Outcome
+outcome_of (Refusal n p) bytes records version room = refused n p
+outcome_of Good bytes records version room = pick (ltb room bytes) (refused 11 bytes) (accepted bytes records version)
 
 -- "A refusal leaves lent memory untouched. Success writes from the front, leaves the rest"; "lent" is document 01's word for a buffer
 -- that the caller gives for the time of a call
-abbrev pub bufferOf : Outcome → List ℕ → List ℕ → List ℕ
-bufferOf (accepted b n v) new old = over new old
-bufferOf (refused n p) new old = old
+abbrev pub buffer_of : Outcome → List ℕ → List ℕ → List ℕ
+buffer_of (accepted b n v) new old = over new old
+buffer_of (refused n p) new old = old

@@ -1,7 +1,7 @@
 -- State and records, document 01, "State and sheet": what an item does to the state, with refusals 6, 7, 9, 8. Assumes nothing.
 use Rattle.std.specs.Prelude.{ℕ, List, [], Bool, ◌&&◌, ◌||◌, length, eqb, ltb}
 use Rattle.format.specs.Bytes.{pick}
-use Rattle.format.specs.Label.{Labelled, tooShort, tooLong, labelled, labelStep}
+use Rattle.format.specs.Label.{Labelled, too_short, too_long, labelled, label_step}
 use Rattle.format.specs.declared.Cut.TheVariants.{Empty, Back}
 use Rattle.format.specs.Items.{Item, Stop, Shorten, Style, Move, NoDate, Date, Error, Xsect, Label, Line, Decoded, faulty, whole}
 use Rattle.format.specs.declared.Point.{Point}
@@ -21,15 +21,15 @@ pub record State : Type 0 where
   pub setting : Setting
 
 -- the style "not said"
-abbrev pub notSaid : ℕ
-notSaid = 5
+abbrev pub not_said : ℕ
+not_said = 5
 
 -- "At the start the label is empty, the date none, the style "not said" (5 ..), the position unset"
-abbrev pub startSetting : Setting
-startSetting = record { style = notSaid; date = Undated; position = Unset }
+abbrev pub start_setting : Setting
+start_setting = record { style = not_said; date = Undated; position = Unset }
 
 abbrev pub start : State
-start = record { label = []; setting = startSetting }
+start = record { label = []; setting = start_setting }
 
 -- a record of a sheet, other than its header: what it says, and its label
 pub data Record : Type 0 where
@@ -46,8 +46,8 @@ named l st = record { label = l; setting = st.setting }
 abbrev pub styled : ℕ → State → State
 styled n st = record { label = st.label; setting = record { style = n; date = st.setting.date; position = st.setting.position } }
 
-abbrev pub datedBy : Dated → State → State
-datedBy d st = record { label = st.label; setting = record { style = st.setting.style; date = d; position = st.setting.position } }
+abbrev pub dated_by : Dated → State → State
+dated_by d st = record { label = st.label; setting = record { style = st.setting.style; date = d; position = st.setting.position } }
 
 abbrev pub moved : Point → State → State
 moved p st = record { label = st.label; setting = record { style = st.setting.style; date = st.setting.date; position = Stands p } }
@@ -62,40 +62,40 @@ pub data Next : Type 0 where
   made : ℕ → Record → State → Next
 
 -- "A range of equal days is a single day"
-unfoldable pub dateOf : ℕ → ℕ → Dated
-dateOf first last = pick (eqb first last) (Day first) (Range first last)
+unfoldable pub date_of : ℕ → ℕ → Dated
+date_of first last = pick (eqb first last) (Day first) (Range first last)
 
 -- 9: "last day before first, or day over 65535" (a first day over 65535 has a last day over it or before it)
-unfoldable pub badDates : ℕ → ℕ → Bool
-badDates first last = ltb last first || ltb 65535 last
+unfoldable pub bad_dates : ℕ → ℕ → Bool
+bad_dates first last = ltb last first || ltb 65535 last
 
 -- 6 and 7 before whatever else an item with a label comes to
-abbrev pub onLabel : Labelled → (List ℕ → Next) → Next
-onLabel tooShort go = bad 6
-onLabel tooLong go = bad 7
-onLabel (labelled l) go = go l
+abbrev pub on_label : Labelled → (List ℕ → Next) → Next
+on_label too_short go = bad 6
+on_label too_long go = bad 7
+on_label (labelled l) go = go l
 
 -- a leg from the position; 8: "LINE with no position"
-abbrev pub legFrom : Position → ℕ → State → ℕ → Point → List ℕ → Next
-legFrom Unset n st flags to l = bad 8
-legFrom (Stands from) n st flags to l = made n (leg (record { flags = flags; style = st.setting.style; date = st.setting.date; from = from; to = to }) l) (moved to (named l st))
+abbrev pub leg_from : Position → ℕ → State → ℕ → Point → List ℕ → Next
+leg_from Unset n st flags to l = bad 8
+leg_from (Stands from) n st flags to l = made n (leg (record { flags = flags; style = st.setting.style; date = st.setting.date; from = from; to = to }) l) (moved to (named l st))
 
 -- what an item of n bytes does to the state
 abbrev pub apply : State → ℕ → Item → Next
-apply st n Stop = pick (eqb (length st.label) 0) end (onLabel (labelStep st.label Empty []) (λ l. on n (named l st)))
-apply st n (Shorten cut) = onLabel (labelStep st.label cut []) (λ l. on n (named l st))
+apply st n Stop = pick (eqb (length st.label) 0) end (on_label (label_step st.label Empty []) (λ l. on n (named l st)))
+apply st n (Shorten cut) = on_label (label_step st.label cut []) (λ l. on n (named l st))
 -- "00 when the style is already normal is the end"
 apply st n (Style k) = pick (eqb k 0 && eqb st.setting.style 0) end (on n (styled k st))
 -- "A MOVE makes no record"
 apply st n (Move p) = on n (moved p st)
-apply st n NoDate = on n (datedBy Undated st)
-apply st n (Date first last) = pick (badDates first last) (bad 9) (on n (datedBy (dateOf first last) st))
+apply st n NoDate = on n (dated_by Undated st)
+apply st n (Date first last) = pick (bad_dates first last) (bad 9) (on n (dated_by (date_of first last) st))
 apply st n (Error t) = made n (error t) st
 -- #106: "Survex puts the date in force on sections as well"
 apply st n (Xsect last dims d added) =
-    onLabel (labelStep st.label (Back d) added) (λ l. made n (section (record { last = last; date = st.setting.date; size = dims }) l) (named l st))
-apply st n (Label flags p d added) = onLabel (labelStep st.label (Back d) added) (λ l. made n (station (record { flags = flags; place = p }) l) (named l st))
-apply st n (Line flags p d added) = onLabel (labelStep st.label (Back d) added) (λ l. legFrom st.setting.position n st flags p l)
+    on_label (label_step st.label (Back d) added) (λ l. made n (section (record { last = last; date = st.setting.date; size = dims }) l) (named l st))
+apply st n (Label flags p d added) = on_label (label_step st.label (Back d) added) (λ l. made n (station (record { flags = flags; place = p }) l) (named l st))
+apply st n (Line flags p d added) = on_label (label_step st.label (Back d) added) (λ l. leg_from st.setting.position n st flags p l)
 
 -- 4 and 5 first
 abbrev pub next_of : State → Decoded → Next

@@ -4,7 +4,7 @@ use Rattle.std.specs.Prelude.{ℕ, zero, suc, ◌+◌, ◌*◌, ◌-◌, ◌/◌
 use Rattle.format.specs.Bytes.{pick, over}
 use Rattle.format.specs.State.{Record, leg, station, section, error}
 use Rattle.format.specs.Refusals.{Result, or_else}
-use Rattle.format.specs.Sheet.{sheetVersion, recordsOf, sheetResult}
+use Rattle.format.specs.Sheet.{sheet_version, records_of, sheet_result}
 use Rattle.format.specs.declared.Station.{Station}
 use Rattle.format.specs.declared.Verdict.{Verdict}
 use Rattle.format.specs.declared.Verdict.TheVariants.{Good, Refusal}
@@ -21,8 +21,8 @@ entrance (section s label) = false
 entrance (error t) = false
 
 -- "a mark for each record"
-unfoldable pub marksIn : List Record → List Bool
-marksIn rs = map entrance rs
+unfoldable pub marks_in : List Record → List Bool
+marks_in rs = map entrance rs
 
 abbrev pub one : Bool → ℕ
 one true = 1
@@ -37,14 +37,14 @@ marked (b ∷ ms) = one b + marked ms
 unfoldable pub count_of : List Bool → ℕ → ℕ → ℕ
 count_of ms a b = marked (take (b - a) (drop a ms))
 
-unfoldable pub firstFrom : ℕ → List Bool → NextEntrance
-firstFrom i [] = Nowhere
-firstFrom i (true ∷ ms) = At i
-firstFrom i (false ∷ ms) = firstFrom (suc i) ms
+unfoldable pub first_from : ℕ → List Bool → NextEntrance
+first_from i [] = Nowhere
+first_from i (true ∷ ms) = At i
+first_from i (false ∷ ms) = first_from (suc i) ms
 
 -- "The next entrance is the least marked record at or after a, even past b"
 unfoldable pub next_of : List Bool → ℕ → NextEntrance
-next_of ms a = firstFrom a (drop a ms)
+next_of ms a = first_from a (drop a ms)
 
 -- ---- the summary
 
@@ -59,18 +59,18 @@ word_of [] = 0
 word_of (b ∷ ms) = one b + 2 * word_of ms
 
 -- "64 to a word"
-abbrev pub wordsFor : ℕ → ℕ
-wordsFor n = (n + 63) / 64
+abbrev pub words_for : ℕ → ℕ
+words_for n = (n + 63) / 64
 
 -- marks and totals: the words that the summary of n records takes
 abbrev pub needed : ℕ → ℕ
-needed n = 2 * wordsFor n
+needed n = 2 * words_for n
 
 -- "All marks come first, .. then the totals": "a running total at each word's start"
 unfoldable pub summary : List Bool → List ℕ
 summary ms =
-    each (wordsFor (length ms)) (λ j. word_of (take 64 (drop (64 * j) ms)))
-    ++ each (wordsFor (length ms)) (λ j. marked (take (64 * j) ms))
+    each (words_for (length ms)) (λ j. word_of (take 64 (drop (64 * j) ms)))
+    ++ each (words_for (length ms)) (λ j. marked (take (64 * j) ms))
 
 -- ---- the marks that any words hold, whoever made them
 
@@ -83,8 +83,8 @@ unfoldable pub bit_at : List ℕ → ℕ → ℕ
 bit_at ws i = bit (get_or ws (i / 64) 0) (i % 64)
 
 -- the marks of n records; totals are not looked at
-unfoldable pub marksOf : ℕ → List ℕ → List Bool
-marksOf n ws = each n (λ i. eqb (bit_at ws i) 1)
+unfoldable pub marks_of : ℕ → List ℕ → List Bool
+marks_of n ws = each n (λ i. eqb (bit_at ws i) 1)
 
 -- ---- making it: "12, then 11 with the words needed"
 
@@ -94,27 +94,27 @@ pub data SummaryOutcome : Type 0 where
   untaken : ℕ → ℕ → SummaryOutcome
 
 -- 11 comes last, with the words needed; so many are then taken
-abbrev pub summedFrom : Verdict → ℕ → ℕ → ℕ → SummaryOutcome
-summedFrom (Refusal n p) most words room = untaken n p
-summedFrom Good most words room = pick (ltb room most) (untaken 11 most) (takes words)
+abbrev pub summed_from : Verdict → ℕ → ℕ → ℕ → SummaryOutcome
+summed_from (Refusal n p) most words room = untaken n p
+summed_from Good most words room = pick (ltb room most) (untaken 11 most) (takes words)
 
 -- "A refusal leaves lent memory untouched. Success writes from the front, leaves the rest"
-abbrev pub wordsBy : SummaryOutcome → List ℕ → List ℕ → List ℕ
-wordsBy (takes n) new old = over new old
-wordsBy (untaken n p) new old = old
+abbrev pub words_by : SummaryOutcome → List ℕ → List ℕ → List ℕ
+words_by (takes n) new old = over new old
+words_by (untaken n p) new old = old
 
-abbrev pub madeOutcome : Result → ℕ → SummaryOutcome
-madeOutcome x room = summedFrom x.verdict (needed (length x.records)) (needed (length x.records)) room
+abbrev pub made_outcome : Result → ℕ → SummaryOutcome
+made_outcome x room = summed_from x.verdict (needed (length x.records)) (needed (length x.records)) room
 
-abbrev pub madeWords : Result → List ℕ → List ℕ
-madeWords x old = wordsBy (madeOutcome x (length old)) (summary (marksIn x.records)) old
+abbrev pub made_words : Result → List ℕ → List ℕ
+made_words x old = words_by (made_outcome x (length old)) (summary (marks_in x.records)) old
 
 -- 12 as for writing, both versions of a sheet
-unfoldable pub summaryOutcome : List ℕ → ℕ → SummaryOutcome
-summaryOutcome sheet room = madeOutcome (sheetResult sheet) room
+unfoldable pub summary_outcome : List ℕ → ℕ → SummaryOutcome
+summary_outcome sheet room = made_outcome (sheet_result sheet) room
 
-unfoldable pub summaryWords : List ℕ → List ℕ → List ℕ
-summaryWords sheet old = madeWords (sheetResult sheet) old
+unfoldable pub summary_words : List ℕ → List ℕ → List ℕ
+summary_words sheet old = made_words (sheet_result sheet) old
 
 -- ---- a question, "given the summary and the record count"
 
@@ -133,41 +133,41 @@ looked ms a b = pick (outside (length ms) a b) (unheld 15 (length ms)) (holds (c
 
 -- the marks before record k: the total at the start of the word that holds the record before it, and the ones of that word below k. Totals are
 -- what the words say, numbers of 64 bits
-unfoldable pub rankIn : List ℕ → ℕ → ℕ → ℕ
-rankIn ws n k =
+unfoldable pub rank_in : List ℕ → ℕ → ℕ → ℕ
+rank_in ws n k =
     pick (eqb k 0) 0
-    ((get_or ws (wordsFor n + (k - 1) / 64) 0 + count_of (marksOf n ws) ((k - 1) / 64 * 64) k) % 2 ^ 64)
+    ((get_or ws (words_for n + (k - 1) / 64) 0 + count_of (marks_of n ws) ((k - 1) / 64 * 64) k) % 2 ^ 64)
 
 -- by the totals: below 2 ^ 64, and nothing else holds of it, where the words are no summary of the sheet
-unfoldable pub countIn : List ℕ → ℕ → ℕ → ℕ → ℕ
-countIn ws n a b = (rankIn ws n b + (2 ^ 64 - rankIn ws n a)) % 2 ^ 64
+unfoldable pub count_in : List ℕ → ℕ → ℕ → ℕ → ℕ
+count_in ws n a b = (rank_in ws n b + (2 ^ 64 - rank_in ws n a)) % 2 ^ 64
 
 -- "in a question 11 for a summary too short, then 15"; the next entrance is that of the marks that the words hold
-unfoldable pub entrancesOutcome : List ℕ → ℕ → ℕ → ℕ → EntrancesOutcome
-entrancesOutcome ws n a b =
+unfoldable pub entrances_outcome : List ℕ → ℕ → ℕ → ℕ → EntrancesOutcome
+entrances_outcome ws n a b =
     pick (ltb (length ws) (needed n)) (unheld 11 (needed n))
     (pick (outside n a b) (unheld 15 n)
-    (holds (countIn ws n a b) (next_of (marksOf n ws) a)))
+    (holds (count_in ws n a b) (next_of (marks_of n ws) a)))
 
 -- ---- bringing it up to date: "from the old record count, the run and the replacement"
 
 -- the marks after a run was replaced
-unfoldable pub editedMarks : List Bool → ℕ → ℕ → List Bool → List Bool
-editedMarks ms first count new = take first ms ++ (new ++ drop (first + count) ms)
+unfoldable pub edited_marks : List Bool → ℕ → ℕ → List Bool → List Bool
+edited_marks ms first count new = take first ms ++ (new ++ drop (first + count) ms)
 
 -- 15 "as for an edit": "first record plus count above the record count", at the record count
-unfoldable pub countVerdict : ℕ → ℕ → ℕ → Verdict
-countVerdict n first count = pick (ltb n (first + count)) (Refusal 15 n) Good
+unfoldable pub count_verdict : ℕ → ℕ → ℕ → Verdict
+count_verdict n first count = pick (ltb n (first + count)) (Refusal 15 n) Good
 
 -- "15 and 12 as for an edit, then 11 with the words that the longer of old and new needs"
-abbrev pub updatedOutcome : ℕ → ℕ → ℕ → Result → ℕ → SummaryOutcome
-updatedOutcome n first count x room =
-    summedFrom (or_else (countVerdict n first count) x.verdict) (max (needed n) (needed (n - count + length x.records))) (needed (n - count + length x.records)) room
+abbrev pub updated_outcome : ℕ → ℕ → ℕ → Result → ℕ → SummaryOutcome
+updated_outcome n first count x room =
+    summed_from (or_else (count_verdict n first count) x.verdict) (max (needed n) (needed (n - count + length x.records))) (needed (n - count + length x.records)) room
 
-unfoldable pub updateOutcome : ℕ → ℕ → ℕ → List ℕ → ℕ → SummaryOutcome
-updateOutcome n first count new room = updatedOutcome n first count (recordsOf sheetVersion new) room
+unfoldable pub update_outcome : ℕ → ℕ → ℕ → List ℕ → ℕ → SummaryOutcome
+update_outcome n first count new room = updated_outcome n first count (records_of sheet_version new) room
 
 -- "in its place": the summary of the edited marks, whatever words were there
-unfoldable pub updateWords : ℕ → ℕ → ℕ → List ℕ → List ℕ → List ℕ
-updateWords n first count new old =
-    wordsBy (updateOutcome n first count new (length old)) (summary (editedMarks (marksOf n old) first count (marksIn (recordsOf sheetVersion new).records))) old
+unfoldable pub update_words : ℕ → ℕ → ℕ → List ℕ → List ℕ → List ℕ
+update_words n first count new old =
+    words_by (update_outcome n first count new (length old)) (summary (edited_marks (marks_of n old) first count (marks_in (records_of sheet_version new).records))) old

@@ -6,8 +6,8 @@ use Rattle.std.specs.Float.Ieee.Exact.{HasValue}
 use Rattle.format.specs.Bytes.{pick}
 use Rattle.format.specs.State.{Record, leg, station, section, error}
 use Rattle.format.specs.Refusals.{Result, or_else}
-use Rattle.format.specs.Sheet.{sheetResult}
-use Rattle.format.specs.Reach.{axisX, axisY, axisZ, legsOf}
+use Rattle.format.specs.Sheet.{sheet_result}
+use Rattle.format.specs.Reach.{axis_x, axis_y, axis_z, legs_of}
 use Rattle.format.specs.declared.Point.{Point}
 use Rattle.format.specs.declared.Corner.{Corner}
 use Rattle.format.specs.declared.Origin.{Origin}
@@ -19,27 +19,27 @@ use Rattle.format.specs.declared.Verdict.TheVariants.{Good, Refusal}
 
 -- a place as three numbers
 abbrev pub place_of : Point → Corner
-place_of p = record { x = axisX p; y = axisY p; z = axisZ p }
+place_of p = record { x = axis_x p; y = axis_y p; z = axis_z p }
 
 -- "x y z .. in centimetres, less an origin that the caller gives as three i32"
-abbrev pub lessOrigin : Origin → Corner → List ℤ
-lessOrigin o c = (c.x -ℤ o.x) ∷ (c.y -ℤ o.y) ∷ (c.z -ℤ o.z) ∷ []
+abbrev pub less_origin : Origin → Corner → List ℤ
+less_origin o c = (c.x -ℤ o.x) ∷ (c.y -ℤ o.y) ∷ (c.z -ℤ o.z) ∷ []
 
 -- "six f32 numbers a leg: from x y z, then to x y z"
-abbrev pub sixOf : Origin → Leg → List ℤ
-sixOf o g = lessOrigin o (place_of g.from) ++ lessOrigin o (place_of g.to)
+abbrev pub six_of : Origin → Leg → List ℤ
+six_of o g = less_origin o (place_of g.from) ++ less_origin o (place_of g.to)
 
-abbrev pub numbersEach : ℕ
-numbersEach = 6
+abbrev pub numbers_each : ℕ
+numbers_each = 6
 
 -- "Legs come in sheet order"
 unfoldable pub differences : Origin → List Leg → List ℤ
 differences o [] = []
-differences o (g ∷ gs) = sixOf o g ++ differences o gs
+differences o (g ∷ gs) = six_of o g ++ differences o gs
 
 -- every leg of the records: that is what the empty name takes (#102)
-abbrev pub allLegs : List Record → List Leg
-allLegs rs = legsOf [] rs
+abbrev pub all_legs : List Record → List Leg
+all_legs rs = legs_of [] rs
 
 -- ---- refusal 20
 
@@ -48,17 +48,17 @@ abbrev pub farthest : ℕ
 farthest = 16777216
 
 -- "Any larger difference"
-unfoldable pub tooFar : List ℤ → Bool
-tooFar [] = false
-tooFar (d ∷ ds) = ltb farthest (nat_abs d) || tooFar ds
+unfoldable pub too_far : List ℤ → Bool
+too_far [] = false
+too_far (d ∷ ds) = ltb farthest (nat_abs d) || too_far ds
 
 -- "20 with the record number of the first leg too far"; the first of the records has the number n
-unfoldable pub farVerdict : Origin → ℕ → List Record → Verdict
-farVerdict o n [] = Good
-farVerdict o n (leg g label ∷ rs) = pick (tooFar (sixOf o g)) (Refusal 20 n) (farVerdict o (n + 1) rs)
-farVerdict o n (station s label ∷ rs) = farVerdict o (n + 1) rs
-farVerdict o n (section s label ∷ rs) = farVerdict o (n + 1) rs
-farVerdict o n (error t ∷ rs) = farVerdict o (n + 1) rs
+unfoldable pub far_verdict : Origin → ℕ → List Record → Verdict
+far_verdict o n [] = Good
+far_verdict o n (leg g label ∷ rs) = pick (too_far (six_of o g)) (Refusal 20 n) (far_verdict o (n + 1) rs)
+far_verdict o n (station s label ∷ rs) = far_verdict o (n + 1) rs
+far_verdict o n (section s label ∷ rs) = far_verdict o (n + 1) rs
+far_verdict o n (error t ∷ rs) = far_verdict o (n + 1) rs
 
 -- ---- the answer
 
@@ -68,16 +68,16 @@ pub data ViewOutcome : Type 0 where
   unviewed : ℕ → ℕ → ViewOutcome
 
 -- "the answer is their count"; "then 11 with the count of numbers needed"
-abbrev pub viewFrom : Verdict → ℕ → ℕ → ViewOutcome
-viewFrom (Refusal n p) legs room = unviewed n p
-viewFrom Good legs room = pick (ltb room (numbersEach * legs)) (unviewed 11 (numbersEach * legs)) (viewed legs)
+abbrev pub view_from : Verdict → ℕ → ℕ → ViewOutcome
+view_from (Refusal n p) legs room = unviewed n p
+view_from Good legs room = pick (ltb room (numbers_each * legs)) (unviewed 11 (numbers_each * legs)) (viewed legs)
 
 -- "12, then 20 .., then 11"
-abbrev pub resultView : Origin → Result → ℕ → ViewOutcome
-resultView o x room = viewFrom (or_else x.verdict (farVerdict o 0 x.records)) (length (allLegs x.records)) room
+abbrev pub result_view : Origin → Result → ℕ → ViewOutcome
+result_view o x room = view_from (or_else x.verdict (far_verdict o 0 x.records)) (length (all_legs x.records)) room
 
 unfoldable pub view_of : List ℕ → Origin → ℕ → ViewOutcome
-view_of sheet o room = resultView o (sheetResult sheet) room
+view_of sheet o room = result_view o (sheet_result sheet) room
 
 -- ---- the numbers, and what the lent buffer then holds
 
@@ -86,20 +86,20 @@ abbrev pub number_of : ℤ → Float
 number_of z = of_int binary32 z
 
 -- "the numbers past the last leg's stay"
-unfoldable pub numbersOver : List ℤ → List Float → List Float
-numbersOver new old = map number_of new ++ drop (length new) old
+unfoldable pub numbers_over : List ℤ → List Float → List Float
+numbers_over new old = map number_of new ++ drop (length new) old
 
 -- "the buffer is untouched by each" refusal
-abbrev pub viewedBuffer : ViewOutcome → List ℤ → List Float → List Float
-viewedBuffer (viewed n) new old = numbersOver new old
-viewedBuffer (unviewed n p) new old = old
+abbrev pub viewed_buffer : ViewOutcome → List ℤ → List Float → List Float
+viewed_buffer (viewed n) new old = numbers_over new old
+viewed_buffer (unviewed n p) new old = old
 
 -- the differences of all legs of a sheet
-unfoldable pub viewDifferences : List ℕ → Origin → List ℤ
-viewDifferences sheet o = differences o (allLegs (sheetResult sheet).records)
+unfoldable pub view_differences : List ℕ → Origin → List ℤ
+view_differences sheet o = differences o (all_legs (sheet_result sheet).records)
 
-unfoldable pub viewBuffer : List ℕ → Origin → List Float → List Float
-viewBuffer sheet o old = viewedBuffer (view_of sheet o (length old)) (viewDifferences sheet o) old
+unfoldable pub view_buffer : List ℕ → Origin → List Float → List Float
+view_buffer sheet o old = viewed_buffer (view_of sheet o (length old)) (view_differences sheet o) old
 
 -- "must come out as exactly that number, zero as plus zero": x is finite, of z's magnitude and of z's sign, which is plus where z is 0
 abbrev pub Exactly : Float → ℤ → Type 0
@@ -113,4 +113,4 @@ Exact (unviewed n p) new out = Unit
 
 -- the same of all legs of a sheet
 abbrev pub ViewExact : List ℕ → Origin → ℕ → List Float → Type 0
-ViewExact sheet o room out = Exact (view_of sheet o room) (viewDifferences sheet o) out
+ViewExact sheet o room out = Exact (view_of sheet o room) (view_differences sheet o) out

@@ -3,7 +3,7 @@
 // specs/Answers.antt.
 
 ghost use Rattle.std.specs.Prelude.{◌≡◌};
-ghost use Rattle.format.specs.State.{startSetting};
+ghost use Rattle.format.specs.State.{start_setting};
 
 // The limits of document 01, in bytes: a label, a title and a time line without their
 // linefeeds, and a file.
@@ -146,7 +146,7 @@ pub struct Setting {
 
 // Style, date and position at the start of a file.
 pub fn start_setting() -> Setting
-    ensures { result ≡ startSetting }
+    ensures { result ≡ start_setting }
 {
     Setting {
         style: NOT_SAID,

@@ -1,13 +1,13 @@
 // What a v8 file has around the codes of its records: the header and the closing codes.
 // Each piece is written where it fits.
 ghost use Rattle.std.specs.Prelude.{◌≤◌, length};
-ghost use Rattle.format.specs.Header.{titleLimit, timeLimit};
-ghost use Rattle.format.specs.Codes.{closing, headerCodes, headerLimit};
+ghost use Rattle.format.specs.Header.{title_limit, time_limit};
+ghost use Rattle.format.specs.Codes.{closing, header_codes, header_limit};
 ghost use Rattle.part.specs.Lays.{Puts};
 
 pub fn put_header(out: &mut [u8], extended: u8, title: &[u8], time: &[u8]) -> usize
-    requires { (extended ≤ 1) × (length title.now ≤ titleLimit) × (length time.now ≤ timeLimit) }
-    ensures { Puts out.old out.new (headerCodes (record { extended = extended; title = title.now; time = time.now })) headerLimit result }
+    requires { (extended ≤ 1) × (length title.now ≤ title_limit) × (length time.now ≤ time_limit) }
+    ensures { Puts out.old out.new (header_codes (record { extended = extended; title = title.now; time = time.now })) header_limit result }
 {
     let a = part::put(out, 0, b"Survex 3D Image File\nv8\n");
     let b = part::put(out, a, title);

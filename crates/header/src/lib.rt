@@ -1,7 +1,7 @@
 // Opening a file: its length and its header, and where its items start.
 ghost use Rattle.std.specs.Prelude.{◌≡◌, ◌+◌, ◌-◌, ◌≤◌, length, take, get_or};
 ghost use Rattle.format.specs.Bytes.{same};
-ghost use Rattle.format.specs.Header.{magic, goodVersion, extendedByte, closedHeader, timeLine, titleLine, openingOf, fileLimit, timeLimit, titleLimit};
+ghost use Rattle.format.specs.Header.{magic, good_version, extended_byte, closed_header, time_line, title_line, opening_of, file_limit, time_limit, title_limit};
 ghost use Rattle.header.specs.Head.{line_of, saying, HeadIs};
 
 use format::{FILE_LIMIT, TIME_LIMIT, TITLE_LIMIT};
@@ -42,7 +42,7 @@ fn magic_ok(file: &[u8]) -> bool
 
 // Whether the three bytes after that are v3 to v8 and a linefeed.
 fn version_ok(file: &[u8]) -> bool
-    ensures { result ≡ goodVersion file.now }
+    ensures { result ≡ good_version file.now }
 {
     if file.len() < 24 {
         return false;
@@ -82,8 +82,8 @@ fn good_line(limit: usize, s: &[u8]) -> TextLine
 
 // The v8 byte, after a title line and a time line of so many bytes.
 fn extended_byte(file: &[u8], title: usize, time: usize) -> Head
-    requires { (title ≤ titleLimit) × (time ≤ timeLimit) × (26 + title + time ≤ length file.now) × (length file.now ≤ fileLimit) }
-    ensures { HeadIs result file.now (extendedByte file.now (26 + title + time) (saying 0 title time file.now)) }
+    requires { (title ≤ title_limit) × (time ≤ time_limit) × (26 + title + time ≤ length file.now) × (length file.now ≤ file_limit) }
+    ensures { HeadIs result file.now (extended_byte file.now (26 + title + time) (saying 0 title time file.now)) }
 {
     let place = 26 + title + time;
     if file.len() <= place {
@@ -116,8 +116,8 @@ fn extended_byte(file: &[u8], title: usize, time: usize) -> Head
 
 // What stands after both lines: the v8 byte, or at once the first item.
 fn closed_header(version: u8, file: &[u8], title: usize, time: usize) -> Head
-    requires { (3 ≤ version) × (version ≤ 8) × (title ≤ titleLimit) × (time ≤ timeLimit) × (26 + title + time ≤ length file.now) × (length file.now ≤ fileLimit) }
-    ensures { HeadIs result file.now (closedHeader version file.now (26 + title + time) (saying 0 title time file.now)) }
+    requires { (3 ≤ version) × (version ≤ 8) × (title ≤ title_limit) × (time ≤ time_limit) × (26 + title + time ≤ length file.now) × (length file.now ≤ file_limit) }
+    ensures { HeadIs result file.now (closed_header version file.now (26 + title + time) (saying 0 title time file.now)) }
 {
     if version == 8 {
         return extended_byte(file, title, time);
@@ -133,8 +133,8 @@ fn closed_header(version: u8, file: &[u8], title: usize, time: usize) -> Head
 
 // The time line, after a title line of so many bytes, and what follows.
 fn time_line(version: u8, file: &[u8], title: usize) -> Head
-    requires { (3 ≤ version) × (version ≤ 8) × (title ≤ titleLimit) × (25 + title ≤ length file.now) × (length file.now ≤ fileLimit) }
-    ensures { HeadIs result file.now (timeLine version file.now title) }
+    requires { (3 ≤ version) × (version ≤ 8) × (title ≤ title_limit) × (25 + title ≤ length file.now) × (length file.now ≤ file_limit) }
+    ensures { HeadIs result file.now (time_line version file.now title) }
 {
     let from = 25 + title;
     let line = good_line(TIME_LIMIT, &file[from..]);
@@ -149,8 +149,8 @@ fn time_line(version: u8, file: &[u8], title: usize) -> Head
 
 // The title line, and what follows.
 fn title_line(version: u8, file: &[u8]) -> Head
-    requires { (3 ≤ version) × (version ≤ 8) × (24 ≤ length file.now) × (length file.now ≤ fileLimit) }
-    ensures { HeadIs result file.now (titleLine version file.now) }
+    requires { (3 ≤ version) × (version ≤ 8) × (24 ≤ length file.now) × (length file.now ≤ file_limit) }
+    ensures { HeadIs result file.now (title_line version file.now) }
 {
     let line = good_line(TITLE_LIMIT, &file[24..]);
     match line {
@@ -164,7 +164,7 @@ fn title_line(version: u8, file: &[u8]) -> Head
 
 // Judges a file's length and header.
 pub fn opening(file: &[u8]) -> Head
-    ensures { HeadIs result file.now (openingOf file.now) }
+    ensures { HeadIs result file.now (opening_of file.now) }
 {
     if FILE_LIMIT < file.len() {
         return Head::Shut {

@@ -6,18 +6,18 @@ use Rattle.format.specs.declared.Dated.{Dated}
 use Rattle.format.specs.declared.Dated.TheVariants.{Undated, Day, Range}
 use Rattle.format.specs.declared.Position.{Position}
 use Rattle.format.specs.declared.Position.TheVariants.{Unset, Stands}
-use Rattle.step.specs.Standing.{standSeen}
+use Rattle.step.specs.Standing.{stand_seen}
 use Rattle.step.specs.declared.Phase.{Phase}
 use Rattle.step.specs.declared.Phase.TheVariants.{Going, Ended, Refused}
 use Rattle.step.specs.declared.Stand.{Stand as Held}
 
 -- 0 going, 1 at the end, any other refused with a number and a place
-unfoldable pub phaseOf : ℕ → ℕ → ℕ → Phase
-phaseOf kind number place = pick (eqb kind 0) Going (pick (eqb kind 1) Ended (Refused (number % 256) place))
+unfoldable pub phase_of : ℕ → ℕ → ℕ → Phase
+phase_of kind number place = pick (eqb kind 0) Going (pick (eqb kind 1) Ended (Refused (number % 256) place))
 
 -- 0 no date, 1 a day, any other a range
-unfoldable pub dateOf : ℕ → ℕ → ℕ → Dated
-dateOf kind day last = pick (eqb kind 0) Undated (pick (eqb kind 1) (Day (day % 65536)) (Range (day % 65536) (last % 65536)))
+unfoldable pub date_of : ℕ → ℕ → ℕ → Dated
+date_of kind day last = pick (eqb kind 0) Undated (pick (eqb kind 1) (Day (day % 65536)) (Range (day % 65536) (last % 65536)))
 
 -- 0 unset, any other a place
 unfoldable pub position_of : ℕ → ℕ → ℕ → ℕ → Position
@@ -26,24 +26,24 @@ position_of kind x y z = pick (eqb kind 0) Unset (Stands (record { x = x % 42949
 -- phase, number and place of its refusal; version, the next item's place, the label's length; style, date, position
 abbrev pub held_of : List ℕ → Held
 held_of s = record {
-  phase = phaseOf (get_or s 0 0) (get_or s 1 0) (get_or s 2 0);
+  phase = phase_of (get_or s 0 0) (get_or s 1 0) (get_or s 2 0);
   version = get_or s 3 0 % 256;
   place = get_or s 4 0;
   len = get_or s 5 0;
   setting = record {
     style = get_or s 6 0 % 256;
-    date = dateOf (get_or s 7 0) (get_or s 8 0) (get_or s 9 0);
+    date = date_of (get_or s 7 0) (get_or s 8 0) (get_or s 9 0);
     position = position_of (get_or s 10 0) (get_or s 11 0) (get_or s 12 0) (get_or s 13 0);
   };
 }
 
 -- where a reader stands whose numbers are s, with what the label's buffer holds
-abbrev pub stateStand : List ℕ → List ℕ → Stand
-stateStand s label = standSeen (held_of s) label
+abbrev pub state_stand : List ℕ → List ℕ → Stand
+state_stand s label = stand_seen (held_of s) label
 
 -- a stand at another place, with another label length and position
-abbrev pub standsAt : Held → ℕ → ℕ → Position → Held
-standsAt h place len position = record {
+abbrev pub stands_at : Held → ℕ → ℕ → Position → Held
+stands_at h place len position = record {
   phase = h.phase;
   version = h.version;
   place = place;

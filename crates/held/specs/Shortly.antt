@@ -1,15 +1,15 @@
 -- One step over one of the commonest items, from the stand that a reader's numbers say. Assumes nothing.
 use Rattle.std.specs.Prelude.{ℕ, ◌≡◌, List, length}
-use Rattle.format.specs.Stepping.{StepOutcome, wrote, nothing, step_of, stepBuffer}
-use Rattle.held.specs.Numbers.{stateStand}
+use Rattle.format.specs.Stepping.{StepOutcome, wrote, nothing, step_of, step_buffer}
+use Rattle.held.specs.Numbers.{state_stand}
 use Rattle.held.specs.declared.Brief.{Brief}
 use Rattle.held.specs.declared.Brief.TheVariants.{Other, Nothing, Record}
 
 -- an answer, the numbers, the label's buffer and the record's after it are one step from a stand
 pub record StepsOn (o : StepOutcome) (s label file old s' label' new : List ℕ) : Type 0 where
-  pub answer : o ≡ (step_of (stateStand s label) file (length old)).answer
-  pub stand : stateStand s' label' ≡ (step_of (stateStand s label) file (length old)).stand
-  pub buffer : new ≡ stepBuffer (stateStand s label) file old
+  pub answer : o ≡ (step_of (state_stand s label) file (length old)).answer
+  pub stand : state_stand s' label' ≡ (step_of (state_stand s label) file (length old)).stand
+  pub buffer : new ≡ step_buffer (state_stand s label) file old
 
 -- `short_step`: such a step; or nothing was touched
 abbrev pub Briefly : Brief → List ℕ → List ℕ → List ℕ → List ℕ → List ℕ → List ℕ → List ℕ → Type 0

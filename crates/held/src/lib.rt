@@ -1,11 +1,11 @@
 // Where a step reader stands, as numbers that its caller holds from one step to the next.
 // Any numbers are some stand: nothing that a caller puts there is unsafe.
 ghost use Rattle.std.specs.Prelude.{◌≡◌, ◌+◌, ◌%◌, ◌≤◌, ◌<◌};
-ghost use Rattle.format.specs.Label.{labelLimit};
-ghost use Rattle.format.specs.Answers.{steppedOf};
+ghost use Rattle.format.specs.Label.{label_limit};
+ghost use Rattle.format.specs.Answers.{stepped_of};
 ghost use Rattle.held.specs.declared.Brief.TheVariants.{Record as RecordBrief};
 ghost use Rattle.format.specs.declared.Position.TheVariants.{Stands};
-ghost use Rattle.held.specs.Numbers.{phaseOf, dateOf, position_of, held_of, standsAt};
+ghost use Rattle.held.specs.Numbers.{phase_of, date_of, position_of, held_of, stands_at};
 ghost use Rattle.held.specs.Shortly.{Briefly, StepsOn};
 
 use format::{Dated, LABEL_LIMIT, Point, Position, Setting, Stepped};
@@ -81,7 +81,7 @@ fn wide32(x: u32) -> u64
 // ---- the stand that numbers say
 
 fn phase_of(kind: u64, number: u64, place: u64) -> Phase
-    ensures { result ≡ phaseOf kind number place }
+    ensures { result ≡ phase_of kind number place }
 {
     if kind == 0 {
         return Phase::Going;
@@ -96,7 +96,7 @@ fn phase_of(kind: u64, number: u64, place: u64) -> Phase
 }
 
 fn date_of(kind: u64, day: u64, last: u64) -> Dated
-    ensures { result ≡ dateOf kind day last }
+    ensures { result ≡ date_of kind day last }
 {
     if kind == 0 {
         return Dated::Undated;
@@ -147,7 +147,7 @@ pub fn held_of(s: &[u64; STAND_NUMBERS]) -> Stand
 // ---- the numbers of a stand
 
 fn phase_numbers(phase: Phase) -> PhaseNumbers
-    ensures { phaseOf result.kind result.number result.place ≡ phase }
+    ensures { phase_of result.kind result.number result.place ≡ phase }
 {
     match phase {
         Phase::Going => PhaseNumbers {
@@ -169,7 +169,7 @@ fn phase_numbers(phase: Phase) -> PhaseNumbers
 }
 
 fn date_numbers(date: Dated) -> DateNumbers
-    ensures { dateOf result.kind result.day result.last ≡ date }
+    ensures { date_of result.kind result.day result.last ≡ date }
 {
     match date {
         Dated::Undated => DateNumbers {
@@ -248,7 +248,7 @@ fn moved_on(
     len: usize,
     point: PlaceNumbers,
 ) -> [u64; STAND_NUMBERS]
-    ensures { held_of result ≡ standsAt (held_of s.now) place len (position_of point.kind point.x point.y point.z) }
+    ensures { held_of result ≡ stands_at (held_of s.now) place len (position_of point.kind point.x point.y point.z) }
 {
     [
         s[0],
@@ -270,7 +270,7 @@ fn moved_on(
 
 // Another place and label length, with the position that the numbers have.
 fn pass_on(s: &mut [u64; STAND_NUMBERS], place: usize, len: usize)
-    ensures { held_of s.new ≡ standsAt (held_of s.old) place len (held_of s.old).setting.position }
+    ensures { held_of s.new ≡ stands_at (held_of s.old) place len (held_of s.old).setting.position }
 {
     let position = PlaceNumbers {
         kind: s[10],
@@ -284,7 +284,7 @@ fn pass_on(s: &mut [u64; STAND_NUMBERS], place: usize, len: usize)
 
 // The same with the position where a leg or a MOVE leads.
 fn lead_on(s: &mut [u64; STAND_NUMBERS], place: usize, len: usize, to: Point)
-    ensures { held_of s.new ≡ standsAt (held_of s.old) place len (Stands to) }
+    ensures { held_of s.new ≡ stands_at (held_of s.old) place len (Stands to) }
 {
     let position = place_numbers(Position::Stands { point: to });
     let after = moved_on(s, place, len, position);
@@ -301,7 +301,7 @@ pub enum Brief {
 
 // The record of a leg whose label has len bytes.
 fn leg_record(len: usize, kept: usize) -> Brief
-    requires { len ≤ labelLimit }
+    requires { len ≤ label_limit }
     ensures { result ≡ RecordBrief (34 + len) kept }
 {
     let bytes = 34 + len;
@@ -360,7 +360,7 @@ fn any_step(
     bytes: &mut [u8; LABEL_LIMIT],
     out: &mut [u8],
 ) -> Stepped
-    ensures { StepsOn (steppedOf result) s.old bytes.old file.now out.old s.new bytes.new out.new }
+    ensures { StepsOn (stepped_of result) s.old bytes.old file.now out.old s.new bytes.new out.new }
 {
     let stand = held_of(s);
     let t = step::step_at(file, stand, bytes, out);
@@ -379,7 +379,7 @@ pub fn one_step(
     bytes: &mut [u8; LABEL_LIMIT],
     out: &mut [u8],
 ) -> Stepped
-    ensures { StepsOn (steppedOf result) s.old bytes.old file.now out.old s.new bytes.new out.new }
+    ensures { StepsOn (stepped_of result) s.old bytes.old file.now out.old s.new bytes.new out.new }
 {
     let brief = short_step(file, s, bytes, out);
     match brief {

@@ -8,15 +8,15 @@ use lib.Seq.{length-take-le}
 use mathlib.Core.Bool.{Bool, true, false}
 use lib.Dec.{ltb}
 use Rattle.format.specs.Bytes.{pick}
-use Rattle.format.specs.Label.{Labelled, tooShort, tooLong, labelled, keptOf, labelStep, labelLimit}
-use Rattle.format.specs.Outline.{ownDrop, dropLeaves}
+use Rattle.format.specs.Label.{Labelled, too_short, too_long, labelled, kept_of, label_step, label_limit}
+use Rattle.format.specs.Outline.{own_drop, drop_leaves}
 use Rattle.format.specs.declared.Kept.{Kept}
 use Rattle.format.specs.declared.Kept.TheVariants.{Keeps, Lacks}
-use Rattle.format.proofs.Basics.{pick-case}
+use Rattle.format.proofs.Basics.{pick_case}
 use Rattle.format.specs.declared.Cut.{Cut}
 use Rattle.format.specs.declared.Cut.TheVariants.{Empty, Back}
-use Rattle.format.specs.Items.{Item, Stop as stopItem, Style as styleItem, Move as moveItem, NoDate as noDateItem, Date as dateItem, Error as errorItem, Decoded, faulty, whole, item_of}
-use Rattle.format.specs.State.{State, Record, Next, bad, end, on, made, dateOf, badDates, named, onLabel, legFrom, apply, next_of}
+use Rattle.format.specs.Items.{Item, Stop as stop_item, Style as style_item, Move as move_item, NoDate as no_date_item, Date as date_item, Error as error_item, Decoded, faulty, whole, item_of}
+use Rattle.format.specs.State.{State, Record, Next, bad, end, on, made, date_of, bad_dates, named, on_label, leg_from, apply, next_of}
 use Rattle.format.specs.Reading.{next}
 use Rattle.format.specs.declared.Point.{Point}
 use Rattle.format.specs.declared.Traverse.{Traverse}
@@ -24,10 +24,10 @@ use Rattle.format.specs.declared.Dated.{Dated}
 use Rattle.format.specs.declared.Dated.TheVariants.{Undated}
 use Rattle.format.specs.declared.Position.{Position}
 use Rattle.format.specs.declared.Position.TheVariants.{Unset, Stands}
-use Rattle.format.proofs.ApplyLaws.{style-other as style-others, style-first as style-firsts, style-end as style-ends, date-before as dates-before, date-late as dates-late, date-on as dates-on, stop-end, stop-empties, leg-unset as legs-unset, leg-set as legs-set}
-use Rattle.label.specs.Seen.{relabelledSeen, Tells as LabelTells}
+use Rattle.format.proofs.ApplyLaws.{style_other as style_others, style_first as style_firsts, style_end as style_ends, date_before as dates_before, date_late as dates_late, date_on as dates_on, stop_end, stop_empties, leg_unset as legs_unset, leg_set as legs_set}
+use Rattle.label.specs.Seen.{relabelled_seen, Tells as LabelTells}
 use Rattle.label.specs.declared.Relabelled.TheVariants.{TooShort, TooLong, Fits}
-use Rattle.decode.specs.Seen.{itemSeen, relabelItem, dropped, Suits, Reads}
+use Rattle.decode.specs.Seen.{item_seen, relabel_item, dropped, Suits, Reads}
 use Rattle.item.specs.Seen.{seen, Short, Tells, TellsKept, TellsStayed, made_of, Does}
 use Rattle.decode.specs.declared.Body.{Body}
 use Rattle.decode.specs.declared.Body.TheVariants.{Only, Section as SectionBody, Station as StationBody, Line as LineBody}
@@ -44,31 +44,31 @@ use Rattle.item.specs.declared.Step.TheVariants.{Bad, End, On, Made}
 
 module _ (k len : ℕ) (st to : Setting) where
   abbrev StyleDoes : Step → Type 0
-  StyleDoes r = Does r (λ b. apply (state_of st (take len b)) 1 (styleItem k)) len
+  StyleDoes r = Does r (λ b. apply (state_of st (take len b)) 1 (style_item k)) len
 
-  pub style-other : to ≡ record { style = k; date = st.date; position = st.position } → (k ≡ 0 → ⊥) → StyleDoes (On 1 len to)
-  style-other e h = record { same = λ b. rw e (sym (style-others (state_of st (take len b)) 1 k h)); short = λ q. q }
+  pub style_other : to ≡ record { style = k; date = st.date; position = st.position } → (k ≡ 0 → ⊥) → StyleDoes (On 1 len to)
+  style_other e h = record { same = λ b. rw e (sym (style_others (state_of st (take len b)) 1 k h)); short = λ q. q }
 
-  pub style-first : to ≡ record { style = k; date = st.date; position = st.position } → k ≡ 0 → (st.style ≡ 0 → ⊥) → StyleDoes (On 1 len to)
-  style-first e z h = record { same = λ b. rw e (sym (style-firsts (state_of st (take len b)) 1 k z h)); short = λ q. q }
+  pub style_first : to ≡ record { style = k; date = st.date; position = st.position } → k ≡ 0 → (st.style ≡ 0 → ⊥) → StyleDoes (On 1 len to)
+  style_first e z h = record { same = λ b. rw e (sym (style_firsts (state_of st (take len b)) 1 k z h)); short = λ q. q }
 
-  pub style-end : k ≡ 0 → st.style ≡ 0 → StyleDoes End
-  style-end z h = record { same = λ b. sym (style-ends (state_of st (take len b)) 1 k z h); short = λ q. tt }
+  pub style_end : k ≡ 0 → st.style ≡ 0 → StyleDoes End
+  style_end z h = record { same = λ b. sym (style_ends (state_of st (take len b)) 1 k z h); short = λ q. tt }
 
 -- ---- a date
 
 module _ (n first last len : ℕ) (st to : Setting) where
   abbrev DateDoes : Step → Type 0
-  DateDoes r = Does r (λ b. apply (state_of st (take len b)) n (dateItem first last)) len
+  DateDoes r = Does r (λ b. apply (state_of st (take len b)) n (date_item first last)) len
 
-  pub date-before : last < first → DateDoes (Bad 9)
-  date-before h = record { same = λ b. sym (dates-before (state_of st (take len b)) n first last h); short = λ q. tt }
+  pub date_before : last < first → DateDoes (Bad 9)
+  date_before h = record { same = λ b. sym (dates_before (state_of st (take len b)) n first last h); short = λ q. tt }
 
-  pub date-late : first ≤ last → 65535 < last → DateDoes (Bad 9)
-  date-late h k = record { same = λ b. sym (dates-late (state_of st (take len b)) n first last h k); short = λ q. tt }
+  pub date_late : first ≤ last → 65535 < last → DateDoes (Bad 9)
+  date_late h k = record { same = λ b. sym (dates_late (state_of st (take len b)) n first last h k); short = λ q. tt }
 
-  pub date-on : first ≤ last → last ≤ 65535 → to ≡ record { style = st.style; date = dateOf first last; position = st.position } → DateDoes (On n len to)
-  date-on h k e = record { same = λ b. rw e (sym (dates-on (state_of st (take len b)) n first last h k)); short = λ q. q }
+  pub date_on : first ≤ last → last ≤ 65535 → to ≡ record { style = st.style; date = date_of first last; position = st.position } → DateDoes (On n len to)
+  date_on h k e = record { same = λ b. rw e (sym (dates_on (state_of st (take len b)) n first last h k)); short = λ q. q }
 
 -- ---- an item whose label is in the buffer
 
@@ -76,91 +76,91 @@ module _ (n len kept : ℕ) (st to : Setting) where
   abbrev MadeDoes : Body → Step → Type 0
   MadeDoes body r = Does r (λ b. made_of body (state_of st []) n (take len b)) len
 
-  pub leg-unset : (flags : ℕ) (p : Point) → st.position ≡ Unset → MadeDoes (LineBody flags p) (Bad 8)
-  leg-unset flags p e = record { same = λ b. sym (legs-unset (state_of st []) n flags p (take len b) e); short = λ q. tt }
+  pub leg_unset : (flags : ℕ) (p : Point) → st.position ≡ Unset → MadeDoes (LineBody flags p) (Bad 8)
+  leg_unset flags p e = record { same = λ b. sym (legs_unset (state_of st []) n flags p (take len b) e); short = λ q. tt }
 
-  pub leg-made : (flags : ℕ) (from p : Point) → st.position ≡ Stands from → to ≡ record { style = st.style; date = st.date; position = Stands p }
+  pub leg_made : (flags : ℕ) (from p : Point) → st.position ≡ Stands from → to ≡ record { style = st.style; date = st.date; position = Stands p }
       → MadeDoes (LineBody flags p) (Made n len to (Leg flags st.style st.date from p) kept)
-  leg-made flags from p e f = record { same = λ b. rw f (sym (legs-set (state_of st []) n flags p (take len b) e)); short = λ q. q }
+  leg_made flags from p e f = record { same = λ b. rw f (sym (legs_set (state_of st []) n flags p (take len b) e)); short = λ q. q }
 
 -- ---- the label step first
 
 module _ (x : Labelled) (b : List ℕ) (go : List ℕ → Next) where
-  pub label-short : LabelTells TooShort b x → Tells (Bad 6) b (onLabel x go)
-  label-short T = record { same = ap (λ (y : Labelled). onLabel y go) T.same; whole = T.whole; short = tt }
+  pub label_short : LabelTells TooShort b x → Tells (Bad 6) b (on_label x go)
+  label_short T = record { same = ap (λ (y : Labelled). on_label y go) T.same; whole = T.whole; short = tt }
 
-  pub label-long : LabelTells TooLong b x → Tells (Bad 7) b (onLabel x go)
-  label-long T = record { same = ap (λ (y : Labelled). onLabel y go) T.same; whole = T.whole; short = tt }
+  pub label_long : LabelTells TooLong b x → Tells (Bad 7) b (on_label x go)
+  label_long T = record { same = ap (λ (y : Labelled). on_label y go) T.same; whole = T.whole; short = tt }
 
-  pub label-fits : (m kept : ℕ) (r : Step) → LabelTells (Fits m kept) b x → Does r (λ c. go (take m c)) m → Tells r b (onLabel x go)
-  label-fits m kept r T D = record { same = D.same b ∙ ap (λ (y : Labelled). onLabel y go) T.same; whole = T.whole; short = D.short T.short }
+  pub label_fits_lem : (m kept : ℕ) (r : Step) → LabelTells (Fits m kept) b x → Does r (λ c. go (take m c)) m → Tells r b (on_label x go)
+  label_fits_lem m kept r T D = record { same = D.same b ∙ ap (λ (y : Labelled). on_label y go) T.same; whole = T.whole; short = D.short T.short }
 
 -- ---- the item at the front of s
 
-made-label : (body : Body) (st : Setting) (l : List ℕ) (n : ℕ) (m : List ℕ) → made_of body (state_of st []) n m ≡ made_of body (state_of st l) n m
-made-label Only st l n m = refl
-made-label (SectionBody last size) st l n m = refl
-made-label (StationBody flags p) st l n m = refl
-made-label (LineBody flags p) st l n m = go st.position
+made_label : (body : Body) (st : Setting) (l : List ℕ) (n : ℕ) (m : List ℕ) → made_of body (state_of st []) n m ≡ made_of body (state_of st l) n m
+made_label Only st l n m = refl
+made_label (SectionBody last size) st l n m = refl
+made_label (StationBody flags p) st l n m = refl
+made_label (LineBody flags p) st l n m = go st.position
   where
-    go : (q : Position) → legFrom q n (state_of st []) flags p m ≡ legFrom q n (state_of st l) flags p m
+    go : (q : Position) → leg_from q n (state_of st []) flags p m ≡ leg_from q n (state_of st l) flags p m
     go Unset = refl
     go (Stands from) = refl
 
 -- an item that changes the label is its label step first
-relabel-apply : (st : State) (n : ℕ) (body : Body) (cut : Cut) (count : ℕ) (s : List ℕ) → Suits body cut count
-    → apply st n (relabelItem body cut (take count s)) ≡ onLabel (labelStep st.label cut (take count s)) (λ l. made_of body st n l)
-relabel-apply st n Only cut count s e = rw e
-relabel-apply st n (SectionBody last size) cut count s e = rw (sym e)
-relabel-apply st n (StationBody flags p) cut count s e = rw (sym e)
-relabel-apply st n (LineBody flags p) cut count s e = rw (sym e)
+relabel_apply : (st : State) (n : ℕ) (body : Body) (cut : Cut) (count : ℕ) (s : List ℕ) → Suits body cut count
+    → apply st n (relabel_item body cut (take count s)) ≡ on_label (label_step st.label cut (take count s)) (λ l. made_of body st n l)
+relabel_apply st n Only cut count s e = rw e
+relabel_apply st n (SectionBody last size) cut count s e = rw (sym e)
+relabel_apply st n (StationBody flags p) cut count s e = rw (sym e)
+relabel_apply st n (LineBody flags p) cut count s e = rw (sym e)
 
 module _ (version : ℕ) (s : List ℕ) (st : Setting) (len : ℕ) (b : List ℕ) (w : length b ≡ 4096) (h : len ≤ 4096) where
   abbrev Comes : Step → Type 0
   Comes r = Tells r b (next version s (state_of st (take len b)))
 
   -- what an item is seen to be, applied
-  due : (it : Told) → Reads it s (item_of version s) → next_of (state_of st (take len b)) (itemSeen it s) ≡ next version s (state_of st (take len b))
+  due : (it : Told) → Reads it s (item_of version s) → next_of (state_of st (take len b)) (item_seen it s) ≡ next version s (state_of st (take len b))
   unfolding next
   due it R = ap (next_of (state_of st (take len b))) R.same
 
-  pub comes-faulty : (k : ℕ) → Reads (Faulty k) s (item_of version s) → Comes (Bad k)
-  comes-faulty k R = record { same = due (Faulty k) R; whole = w; short = tt }
+  pub comes_faulty : (k : ℕ) → Reads (Faulty k) s (item_of version s) → Comes (Bad k)
+  comes_faulty k R = record { same = due (Faulty k) R; whole = w; short = tt }
 
-  pub comes-end : Reads Stop s (item_of version s) → len ≡ 0 → Comes End
-  comes-end R e = record { same = sym (stop-end (state_of st (take len b)) 1 (rw e)) ∙ due Stop R; whole = w; short = tt }
+  pub comes_end : Reads Stop s (item_of version s) → len ≡ 0 → Comes End
+  comes_end R e = record { same = sym (stop_end (state_of st (take len b)) 1 (rw e)) ∙ due Stop R; whole = w; short = tt }
 
-  pub comes-emptied : Reads Stop s (item_of version s) → (len ≡ 0 → ⊥) → Comes (On 1 0 st)
-  comes-emptied R e =
+  pub comes_emptied : Reads Stop s (item_of version s) → (len ≡ 0 → ⊥) → Comes (On 1 0 st)
+  comes_emptied R e =
       let t : length (take len b) ≡ len = length-take-le len b (omega arith) in
-      record { same = sym (stop-empties (state_of st (take len b)) 1 (λ q. e (sym t ∙ q))) ∙ due Stop R; whole = w; short = omega arith }
+      record { same = sym (stop_empties (state_of st (take len b)) 1 (λ q. e (sym t ∙ q))) ∙ due Stop R; whole = w; short = omega arith }
 
-  pub comes-does : (it : Told) (n : ℕ) (i : Item) (r : Step) → itemSeen it s ≡ whole n i → Reads it s (item_of version s) → Does r (λ c. apply (state_of st (take len c)) n i) len → Comes r
-  comes-does it n i r e R D = record { same = D.same b ∙ ap (next_of (state_of st (take len b))) (sym e) ∙ due it R; whole = w; short = D.short h }
+  pub comes_does : (it : Told) (n : ℕ) (i : Item) (r : Step) → item_seen it s ≡ whole n i → Reads it s (item_of version s) → Does r (λ c. apply (state_of st (take len c)) n i) len → Comes r
+  comes_does it n i r e R D = record { same = D.same b ∙ ap (next_of (state_of st (take len b))) (sym e) ∙ due it R; whole = w; short = D.short h }
 
-  pub comes-moved : (p : Point) (to : Setting) → Reads (Move p) s (item_of version s) → to ≡ record { style = st.style; date = st.date; position = Stands p } → Comes (On 13 len to)
-  comes-moved p to R e = record { same = rw e (due (Move p) R); whole = w; short = h }
+  pub comes_moved : (p : Point) (to : Setting) → Reads (Move p) s (item_of version s) → to ≡ record { style = st.style; date = st.date; position = Stands p } → Comes (On 13 len to)
+  comes_moved p to R e = record { same = rw e (due (Move p) R); whole = w; short = h }
 
-  pub comes-undated : (to : Setting) → Reads NoDate s (item_of version s) → to ≡ record { style = st.style; date = Undated; position = st.position } → Comes (On 1 len to)
-  comes-undated to R e = record { same = rw e (due NoDate R); whole = w; short = h }
+  pub comes_undated : (to : Setting) → Reads NoDate s (item_of version s) → to ≡ record { style = st.style; date = Undated; position = st.position } → Comes (On 1 len to)
+  comes_undated to R e = record { same = rw e (due NoDate R); whole = w; short = h }
 
-  pub comes-error : (t : Traverse) → Reads (ErrorTold t) s (item_of version s) → Comes (Made 21 len st (Error t) 0)
-  comes-error t R = record { same = due (ErrorTold t) R; whole = w; short = h }
+  pub comes_error : (t : Traverse) → Reads (ErrorTold t) s (item_of version s) → Comes (Made 21 len st (Error t) 0)
+  comes_error t R = record { same = due (ErrorTold t) R; whole = w; short = h }
 
 -- the label's bytes may change: b is the buffer before, c after
-pub comes-relabelled : (version : ℕ) (s : List ℕ) (st : Setting) (l c : List ℕ) (n : ℕ) (cut : Cut) (from count : ℕ) (body : Body) (r : Step) → Reads (Relabel n cut from count body) s (item_of version s)
-    → Tells r c (onLabel (labelStep l cut (take count (drop from s))) (λ m. made_of body (state_of st []) n m)) → Tells r c (next version s (state_of st l))
+pub comes_relabelled : (version : ℕ) (s : List ℕ) (st : Setting) (l c : List ℕ) (n : ℕ) (cut : Cut) (from count : ℕ) (body : Body) (r : Step) → Reads (Relabel n cut from count body) s (item_of version s)
+    → Tells r c (on_label (label_step l cut (take count (drop from s))) (λ m. made_of body (state_of st []) n m)) → Tells r c (next version s (state_of st l))
 unfolding next
-comes-relabelled version s st l c n cut from count body r R T =
-    let e = relabel-apply (state_of st l) n body cut count (drop from s) R.sound.1 in
-    let f : onLabel (labelStep l cut (take count (drop from s))) (λ m. made_of body (state_of st []) n m) ≡ onLabel (labelStep l cut (take count (drop from s))) (λ m. made_of body (state_of st l) n m) =
-    same-label (labelStep l cut (take count (drop from s))) in
+comes_relabelled version s st l c n cut from count body r R T =
+    let e = relabel_apply (state_of st l) n body cut count (drop from s) R.sound.1 in
+    let f : on_label (label_step l cut (take count (drop from s))) (λ m. made_of body (state_of st []) n m) ≡ on_label (label_step l cut (take count (drop from s))) (λ m. made_of body (state_of st l) n m) =
+    same_label (label_step l cut (take count (drop from s))) in
     record { same = T.same ∙ f ∙ sym e ∙ ap (next_of (state_of st l)) R.same; whole = T.whole; short = T.short }
   where
-    same-label : (x : Labelled) → onLabel x (λ m. made_of body (state_of st []) n m) ≡ onLabel x (λ m. made_of body (state_of st l) n m)
-    same-label tooShort = refl
-    same-label tooLong = refl
-    same-label (labelled m) = made-label body st l n m
+    same_label : (x : Labelled) → on_label x (λ m. made_of body (state_of st []) n m) ≡ on_label x (λ m. made_of body (state_of st l) n m)
+    same_label too_short = refl
+    same_label too_long = refl
+    same_label (labelled m) = made_label body st l n m
 
 -- ---- how many bytes of the label an item kept
 
@@ -171,54 +171,54 @@ NotMade end = Unit
 NotMade (on n st) = Unit
 NotMade (made n r st) = ⊥
 
-kept-none : (r : Step) (b : List ℕ) (x : Next) (y : ℕ) → seen r b ≡ x → NotMade x → TellsKept r y
-kept-none (Bad k) b x y e h = tt
-kept-none End b x y e h = tt
-kept-none (On n m st) b x y e h = tt
-kept-none (Made n m st f kept) b x y e h = absurd (rw (← e) at h)
+kept_none : (r : Step) (b : List ℕ) (x : Next) (y : ℕ) → seen r b ≡ x → NotMade x → TellsKept r y
+kept_none (Bad k) b x y e h = tt
+kept_none End b x y e h = tt
+kept_none (On n m st) b x y e h = tt
+kept_none (Made n m st f kept) b x y e h = absurd (rw (← e) at h)
 
-pub style-kept : (r : Step) (b l : List ℕ) (st : Setting) (k y : ℕ) → seen r b ≡ apply (state_of st l) 1 (styleItem k) → TellsKept r y
-style-kept r b l st k y e = kept-none r b _ y e (pick-case NotMade _ _ _ (λ t. tt) (λ t. tt))
+pub style_kept : (r : Step) (b l : List ℕ) (st : Setting) (k y : ℕ) → seen r b ≡ apply (state_of st l) 1 (style_item k) → TellsKept r y
+style_kept r b l st k y e = kept_none r b _ y e (pick_case NotMade _ _ _ (λ t. tt) (λ t. tt))
 
-pub date-kept : (r : Step) (b l : List ℕ) (st : Setting) (n first last y : ℕ) → seen r b ≡ apply (state_of st l) n (dateItem first last) → TellsKept r y
-date-kept r b l st n first last y e = kept-none r b _ y e (pick-case NotMade _ _ _ (λ t. tt) (λ t. tt))
+pub date_kept : (r : Step) (b l : List ℕ) (st : Setting) (n first last y : ℕ) → seen r b ≡ apply (state_of st l) n (date_item first last) → TellsKept r y
+date_kept r b l st n first last y e = kept_none r b _ y e (pick_case NotMade _ _ _ (λ t. tt) (λ t. tt))
 
 -- what a label step kept is what its item tells
-pub stays-as : (r : Step) (kept : ℕ) (x : Kept) → TellsKept r kept → x ≡ Keeps kept → TellsStayed r x
-stays-as (Bad k) kept x t e = tt
-stays-as End kept x t e = tt
-stays-as (On n m st) kept x t e = tt
-stays-as (Made n m st f own) kept x t e = e ∙ ap Keeps (sym t)
+pub stays_as : (r : Step) (kept : ℕ) (x : Kept) → TellsKept r kept → x ≡ Keeps kept → TellsStayed r x
+stays_as (Bad k) kept x t e = tt
+stays_as End kept x t e = tt
+stays_as (On n m st) kept x t e = tt
+stays_as (Made n m st f own) kept x t e = e ∙ ap Keeps (sym t)
 
 -- what D leaves of a label
-back-stays : (l : List ℕ) (cut : Cut) (d kept : ℕ) → cut ≡ Back d → keptOf l cut ≡ Keeps kept → kept ≡ length l - d
+back_stays : (l : List ℕ) (cut : Cut) (d kept : ℕ) → cut ≡ Back d → kept_of l cut ≡ Keeps kept → kept ≡ length l - d
 unfolding pick
-back-stays l cut d kept e q = go (ltb (length l) d) (rw e at q)
+back_stays l cut d kept e q = go (ltb (length l) d) (rw e at q)
   where
     go : (t : Bool) → pick t Lacks (Keeps (length l - d)) ≡ Keeps kept → kept ≡ length l - d
     go true z = absurd (let y : ◌≡◌ {A = ℕ} 0 1 = cc in omega arith)
     go false z = cc
 
-shortens : (x : Labelled) (n : ℕ) (st : State) → NotMade (onLabel x (λ m. on n (named m st)))
-shortens tooShort n st = tt
-shortens tooLong n st = tt
+shortens : (x : Labelled) (n : ℕ) (st : State) → NotMade (on_label x (λ m. on n (named m st)))
+shortens too_short n st = tt
+shortens too_long n st = tt
 shortens (labelled m) n st = tt
 
 module _ (l c : List ℕ) (st : Setting) (n : ℕ) (cut : Cut) (count : ℕ) (added : List ℕ) where
-  stayed : (body : Body) (r : Step) → Suits body cut count → Tells r c (onLabel (labelStep l cut added) (λ m. made_of body (state_of st []) n m)) → TellsStayed r (keptOf l cut)
-      → TellsKept r (ownDrop l (relabelItem body cut added))
+  stayed : (body : Body) (r : Step) → Suits body cut count → Tells r c (on_label (label_step l cut added) (λ m. made_of body (state_of st []) n m)) → TellsStayed r (kept_of l cut)
+      → TellsKept r (own_drop l (relabel_item body cut added))
   stayed body (Bad k) u T q = tt
   stayed body End u T q = tt
   stayed body (On a m to) u T q = tt
-  stayed Only (Made a m to f kept) u T q = kept-none (Made a m to f kept) c _ 0 T.same (shortens (labelStep l cut added) n (state_of st []))
-  stayed (SectionBody last size) (Made a m to f kept) u T q = back-stays l cut (dropped cut) kept u q
-  stayed (StationBody flags p) (Made a m to f kept) u T q = back-stays l cut (dropped cut) kept u q
-  stayed (LineBody flags p) (Made a m to f kept) u T q = back-stays l cut (dropped cut) kept u q
+  stayed Only (Made a m to f kept) u T q = kept_none (Made a m to f kept) c _ 0 T.same (shortens (label_step l cut added) n (state_of st []))
+  stayed (SectionBody last size) (Made a m to f kept) u T q = back_stays l cut (dropped cut) kept u q
+  stayed (StationBody flags p) (Made a m to f kept) u T q = back_stays l cut (dropped cut) kept u q
+  stayed (LineBody flags p) (Made a m to f kept) u T q = back_stays l cut (dropped cut) kept u q
 
-pub relabelled-kept : (version : ℕ) (s : List ℕ) (st : Setting) (l c : List ℕ) (n : ℕ) (cut : Cut) (from count : ℕ) (body : Body) (r : Step) → Reads (Relabel n cut from count body) s (item_of version s)
-    → Tells r c (onLabel (labelStep l cut (take count (drop from s))) (λ m. made_of body (state_of st []) n m)) → TellsStayed r (keptOf l cut) → TellsKept r (dropLeaves l (item_of version s))
-relabelled-kept version s st l c n cut from count body r R T q =
+pub relabelled_kept : (version : ℕ) (s : List ℕ) (st : Setting) (l c : List ℕ) (n : ℕ) (cut : Cut) (from count : ℕ) (body : Body) (r : Step) → Reads (Relabel n cut from count body) s (item_of version s)
+    → Tells r c (on_label (label_step l cut (take count (drop from s))) (λ m. made_of body (state_of st []) n m)) → TellsStayed r (kept_of l cut) → TellsKept r (drop_leaves l (item_of version s))
+relabelled_kept version s st l c n cut from count body r R T q =
     rw (← R.same) (stayed l c st n cut count (take count (drop from s)) body r R.sound.1 T q)
 
-pub error-kept : (version : ℕ) (s l : List ℕ) (t : Traverse) → Reads (ErrorTold t) s (item_of version s) → 0 ≡ dropLeaves l (item_of version s)
-error-kept version s l t R = ap (dropLeaves l) R.same
+pub error_kept : (version : ℕ) (s l : List ℕ) (t : Traverse) → Reads (ErrorTold t) s (item_of version s) → 0 ≡ drop_leaves l (item_of version s)
+error_kept version s l t R = ap (drop_leaves l) R.same

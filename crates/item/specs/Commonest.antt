@@ -19,17 +19,17 @@ moved_to setting p = record { style = setting.style; date = setting.date; positi
 abbrev pub extended : List ℕ → ℕ → List ℕ → List ℕ
 extended b keep s = laid b keep (take 16 (drop 2 s))
 
-abbrev pub legStep : ℕ → ℕ → ℕ → Setting → Leg → Step
-legStep keep add size setting g = Made size (keep + add) (moved_to setting g.to) (LegFields g.flags g.style g.date g.from g.to) keep
+abbrev pub leg_step : ℕ → ℕ → ℕ → Setting → Leg → Step
+leg_step keep add size setting g = Made size (keep + add) (moved_to setting g.to) (LegFields g.flags g.style g.date g.from g.to) keep
 
-abbrev pub stationStep : ℕ → ℕ → ℕ → Setting → Station → Step
-stationStep keep add size setting g = Made size (keep + add) setting (StationFields g) keep
+abbrev pub station_step : ℕ → ℕ → ℕ → Setting → Station → Step
+station_step keep add size setting g = Made size (keep + add) setting (StationFields g) keep
 
-abbrev pub sectionStep : ℕ → ℕ → ℕ → Setting → Section → Step
-sectionStep keep add size setting g = Made size (keep + add) setting (SectionFields g.last 0 g.date g.size) keep
+abbrev pub section_step : ℕ → ℕ → ℕ → Setting → Section → Step
+section_step keep add size setting g = Made size (keep + add) setting (SectionFields g.last 0 g.date g.size) keep
 
-abbrev pub moveStep : ℕ → Setting → Point → Step
-moveStep len setting p = On 13 len (moved_to setting p)
+abbrev pub move_step : ℕ → Setting → Point → Step
+move_step len setting p = On 13 len (moved_to setting p)
 
-abbrev pub trimStep : ℕ → Setting → Step
-trimStep keep setting = On 1 keep setting
+abbrev pub trim_step : ℕ → Setting → Step
+trim_step keep setting = On 1 keep setting

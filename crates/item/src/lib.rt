@@ -1,14 +1,14 @@
 // What an item of a file does to the state. The label is lent, so nothing is copied but
 // the bytes that the label gains.
 ghost use Rattle.std.specs.Prelude.{◌≡◌, [], ℕ, ◌+◌, ◌≤◌, ◌<◌, length, take, drop};
-ghost use Rattle.format.specs.Items.{Style as styleItem, Date as dateItem, item_of};
-ghost use Rattle.format.specs.Label.{labelLimit};
-ghost use Rattle.format.specs.Outline.{dropLeaves};
-ghost use Rattle.format.specs.State.{dateOf, apply};
+ghost use Rattle.format.specs.Items.{Style as style_item, Date as date_item, item_of};
+ghost use Rattle.format.specs.Label.{label_limit};
+ghost use Rattle.format.specs.Outline.{drop_leaves};
+ghost use Rattle.format.specs.State.{date_of, apply};
 ghost use Rattle.format.specs.Fields.{state_of};
 ghost use Rattle.format.specs.declared.Fields.TheVariants.{Error as errorFields};
 ghost use Rattle.format.specs.Reading.{next};
-ghost use Rattle.short.specs.Brief.{legAt, stationAt, sectionAt};
+ghost use Rattle.short.specs.Brief.{leg_at, station_at, section_at};
 ghost use Rattle.item.specs.Seen.{Does, Tells, TellsKept, Follows, made_of};
 
 use decode::{Body, Item, decode, get_point, long_dimensions, short_dimensions};
@@ -79,7 +79,7 @@ pub fn with_position(setting: Setting, place: Point) -> Setting
 
 // A style; normal where it is normal already is the end.
 fn style_step(style: u8, len: usize, setting: Setting) -> Step
-    ensures { Does result (λ b. apply (state_of setting (take len b)) 1 (styleItem style)) len }
+    ensures { Does result (λ b. apply (state_of setting (take len b)) 1 (style_item style)) len }
 {
     let after = with_style(setting, style);
     if style != 0 {
@@ -102,7 +102,7 @@ fn style_step(style: u8, len: usize, setting: Setting) -> Step
 // Two days as a date: equal ones are a single day.
 fn date_of(first: u32, last: u32) -> Dated
     requires { (first ≤ last) × (last ≤ 65535) }
-    ensures { result ≡ dateOf first last }
+    ensures { result ≡ date_of first last }
 {
     if first == last {
         return Dated::Day { day: first as u16 };
@@ -115,7 +115,7 @@ fn date_of(first: u32, last: u32) -> Dated
 
 // A date; refused where the last day is before the first or over 65535.
 fn date_step(size: usize, first: u32, last: u32, len: usize, setting: Setting) -> Step
-    ensures { Does result (λ b. apply (state_of setting (take len b)) size (dateItem first last)) len }
+    ensures { Does result (λ b. apply (state_of setting (take len b)) size (date_item first last)) len }
 {
     if last < first {
         return Step::Bad { number: 9 };
@@ -228,8 +228,8 @@ pub fn take_item(
     len: usize,
     setting: Setting,
 ) -> Step
-    requires { (len ≤ labelLimit) × (length bytes.old ≡ labelLimit) }
-    ensures { Tells result bytes.new (next version s.now (state_of setting (take len bytes.old))) × TellsKept result (dropLeaves (take len bytes.old) (item_of version s.now)) }
+    requires { (len ≤ label_limit) × (length bytes.old ≡ label_limit) }
+    ensures { Tells result bytes.new (next version s.now (state_of setting (take len bytes.old))) × TellsKept result (drop_leaves (take len bytes.old) (item_of version s.now)) }
 {
     let it = decode(version, s);
     match it {
@@ -264,7 +264,7 @@ pub fn take_item(
 // The leg of a LINE whose numbers stand from byte k on, from a place.
 pub fn leg_at(s: &[u8], k: usize, flags: u8, setting: Setting, from: Point) -> Leg
     requires { k + 12 ≤ length s.now }
-    ensures { result ≡ legAt s.now k flags setting from }
+    ensures { result ≡ leg_at s.now k flags setting from }
 {
     let to = get_point(&s[k..]);
     let style = setting.style;
@@ -281,7 +281,7 @@ pub fn leg_at(s: &[u8], k: usize, flags: u8, setting: Setting, from: Point) -> L
 // The station of a LABEL, the same.
 pub fn station_at(s: &[u8], k: usize, flags: u8) -> Station
     requires { k + 12 ≤ length s.now }
-    ensures { result ≡ stationAt s.now k flags }
+    ensures { result ≡ station_at s.now k flags }
 {
     let place = get_point(&s[k..]);
     Station { flags, place }
@@ -290,7 +290,7 @@ pub fn station_at(s: &[u8], k: usize, flags: u8) -> Station
 // The cross-section of an XSECT, the same.
 pub fn section_at(s: &[u8], k: usize, code: u8, setting: Setting) -> Section
     requires { k + 16 ≤ length s.now }
-    ensures { result ≡ sectionAt s.now k code setting }
+    ensures { result ≡ section_at s.now k code setting }
 {
     let date = setting.date;
     let last = code % 2;

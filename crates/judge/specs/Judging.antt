@@ -5,11 +5,11 @@ use Rattle.format.specs.State.{start, Record}
 use Rattle.format.specs.Refusals.{Result}
 use Rattle.format.specs.declared.Verdict.TheVariants.{Good, Refusal}
 use Rattle.format.specs.Reading.{items_of}
-use Rattle.format.specs.Writing.{v8, afterAll}
-use Rattle.format.specs.Codes.{headerCodes}
-use Rattle.format.specs.Editing.{houseWritten, codesPlace}
+use Rattle.format.specs.Writing.{v8, after_all}
+use Rattle.format.specs.Codes.{header_codes}
+use Rattle.format.specs.Editing.{house_written, codes_place}
 use Rattle.header.specs.Head.{saying, Opens}
-use Rattle.scan.specs.Places.{stateAt, Inside}
+use Rattle.scan.specs.Places.{state_at, Inside}
 use Rattle.scan.specs.declared.Place.{Place}
 use Rattle.judge.specs.declared.Old.{Old}
 use Rattle.judge.specs.declared.Run.{Run}
@@ -18,55 +18,55 @@ use Rattle.judge.specs.declared.Judged.TheVariants.{Refused, Foreign, Short, Cut
 use Rattle.judge.specs.Walking.{Walks}
 
 -- the file's header
-abbrev pub oldHeader : List ℕ → Old → Header
-oldHeader file old = saying old.extended old.title old.time file
+abbrev pub old_header : List ℕ → Old → Header
+old_header file old = saying old.extended old.title old.time file
 
 -- it is whole
 abbrev pub OldOpens : List ℕ → Old → Type 0
 OldOpens file old = Opens file old.version old.place old.extended old.title old.time
 
 -- what the file comes to
-abbrev pub oldResult : List ℕ → Old → Result
-oldResult file old = items_of old.version old.place file
+abbrev pub old_result : List ℕ → Old → Result
+old_result file old = items_of old.version old.place file
 
 -- the header is as the writing rules give it, and so are the codes of the records up to a place
 pub record Begins (file : List ℕ) (old : Old) (j : ℕ) (p : Place) (b : List ℕ) : Type 0 where
   pub opens : OldOpens file old
-  pub version-is : old.version ≡ 8
-  pub header_is : take old.place file ≡ headerCodes (oldHeader file old)
+  pub version_is : old.version ≡ 8
+  pub header_is : take old.place file ≡ header_codes (old_header file old)
   pub walks : Walks file old.place start j p b
 
 -- reading stands before the record with the number j of the file of these records; b holds the label
 pub record Stands (file : List ℕ) (h : Header) (rs : List Record) (j : ℕ) (p : Place) (b : List ℕ) : Type 0 where
   pub inside : Inside file p b
-  pub place_is : p.at ≡ codesPlace h rs j
-  pub state : stateAt p b ≡ afterAll v8 start (take j rs)
+  pub place_is : p.at ≡ codes_place h rs j
+  pub state : state_at p b ≡ after_all v8 start (take j rs)
 
 -- a file that can be read and is house-written
 pub record House (file : List ℕ) (old : Old) : Type 0 where
-  pub readable : (oldResult file old).verdict ≡ Good
-  pub house : houseWritten file (oldHeader file old) (oldResult file old).records ≡ true
+  pub readable : (old_result file old).verdict ≡ Good
+  pub house : house_written file (old_header file old) (old_result file old).records ≡ true
 
 -- a run of its records
 pub record Cuts (file : List ℕ) (old : Old) (run : Run) (front : Place) (b : List ℕ) (back : Place) (b' : List ℕ) (rest : ℕ) : Type 0 where
   pub house : House file old
-  pub all : run.first + (run.count + rest) ≡ length (oldResult file old).records
-  pub few : length (oldResult file old).records ≤ length file
-  pub before : Stands file (oldHeader file old) (oldResult file old).records run.first front b
-  pub behind : Stands file (oldHeader file old) (oldResult file old).records (run.first + run.count) back b'
+  pub all : run.first + (run.count + rest) ≡ length (old_result file old).records
+  pub few : length (old_result file old).records ≤ length file
+  pub before : Stands file (old_header file old) (old_result file old).records run.first front b
+  pub behind : Stands file (old_header file old) (old_result file old).records (run.first + run.count) back b'
 
 -- the reader's refusal; a file that can be read and is not house-written; a house-written one that ends before the run does; or where it
 -- is cut
 abbrev pub Judges : List ℕ → Old → Run → Judged → List ℕ → List ℕ → Type 0
-Judges file old run (Refused n p) b b' = (oldResult file old).verdict ≡ Refusal n p
-Judges file old run Foreign b b' = ((oldResult file old).verdict ≡ Good) × (houseWritten file (oldHeader file old) (oldResult file old).records ≡ false)
-Judges file old run (Short n) b b' = House file old × (n ≡ length (oldResult file old).records) × (n < run.first + run.count)
+Judges file old run (Refused n p) b b' = (old_result file old).verdict ≡ Refusal n p
+Judges file old run Foreign b b' = ((old_result file old).verdict ≡ Good) × (house_written file (old_header file old) (old_result file old).records ≡ false)
+Judges file old run (Short n) b b' = House file old × (n ≡ length (old_result file old).records) × (n < run.first + run.count)
 Judges file old run (Cut front back rest) b b' = Cuts file old run front b back b' rest
 
 -- of a file that is not house-written
 abbrev pub Fails : List ℕ → Old → Judged → Type 0
-Fails file old (Refused n p) = (oldResult file old).verdict ≡ Refusal n p
-Fails file old Foreign = (oldResult file old).verdict ≡ Good
+Fails file old (Refused n p) = (old_result file old).verdict ≡ Refusal n p
+Fails file old Foreign = (old_result file old).verdict ≡ Good
 Fails file old (Short n) = ⊥
 Fails file old (Cut front back rest) = ⊥
 

@@ -2,21 +2,21 @@
 use Rattle.std.specs.Prelude.{ℕ, ◌+◌, ◌-◌, ◌*◌, ◌≤◌, ◌<◌, ◌≡◌, List, ◌∷◌, ◌++◌, length, get_or, take, drop}
 use Rattle.format.specs.Bytes.{le32}
 use Rattle.format.specs.Items.{point_of}
-use Rattle.format.specs.Label.{labelLimit}
+use Rattle.format.specs.Label.{label_limit}
 use Rattle.format.specs.declared.Point.{Point}
 use Rattle.format.specs.declared.Position.{Position}
 use Rattle.format.specs.declared.Position.TheVariants.{Unset, Stands}
 use Rattle.format.specs.declared.Setting.{Setting}
-use Rattle.format.specs.Header.{fileLimit}
+use Rattle.format.specs.Header.{file_limit}
 use Rattle.format.specs.State.{State, Record, leg}
 use Rattle.format.specs.Refusals.{Result, stop, also}
 use Rattle.format.specs.WellFormed.{GoodDated, GoodPoint, AllWellFormed}
 use Rattle.format.specs.declared.Verdict.TheVariants.{Good, Refusal}
 use Rattle.format.specs.Reading.{run}
-use Rattle.format.specs.Writing.{v8, codesAll, afterAll, encodeAll, recordsVerdict}
+use Rattle.format.specs.Writing.{v8, codes_all, after_all, encode_all, records_verdict}
 use Rattle.format.specs.Codes.{codes, after, closing}
-use Rattle.format.specs.Fields.{recordOf}
-use Rattle.scan.specs.Places.{labelIn, stateAt, Inside}
+use Rattle.format.specs.Fields.{record_of}
+use Rattle.scan.specs.Places.{label_in, state_at, Inside}
 use Rattle.scan.specs.declared.Place.{Place}
 use Rattle.judge.specs.declared.Brief.{Brief}
 use Rattle.judge.specs.declared.Brief.TheVariants.{Other, Line}
@@ -34,8 +34,8 @@ abbrev pub rest_of : List ℕ → ℕ → State → Result
 rest_of file at st = run 8 at (drop at file) st
 
 -- what the writing rules give for its records
-abbrev pub rulesFrom : List ℕ → ℕ → State → List ℕ
-rulesFrom file at st = encodeAll v8 st (rest_of file at st).records
+abbrev pub rules_from : List ℕ → ℕ → State → List ℕ
+rules_from file at st = encode_all v8 st (rest_of file at st).records
 
 -- style, date and position as reading leaves them
 abbrev pub GoodPosition : Position → Type 0
@@ -43,43 +43,43 @@ GoodPosition Unset = Unit
 GoodPosition (Stands p) = GoodPoint p
 
 pub record GoodSetting (s : Setting) : Type 0 where
-  pub style-fits : s.style ≤ 5
-  pub date-fits : GoodDated s.date
-  pub position-fits : GoodPosition s.position
+  pub style_fits : s.style ≤ 5
+  pub date_fits : GoodDated s.date
+  pub position_fits : GoodPosition s.position
 
 -- the records there are well-formed, and none is refused with 13; what they find is as reading leaves it
 pub record Sound (file : List ℕ) (at : ℕ) (st : State) : Type 0 where
   pub good : GoodSetting st.setting
   pub formed : AllWellFormed (rest_of file at st).records
-  pub sayable : recordsVerdict v8 0 st (rest_of file at st).records ≡ Good
+  pub sayable : records_verdict v8 0 st (rest_of file at st).records ≡ Good
 
 -- the same where reading stands; b holds the label
 pub record Ready (file : List ℕ) (p : Place) (b : List ℕ) : Type 0 where
-  pub small : length file ≤ fileLimit
+  pub small : length file ≤ file_limit
   pub inside : Inside file p b
-  pub sound : Sound file p.at (stateAt p b)
+  pub sound : Sound file p.at (state_at p b)
 
 -- ---- one record
 
 -- r is the next record
 pub record Met (file : List ℕ) (p : Place) (b : List ℕ) (r : Record) : Type 0 where
   pub others : List Record
-  pub records : (rest_of file p.at (stateAt p b)).records ≡ r ∷ others
+  pub records : (rest_of file p.at (state_at p b)).records ≡ r ∷ others
 
 -- its codes are those that the writing rules give, and reading stands behind them
 pub record Steps (file : List ℕ) (p : Place) (b : List ℕ) (to : Place) (b' : List ℕ) (r : Record) : Type 0 where
   pub inside : Inside file to b'
-  pub there : drop p.at file ≡ codes (stateAt p b) r ++ drop to.at file
-  pub place_is : to.at ≡ p.at + length (codes (stateAt p b) r)
-  pub state : stateAt to b' ≡ after (stateAt p b) r
+  pub there : drop p.at file ≡ codes (state_at p b) r ++ drop to.at file
+  pub place_is : to.at ≡ p.at + length (codes (state_at p b) r)
+  pub state : state_at to b' ≡ after (state_at p b) r
   pub further : p.at < to.at
-  pub left : rest_of file p.at (stateAt p b) ≡ also r (rest_of file to.at (stateAt to b'))
+  pub left : rest_of file p.at (state_at p b) ≡ also r (rest_of file to.at (state_at to b'))
 
 abbrev pub Takes : List ℕ → Place → List ℕ → Taken → List ℕ → Type 0
-Takes file p b (Refused n q) b' = rest_of file p.at (stateAt p b) ≡ stop (Refusal n q)
-Takes file p b Foreign b' = drop p.at file ≡ rulesFrom file p.at (stateAt p b) → ⊥
-Takes file p b End b' = (rest_of file p.at (stateAt p b) ≡ stop Good) × (drop p.at file ≡ closing p.setting.style)
-Takes file p b (Next to f) b' = Steps file p b to b' (recordOf f (labelIn to b'))
+Takes file p b (Refused n q) b' = rest_of file p.at (state_at p b) ≡ stop (Refusal n q)
+Takes file p b Foreign b' = drop p.at file ≡ rules_from file p.at (state_at p b) → ⊥
+Takes file p b End b' = (rest_of file p.at (state_at p b) ≡ stop Good) × (drop p.at file ≡ closing p.setting.style)
+Takes file p b (Next to f) b' = Steps file p b to b' (record_of f (label_in to b'))
 
 -- ---- the commonest record
 
@@ -92,9 +92,9 @@ pub record BriefLine (s l : List ℕ) (keep add : ℕ) : Type 0 where
   pub part : get_or s 1 0 ≡ 16 * (length l - keep) + add
   pub some : 0 < length l - keep + add
   pub kept : keep ≤ length l
-  pub few-off : length l - keep ≤ 15
-  pub few-add : add ≤ 15
-  pub few : keep + 16 ≤ labelLimit
+  pub few_off : length l - keep ≤ 15
+  pub few_add : add ≤ 15
+  pub few : keep + 16 ≤ label_limit
   pub differs : 0 < length l - keep → 0 < add → get_or l keep 0 ≡ get_or s 2 0 → ⊥
 
 abbrev pub Briefs : Brief → List ℕ → List ℕ → Type 0
@@ -102,43 +102,43 @@ Briefs Other s l = Unit
 Briefs (Line keep add) s l = BriefLine s l keep add
 
 -- the leg that it makes
-abbrev pub briefLeg : List ℕ → State → Point → ℕ → ℕ → Record
-briefLeg s st from keep add =
+abbrev pub brief_leg : List ℕ → State → Point → ℕ → ℕ → Record
+brief_leg s st from keep add =
     leg (record { flags = get_or s 0 0 - 0x40; style = st.setting.style; date = st.setting.date; from = from; to = point_of le32 (drop (2 + add) s) })
     (take keep st.label ++ take add (drop 2 s))
 
 -- one record more is passed, or the label is as it was
-pub record Passed-on (file : List ℕ) (p : Place) (b : List ℕ) (to : Place) (b' : List ℕ) : Type 0 where
+pub record PassedOn (file : List ℕ) (p : Place) (b : List ℕ) (to : Place) (b' : List ℕ) : Type 0 where
   pub made : Record
   pub steps : Steps file p b to b' made
 
 abbrev pub Passes : List ℕ → Place → List ℕ → Passing → List ℕ → Type 0
 Passes file p b PassingOther b' = b' ≡ b
-Passes file p b (PassingPassed to) b' = Passed-on file p b to b'
+Passes file p b (PassingPassed to) b' = PassedOn file p b to b'
 
 -- ---- records one after another
 
 -- from a byte on, in a state, the codes of j records are those that the writing rules give, and reading stands behind them
 pub record Walks (file : List ℕ) (at : ℕ) (st : State) (j : ℕ) (to : Place) (b : List ℕ) : Type 0 where
   pub inside : Inside file to b
-  pub there : drop at file ≡ codesAll v8 st (take j (rest_of file at st).records) ++ drop to.at file
-  pub place_is : to.at ≡ at + length (codesAll v8 st (take j (rest_of file at st).records))
-  pub state : stateAt to b ≡ afterAll v8 st (take j (rest_of file at st).records)
+  pub there : drop at file ≡ codes_all v8 st (take j (rest_of file at st).records) ++ drop to.at file
+  pub place_is : to.at ≡ at + length (codes_all v8 st (take j (rest_of file at st).records))
+  pub state : state_at to b ≡ after_all v8 st (take j (rest_of file at st).records)
   pub few : at + j ≤ to.at
   pub number : j ≤ length (rest_of file at st).records
-  pub records : (rest_of file to.at (stateAt to b)).records ≡ drop j (rest_of file at st).records
-  pub verdict : (rest_of file to.at (stateAt to b)).verdict ≡ (rest_of file at st).verdict
+  pub records : (rest_of file to.at (state_at to b)).records ≡ drop j (rest_of file at st).records
+  pub verdict : (rest_of file to.at (state_at to b)).verdict ≡ (rest_of file at st).verdict
 
 -- the file ends there after n records, all as the writing rules give them
 pub record Ends (file : List ℕ) (at : ℕ) (st : State) (n : ℕ) : Type 0 where
   pub readable : (rest_of file at st).verdict ≡ Good
   pub counted : n ≡ length (rest_of file at st).records
   pub few : at + n ≤ length file
-  pub ours : drop at file ≡ rulesFrom file at st
+  pub ours : drop at file ≡ rules_from file at st
 
 -- at most so many records
 abbrev pub Stretches : List ℕ → Place → List ℕ → ℕ → Stretch → List ℕ → Type 0
-Stretches file p b limit (StretchRefused n q) b' = (rest_of file p.at (stateAt p b)).verdict ≡ Refusal n q
-Stretches file p b limit StretchForeign b' = drop p.at file ≡ rulesFrom file p.at (stateAt p b) → ⊥
-Stretches file p b limit (StretchEnd n) b' = Ends file p.at (stateAt p b) n × (n < limit)
-Stretches file p b limit (Passed to) b' = Walks file p.at (stateAt p b) limit to b'
+Stretches file p b limit (StretchRefused n q) b' = (rest_of file p.at (state_at p b)).verdict ≡ Refusal n q
+Stretches file p b limit StretchForeign b' = drop p.at file ≡ rules_from file p.at (state_at p b) → ⊥
+Stretches file p b limit (StretchEnd n) b' = Ends file p.at (state_at p b) n × (n < limit)
+Stretches file p b limit (Passed to) b' = Walks file p.at (state_at p b) limit to b'

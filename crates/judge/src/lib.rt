@@ -3,17 +3,17 @@
 // are compared with the file's bytes.
 ghost use Rattle.std.specs.Prelude.{◌≡◌, ◌+◌, ◌-◌, ◌≤◌, length, take, drop};
 ghost use Rattle.format.specs.Bytes.{same, le32};
-ghost use Rattle.format.specs.Fields.{recordOf};
-ghost use Rattle.format.specs.Header.{fileLimit};
+ghost use Rattle.format.specs.Fields.{record_of};
+ghost use Rattle.format.specs.Header.{file_limit};
 ghost use Rattle.format.specs.WellFormed.{WellFormed};
-ghost use Rattle.format.specs.Codes.{codes, codesLimit, closing, headerCodes, headerLimit};
+ghost use Rattle.format.specs.Codes.{codes, codes_limit, closing, header_codes, header_limit};
 ghost use Rattle.format.specs.Items.{point_of};
-ghost use Rattle.format.specs.Label.{labelLimit};
+ghost use Rattle.format.specs.Label.{label_limit};
 ghost use Rattle.part.specs.Lays.{Puts};
 ghost use Rattle.scan.specs.Keeping.{Swaps, Keeps};
-ghost use Rattle.scan.specs.Places.{stateAt};
+ghost use Rattle.scan.specs.Places.{state_at};
 ghost use Rattle.judge.specs.Walking.{Ready, Met, Takes, Briefs, Passes, Stretches};
-ghost use Rattle.judge.specs.Judging.{OldOpens, oldHeader, Begins, Fails, Judges, JudgesRest};
+ghost use Rattle.judge.specs.Judging.{OldOpens, old_header, Begins, Fails, Judges, JudgesRest};
 
 use format::{Fields, LABEL_LIMIT, Point, Position, Setting};
 use scan::{Found, Place};
@@ -78,14 +78,14 @@ pub const HEADER_LIMIT: usize = 4187;
 
 // Room for the codes of the header or of a record.
 pub fn room() -> [u8; HEADER_LIMIT]
-    ensures { length result ≡ headerLimit }
+    ensures { length result ≡ header_limit }
 {
     [0; HEADER_LIMIT]
 }
 
 // Whether these codes stand in the file from `at` on.
 fn stands(file: &[u8], at: usize, codes: &[u8]) -> bool
-    requires { (at ≤ length file.now) × (length file.now ≤ fileLimit) × (length codes.now ≤ headerLimit) }
+    requires { (at ≤ length file.now) × (length file.now ≤ file_limit) × (length codes.now ≤ header_limit) }
     ensures { result ≡ same (take (length codes.now) (drop at file.now)) codes.now }
 {
     let end = at + codes.len();
@@ -99,7 +99,7 @@ fn stands(file: &[u8], at: usize, codes: &[u8]) -> bool
 
 // A label of len bytes, copied into another buffer.
 fn copy_label(label: &[u8; LABEL_LIMIT], len: usize, spare: &mut [u8; LABEL_LIMIT]) -> usize
-    requires { (len ≤ labelLimit) × (length label.now ≡ labelLimit) × (length spare.old ≡ labelLimit) }
+    requires { (len ≤ label_limit) × (length label.now ≡ label_limit) × (length spare.old ≡ label_limit) }
     ensures { Swaps spare.new (take len label.now) result }
 {
     let own = &label[..];
@@ -114,8 +114,8 @@ fn put_codes(
     name: &[u8],
     fields: Fields,
 ) -> usize
-    requires { (from.len ≤ labelLimit) × (length last.now ≡ labelLimit) × WellFormed (recordOf fields name.now) }
-    ensures { Puts room.old room.new (codes (stateAt from last.now) (recordOf fields name.now)) codesLimit result }
+    requires { (from.len ≤ label_limit) × (length last.now ≡ label_limit) × WellFormed (record_of fields name.now) }
+    ensures { Puts room.old room.new (codes (state_at from last.now) (record_of fields name.now)) codes_limit result }
 {
     let before = &last[..];
     let len = from.len;
@@ -131,8 +131,8 @@ fn take_made(
     fields: Fields,
     room: &mut [u8],
 ) -> Taken
-    requires { Ready file.now from label.old × Met file.now from label.old (recordOf fields name.now) × (length name.now ≤ labelLimit) × (length room.old ≡ headerLimit) }
-    ensures { Takes file.now from label.old result label.new × (length room.new ≡ headerLimit) }
+    requires { Ready file.now from label.old × Met file.now from label.old (record_of fields name.now) × (length name.now ≤ label_limit) × (length room.old ≡ header_limit) }
+    ensures { Takes file.now from label.old result label.new × (length room.new ≡ header_limit) }
 {
     let at = from.at;
     let len = from.len;
@@ -152,8 +152,8 @@ fn take_made(
 
 // The end that reading met, held to the writing rules.
 fn take_end(file: &[u8], from: Place, room: &mut [u8]) -> bool
-    requires { (from.at ≤ length file.now) × (length room.old ≡ headerLimit) }
-    ensures { (result ≡ same (drop from.at file.now) (closing from.setting.style)) × (length room.new ≡ headerLimit) }
+    requires { (from.at ≤ length file.now) × (length room.old ≡ header_limit) }
+    ensures { (result ≡ same (drop from.at file.now) (closing from.setting.style)) × (length room.new ≡ header_limit) }
 {
     let at = from.at;
     let setting = from.setting;
@@ -170,8 +170,8 @@ pub fn take_record(
     spare: &mut [u8; LABEL_LIMIT],
     room: &mut [u8],
 ) -> Taken
-    requires { Ready file.now from label.old × (length spare.old ≡ labelLimit) × (length room.old ≡ headerLimit) }
-    ensures { Takes file.now from label.old result label.new × (length spare.new ≡ labelLimit) × (length room.new ≡ headerLimit) }
+    requires { Ready file.now from label.old × (length spare.old ≡ label_limit) × (length room.old ≡ header_limit) }
+    ensures { Takes file.now from label.old result label.new × (length spare.new ≡ label_limit) × (length room.new ≡ header_limit) }
 {
     let len = copy_label(label, from.len, spare);
     let at = from.at;
@@ -213,7 +213,7 @@ enum Passing {
 // The LINE at the front of s, after a label of len bytes. No more of the label could have
 // stayed where nothing is dropped, nothing comes, or the first bytes differ.
 fn brief_line(s: &[u8], label: &[u8; LABEL_LIMIT], len: usize) -> Brief
-    requires { (len ≤ labelLimit) × (length label.now ≡ labelLimit) }
+    requires { (len ≤ label_limit) × (length label.now ≡ label_limit) }
     ensures { Briefs result s.now (take len label.now) }
 {
     if s.len() < 29 {
@@ -334,7 +334,7 @@ fn judge_records(file: &[u8], from: Place, label: &mut [u8; LABEL_LIMIT], limit:
 // Whether the header's codes are those that the writing rules give.
 fn our_header(file: &[u8], old: Old) -> bool
     requires { OldOpens file.now old }
-    ensures { result ≡ same (take old.place file.now) (headerCodes (oldHeader file.now old)) }
+    ensures { result ≡ same (take old.place file.now) (header_codes (old_header file.now old)) }
 {
     let ends = 24 + old.title;
     let from = ends + 1;
@@ -411,7 +411,7 @@ fn judge_run(
     before: &[u8; LABEL_LIMIT],
     behind: &mut [u8; LABEL_LIMIT],
 ) -> Judged
-    requires { Begins file.now old run.first front before.now × (length behind.old ≡ labelLimit) }
+    requires { Begins file.now old run.first front before.now × (length behind.old ≡ label_limit) }
     ensures { Judges file.now old run result before.now behind.new }
 {
     let len = copy_label(before, front.len, behind);
@@ -437,7 +437,7 @@ pub fn judge(
     before: &mut [u8; LABEL_LIMIT],
     behind: &mut [u8; LABEL_LIMIT],
 ) -> Judged
-    requires { OldOpens file.now old × (length before.old ≡ labelLimit) × (length behind.old ≡ labelLimit) }
+    requires { OldOpens file.now old × (length before.old ≡ label_limit) × (length behind.old ≡ label_limit) }
     ensures { Judges file.now old run result before.new behind.new }
 {
     if !our_header(file, old) {

@@ -1,8 +1,8 @@
 // What a code says in a version.
 ghost use Rattle.std.specs.Prelude.{◌≡◌, List, ℕ, ◌≤◌, length, drop, get_or};
-ghost use Rattle.format.specs.Items.{sectionItem, oldPart, newPart, oldDateItem, v7DateItem, oldMiddleItem, oldLowItem, oldHighItem, newDateItem, newLowItem, newHighItem, item_of};
+ghost use Rattle.format.specs.Items.{section_item, old_part, new_part, old_date_item, v7_date_item, old_middle_item, old_low_item, old_high_item, new_date_item, new_low_item, new_high_item, item_of};
 ghost use Rattle.length.specs.Parts.{part_at};
-ghost use Rattle.kind.specs.Kinds.{tailOf, kindItem, SaysBy, Says, Newer, newItem};
+ghost use Rattle.kind.specs.Kinds.{tail_of, kind_item, SaysBy, Says, Newer, new_item};
 
 use format::Cut;
 use number::index;
@@ -38,7 +38,7 @@ pub enum Kind {
 
 // v3 to v7, 00-1f
 fn old_low(code: u8) -> Kind
-    ensures { Says result (λ p s. oldLowItem code s) }
+    ensures { Says result (λ p s. old_low_item code s) }
 {
     if code == 0x00 {
         return Kind::Stop;
@@ -60,7 +60,7 @@ fn old_low(code: u8) -> Kind
 
 // v4 to v6, 20-21
 fn old_date(code: u8) -> Kind
-    ensures { Says result (λ p s. oldDateItem code s) }
+    ensures { Says result (λ p s. old_date_item code s) }
 {
     if code == 0x20 {
         return Kind::Seconds;
@@ -73,7 +73,7 @@ fn old_date(code: u8) -> Kind
 
 // v7, 20 / 21 / 23 / 24
 fn v7_date(code: u8) -> Kind
-    ensures { Says result (λ p s. v7DateItem code s) }
+    ensures { Says result (λ p s. v7_date_item code s) }
 {
     if code == 0x20 {
         return Kind::Day;
@@ -92,7 +92,7 @@ fn v7_date(code: u8) -> Kind
 
 // v3 to v7, 20-2f
 fn old_middle(version: u8, code: u8) -> Kind
-    ensures { Says result (λ p s. oldMiddleItem version code s) }
+    ensures { Says result (λ p s. old_middle_item version code s) }
 {
     if code == 0x22 {
         if version < 6 {
@@ -111,7 +111,7 @@ fn old_middle(version: u8, code: u8) -> Kind
 
 // 30-33
 fn section(code: u8) -> Kind
-    ensures { Says result (λ p s. sectionItem code (p (drop 1 s)) (drop 1 s)) × Newer result }
+    ensures { Says result (λ p s. section_item code (p (drop 1 s)) (drop 1 s)) × Newer result }
 {
     let last = code % 2;
     if code < 0x32 {
@@ -128,7 +128,7 @@ fn section(code: u8) -> Kind
 
 // v3 to v7, 30-ff
 fn old_high(version: u8, code: u8) -> Kind
-    ensures { SaysBy oldPart result (λ s. oldHighItem version code (drop 1 s)) }
+    ensures { SaysBy old_part result (λ s. old_high_item version code (drop 1 s)) }
 {
     if code < 0x34 {
         if version < 5 {
@@ -159,7 +159,7 @@ fn old_high(version: u8, code: u8) -> Kind
 
 // v8, 10-13
 fn new_date(code: u8) -> Kind
-    ensures { Says result (λ p s. newDateItem code s) × Newer result }
+    ensures { Says result (λ p s. new_date_item code s) × Newer result }
 {
     if code == 0x10 {
         return Kind::NoDate;
@@ -175,7 +175,7 @@ fn new_date(code: u8) -> Kind
 
 // v8, 00-2f
 fn new_low(code: u8) -> Kind
-    ensures { Says result (λ p s. newLowItem code s) × Newer result }
+    ensures { Says result (λ p s. new_low_item code s) × Newer result }
 {
     if code < 0x05 {
         return Kind::Style { style: code };
@@ -197,7 +197,7 @@ fn new_low(code: u8) -> Kind
 
 // v8, 30-ff
 fn new_high(code: u8) -> Kind
-    ensures { SaysBy newPart result (λ s. newHighItem code (drop 1 s)) × Newer result }
+    ensures { SaysBy new_part result (λ s. new_high_item code (drop 1 s)) × Newer result }
 {
     if code < 0x34 {
         return section(code);
@@ -231,7 +231,7 @@ fn new_high(code: u8) -> Kind
 
 // What a code says in v8.
 pub fn new_kind(code: u8) -> Kind
-    ensures { SaysBy newPart result (newItem code) × Newer result }
+    ensures { SaysBy new_part result (new_item code) × Newer result }
 {
     if code < 0x30 {
         return new_low(code);
@@ -242,7 +242,7 @@ pub fn new_kind(code: u8) -> Kind
 // What a code says in a version. Its last lines are those of `new_kind`: where that is
 // called instead, reading takes a tenth more instructions.
 pub fn kind_of(version: u8, code: u8) -> Kind
-    ensures { (s : List ℕ) → 1 ≤ length s → get_or s 0 0 ≡ code → kindItem result (part_at version) s ≡ item_of version s }
+    ensures { (s : List ℕ) → 1 ≤ length s → get_or s 0 0 ≡ code → kind_item result (part_at version) s ≡ item_of version s }
 {
     if version < 8 {
         if code < 0x20 {
@@ -263,7 +263,7 @@ pub fn kind_of(version: u8, code: u8) -> Kind
 
 // How many bytes follow the label.
 pub fn tail_size(tail: Tail) -> usize
-    ensures { (result ≡ tailOf tail) × (result ≤ 16) }
+    ensures { (result ≡ tail_of tail) × (result ≤ 16) }
 {
     match tail {
         Tail::Short { last: _ } => 8,

@@ -8,49 +8,49 @@ use lib.ListN.{length, take}
 use lib.Seq.{length-take-le, take-take, take-length, paste, take-paste, length-paste}
 use borrow.Author.Tests.{lt-ltb, le-ltb}
 use Rattle.format.specs.Bytes.{pick}
-use Rattle.label.specs.Seen.{keptAfter}
-use Rattle.format.specs.Label.{labelled, dotFrom, keptToDot, keptOf, labelStep}
+use Rattle.label.specs.Seen.{kept_after}
+use Rattle.format.specs.Label.{labelled, dot_from, kept_to_dot, kept_of, label_step}
 use Rattle.format.specs.declared.Kept.TheVariants.{Keeps, Lacks}
 use Rattle.format.specs.declared.Cut.{Cut}
 use Rattle.format.specs.declared.Cut.TheVariants.{Trim, Back}
-use Rattle.format.proofs.Basics.{less-or-not}
+use Rattle.format.proofs.Basics.{less_or_not}
 use Rattle.format.proofs.LabelLaws.{step_fits}
 
 -- ---- what stays
 
 module _ (b : List ℕ) (len n : ℕ) (hb : len ≤ length b) where
-  pub dot-short : len < 16 → Lacks ≡ keptToDot (take len b) n
-  unfolding keptToDot pick
-  dot-short h = simp (length-take-le len b hb, lt-ltb _ _ h)
+  pub dot_short : len < 16 → Lacks ≡ kept_to_dot (take len b) n
+  unfolding kept_to_dot pick
+  dot_short h = simp (length-take-le len b hb, lt-ltb _ _ h)
 
-  pub dot-from : 16 ≤ len → dotFrom n 0 (take (len - 16) b) ≡ keptToDot (take len b) n
-  unfolding keptToDot pick
-  dot-from h =
+  pub dot_from_lem : 16 ≤ len → dot_from n 0 (take (len - 16) b) ≡ kept_to_dot (take len b) n
+  unfolding kept_to_dot pick
+  dot_from_lem h =
       let z : len - 16 ≤ len = omega arith in
       simp (length-take-le len b hb, le-ltb _ _ h, take-take (len - 16) len b z)
 
   -- "Dropping must leave at least one byte"
-  pub trim-after : keptAfter len n 1 ≡ keptOf (take len b) (Trim n)
-  unfolding keptAfter pick
-  trim-after =
-      less-or-not n len
+  pub trim_after : kept_after len n 1 ≡ kept_of (take len b) (Trim n)
+  unfolding kept_after pick
+  trim_after =
+      less_or_not n len
       (λ h. simp (length-take-le len b hb, le-ltb len (n + 1) (omega arith), lt-ltb n len h))
       λ h. simp (length-take-le len b hb, lt-ltb len (n + 1) (omega arith), le-ltb n len h)
 
   -- "D up to the whole label is allowed"
-  pub back-after : keptAfter len n 0 ≡ keptOf (take len b) (Back n)
-  unfolding keptAfter
-  back-after = simp (length-take-le len b hb, add-zero)
+  pub back_after : kept_after len n 0 ≡ kept_of (take len b) (Back n)
+  unfolding kept_after
+  back_after = simp (length-take-le len b hb, add-zero)
 
 -- ---- the label after a step
 
 -- added is laid over the buffer b from k on
 module _ (b : List ℕ) (len k : ℕ) (added : List ℕ) (hb : length b ≡ 4096) (hk : k ≤ len) (h : k + length added ≤ 4096) where
-  pub step-whole : length (paste b k added (length added)) ≡ 4096
-  step-whole = length-paste b k added (length added) (omega arith) (omega arith) ∙ hb
+  pub step_whole : length (paste b k added (length added)) ≡ 4096
+  step_whole = length-paste b k added (length added) (omega arith) (omega arith) ∙ hb
 
-  pub step-laid : (cut : Cut) → Keeps k ≡ keptOf (take len b) cut
-      → labelled (take (k + length added) (paste b k added (length added))) ≡ labelStep (take len b) cut added
-  step-laid cut e =
+  pub step_laid : (cut : Cut) → Keeps k ≡ kept_of (take len b) cut
+      → labelled (take (k + length added) (paste b k added (length added))) ≡ label_step (take len b) cut added
+  step_laid cut e =
       let p = take-paste b k added (length added) (omega arith) (omega arith) in
       ap labelled (p ∙ simp (take-length, take-take k len b hk)) ∙ sym (step_fits (take len b) cut added k (sym e) h)

@@ -2,8 +2,8 @@
 // every version. The buffer is lent, beside plain numbers: nothing here copies it.
 ghost use Rattle.std.specs.Prelude.{◌≡◌, ℕ, ◌+◌, ◌≤◌, length, take};
 ghost use Rattle.std.proofs.Math.Seq.{paste};
-ghost use Rattle.format.specs.Label.{dotFrom, keptToDot, keptOf, labelStep, labelLimit};
-ghost use Rattle.label.specs.Seen.{dotSeen, Inside, Within, keptAfter, Tells, TellsKept};
+ghost use Rattle.format.specs.Label.{dot_from, kept_to_dot, kept_of, label_step, label_limit};
+ghost use Rattle.label.specs.Seen.{dot_seen, Inside, Within, kept_after, Tells, TellsKept};
 ghost use Rattle.wire.specs.Laid.{laid};
 
 use format::{Cut, Kept, LABEL_LIMIT};
@@ -40,8 +40,8 @@ pub fn blank() -> Label
 
 // The place of the nth dot from the end of the first len bytes.
 fn nth_dot(bytes: &[u8; LABEL_LIMIT], len: usize, n: usize) -> Dot
-    requires { (len ≤ labelLimit) × (length bytes.now ≡ labelLimit) }
-    ensures { (dotSeen result ≡ dotFrom n 0 (take len bytes.now)) × Inside len result }
+    requires { (len ≤ label_limit) × (length bytes.now ≡ label_limit) }
+    ensures { (dot_seen result ≡ dot_from n 0 (take len bytes.now)) × Inside len result }
 {
     let mut i = len;
     let mut dots: usize = 0;
@@ -62,8 +62,8 @@ fn nth_dot(bytes: &[u8; LABEL_LIMIT], len: usize, n: usize) -> Dot
 
 // What stays of the label of len bytes, 16 bytes off and then back to the nth dot.
 fn kept_to_dot(bytes: &[u8; LABEL_LIMIT], len: usize, n: usize) -> Kept
-    requires { (len ≤ labelLimit) × (length bytes.now ≡ labelLimit) }
-    ensures { (result ≡ keptToDot (take len bytes.now) n) × Within len result }
+    requires { (len ≤ label_limit) × (length bytes.now ≡ label_limit) }
+    ensures { (result ≡ kept_to_dot (take len bytes.now) n) × Within len result }
 {
     if len < 16 {
         return Kept::Lacks;
@@ -78,7 +78,7 @@ fn kept_to_dot(bytes: &[u8; LABEL_LIMIT], len: usize, n: usize) -> Kept
 
 // What stays of len bytes after off of them are dropped, where least have to stay.
 fn kept_after(len: usize, off: usize, least: usize) -> Kept
-    ensures { (result ≡ keptAfter len off least) × Within len result }
+    ensures { (result ≡ kept_after len off least) × Within len result }
 {
     if len < off {
         return Kept::Lacks;
@@ -92,8 +92,8 @@ fn kept_after(len: usize, off: usize, least: usize) -> Kept
 
 // What stays of the label of len bytes.
 pub fn kept_of(bytes: &[u8; LABEL_LIMIT], len: usize, cut: Cut) -> Kept
-    requires { (len ≤ labelLimit) × (length bytes.now ≡ labelLimit) }
-    ensures { (result ≡ keptOf (take len bytes.now) cut) × Within len result }
+    requires { (len ≤ label_limit) × (length bytes.now ≡ label_limit) }
+    ensures { (result ≡ kept_of (take len bytes.now) cut) × Within len result }
 {
     match cut {
         Cut::Empty => Kept::Keeps { bytes: 0 },
@@ -105,7 +105,7 @@ pub fn kept_of(bytes: &[u8; LABEL_LIMIT], len: usize, cut: Cut) -> Kept
 
 // Lays added over the label's bytes from keep on.
 fn append(bytes: &mut [u8; LABEL_LIMIT], keep: usize, added: &[u8])
-    requires { (keep + length added.now ≤ labelLimit) × (length bytes.old ≡ labelLimit) }
+    requires { (keep + length added.now ≤ label_limit) × (length bytes.old ≡ label_limit) }
     ensures { bytes.new ≡ paste bytes.old keep added.now (length added.now) }
 {
     let mut i: usize = 0;
@@ -126,7 +126,7 @@ fn extend_in(room: &mut [u8], keep: usize, s: &[u8])
 // The same over the label's bytes, of which keep stay: what stands behind a label is
 // free, so that a label which gains at most sixteen bytes is extended without a test.
 pub fn extend(bytes: &mut [u8; LABEL_LIMIT], keep: usize, s: &[u8])
-    requires { (keep + 16 ≤ labelLimit) × (length bytes.old ≡ labelLimit) × (16 ≤ length s.now) }
+    requires { (keep + 16 ≤ label_limit) × (length bytes.old ≡ label_limit) × (16 ≤ length s.now) }
     ensures { bytes.new ≡ laid bytes.old keep (take 16 s.now) }
 {
     extend_in(&mut bytes[..], keep, s);
@@ -135,8 +135,8 @@ pub fn extend(bytes: &mut [u8; LABEL_LIMIT], keep: usize, s: &[u8])
 // The label step of every version: what stays of the label of len bytes, then the
 // bytes to append; with how many stayed.
 pub fn label_step(bytes: &mut [u8; LABEL_LIMIT], len: usize, cut: Cut, added: &[u8]) -> Relabelled
-    requires { (len ≤ labelLimit) × (length bytes.old ≡ labelLimit) }
-    ensures { Tells result bytes.new (labelStep (take len bytes.old) cut added.now) × TellsKept result (keptOf (take len bytes.old) cut) }
+    requires { (len ≤ label_limit) × (length bytes.old ≡ label_limit) }
+    ensures { Tells result bytes.new (label_step (take len bytes.old) cut added.now) × TellsKept result (kept_of (take len bytes.old) cut) }
 {
     let kept = kept_of(bytes, len, cut);
     match kept {

@@ -3,13 +3,13 @@
 // what stands behind one is free. Which item it is, reading and stepping each tell in a function
 // of their own: one with two callers would not be joined to the loop of reading.
 ghost use Rattle.std.specs.Prelude.{◌≡◌, ◌+◌, ◌-◌, ◌^◌, ◌≤◌, ◌<◌, length, take};
-ghost use Rattle.short.specs.Brief.{placeAt, stationAt};
+ghost use Rattle.short.specs.Brief.{place_at, station_at};
 ghost use Rattle.format.specs.State.{leg, station, section};
-ghost use Rattle.format.specs.Label.{labelLimit};
-ghost use Rattle.format.specs.Sheet.{sheetVersion, layout};
+ghost use Rattle.format.specs.Label.{label_limit};
+ghost use Rattle.format.specs.Sheet.{sheet_version, layout};
 ghost use Rattle.item.specs.Commonest.{extended};
 ghost use Rattle.layout.specs.Freely.{LaidFreely};
-ghost use Rattle.laying.specs.Quickly.{Joined, LaysLine, name_of, laidFrom, ledBy, madeBy};
+ghost use Rattle.laying.specs.Quickly.{Joined, LaysLine, name_of, laid_from, led_by, made_by};
 
 use format::{LABEL_LIMIT, Leg, Point, Position, Section, Setting, Station};
 use item::{leg_at, station_at};
@@ -74,8 +74,8 @@ fn lay_leg(
 ) -> Quick
     requires { Joined joint s.now bytes.old }
     ensures label { bytes.new ≡ extended bytes.old joint.keep s.now }
-    ensures sheet { sheet.new ≡ laidFrom joint.out (leg fields (name_of joint s.now bytes.old)) sheet.old }
-    ensures answer { result ≡ ledBy joint fields.to }
+    ensures sheet { sheet.new ≡ laid_from joint.out (leg fields (name_of joint s.now bytes.old)) sheet.old }
+    ensures answer { result ≡ led_by joint fields.to }
 {
     let keep = joint.keep;
     let out = joint.out;
@@ -125,8 +125,8 @@ fn lay_station(
 ) -> Quick
     requires { Joined joint s.now bytes.old }
     ensures label { bytes.new ≡ extended bytes.old joint.keep s.now }
-    ensures sheet { sheet.new ≡ laidFrom joint.out (station fields (name_of joint s.now bytes.old)) sheet.old }
-    ensures answer { result ≡ madeBy joint 16 }
+    ensures sheet { sheet.new ≡ laid_from joint.out (station fields (name_of joint s.now bytes.old)) sheet.old }
+    ensures answer { result ≡ made_by joint 16 }
 {
     let keep = joint.keep;
     let out = joint.out;
@@ -152,8 +152,8 @@ pub fn lay_place(
 ) -> Quick
     requires { Joined joint s.now bytes.old × (12 ≤ joint.size) × (joint.size ≤ length s.now) }
     ensures label { bytes.new ≡ extended bytes.old joint.keep s.now }
-    ensures sheet { sheet.new ≡ laidFrom joint.out (station (stationAt s.now (joint.size - 12) flags) (name_of joint s.now bytes.old)) sheet.old }
-    ensures answer { result ≡ madeBy joint 16 }
+    ensures sheet { sheet.new ≡ laid_from joint.out (station (station_at s.now (joint.size - 12) flags) (name_of joint s.now bytes.old)) sheet.old }
+    ensures answer { result ≡ made_by joint 16 }
 {
     let station = station_at(s, joint.size - 12, flags);
     lay_station(s, bytes, joint, station, sheet)
@@ -169,8 +169,8 @@ pub fn lay_section(
 ) -> Quick
     requires { Joined joint s.now bytes.old }
     ensures label { bytes.new ≡ extended bytes.old joint.keep s.now }
-    ensures sheet { sheet.new ≡ laidFrom joint.out (section fields (name_of joint s.now bytes.old)) sheet.old }
-    ensures answer { result ≡ madeBy joint 25 }
+    ensures sheet { sheet.new ≡ laid_from joint.out (section fields (name_of joint s.now bytes.old)) sheet.old }
+    ensures answer { result ≡ made_by joint 25 }
 {
     let keep = joint.keep;
     let out = joint.out;
@@ -192,7 +192,7 @@ pub fn lay_section(
 // Lays a leg into the sheet, where it fits.
 fn put_leg_freely(s: &[u8], bytes: &[u8; LABEL_LIMIT], joint: Joint, fields: Leg, sheet: &mut [u8])
     requires { Joined joint s.now bytes.now }
-    ensures { LaidFreely sheet.old sheet.new joint.out (layout sheetVersion (leg fields (name_of joint s.now bytes.now))) }
+    ensures { LaidFreely sheet.old sheet.new joint.out (layout sheet_version (leg fields (name_of joint s.now bytes.now))) }
 {
     let keep = joint.keep;
     let add = joint.add;
@@ -215,7 +215,7 @@ fn put_station_freely(
     sheet: &mut [u8],
 )
     requires { Joined joint s.now bytes.now }
-    ensures { LaidFreely sheet.old sheet.new joint.out (layout sheetVersion (station fields (name_of joint s.now bytes.now))) }
+    ensures { LaidFreely sheet.old sheet.new joint.out (layout sheet_version (station fields (name_of joint s.now bytes.now))) }
 {
     let keep = joint.keep;
     let add = joint.add;
@@ -238,7 +238,7 @@ fn put_section_freely(
     sheet: &mut [u8],
 )
     requires { Joined joint s.now bytes.now }
-    ensures { LaidFreely sheet.old sheet.new joint.out (layout sheetVersion (section fields (name_of joint s.now bytes.now))) }
+    ensures { LaidFreely sheet.old sheet.new joint.out (layout sheet_version (section fields (name_of joint s.now bytes.now))) }
 {
     let keep = joint.keep;
     let add = joint.add;
@@ -262,7 +262,7 @@ pub fn lay_leg_freely(
 )
     requires { Joined joint s.now bytes.old }
     ensures label { bytes.new ≡ extended bytes.old joint.keep s.now }
-    ensures sheet { LaidFreely sheet.old sheet.new joint.out (layout sheetVersion (leg fields (name_of joint s.now bytes.old))) }
+    ensures sheet { LaidFreely sheet.old sheet.new joint.out (layout sheet_version (leg fields (name_of joint s.now bytes.old))) }
 {
     let keep = joint.keep;
     put_leg_freely(s, bytes, joint, fields, sheet);
@@ -279,7 +279,7 @@ pub fn lay_station_freely(
 )
     requires { Joined joint s.now bytes.old }
     ensures label { bytes.new ≡ extended bytes.old joint.keep s.now }
-    ensures sheet { LaidFreely sheet.old sheet.new joint.out (layout sheetVersion (station fields (name_of joint s.now bytes.old))) }
+    ensures sheet { LaidFreely sheet.old sheet.new joint.out (layout sheet_version (station fields (name_of joint s.now bytes.old))) }
 {
     let keep = joint.keep;
     put_station_freely(s, bytes, joint, fields, sheet);
@@ -296,7 +296,7 @@ pub fn lay_section_freely(
 )
     requires { Joined joint s.now bytes.old }
     ensures label { bytes.new ≡ extended bytes.old joint.keep s.now }
-    ensures sheet { LaidFreely sheet.old sheet.new joint.out (layout sheetVersion (section fields (name_of joint s.now bytes.old))) }
+    ensures sheet { LaidFreely sheet.old sheet.new joint.out (layout sheet_version (section fields (name_of joint s.now bytes.old))) }
 {
     let keep = joint.keep;
     put_section_freely(s, bytes, joint, fields, sheet);
@@ -311,8 +311,8 @@ pub fn lay_same_freely(
     fields: Leg,
     sheet: &mut [u8],
 )
-    requires { (len + 16 ≤ labelLimit) × (length bytes.now ≡ labelLimit) × (out < 2 ^ 62) }
-    ensures { LaidFreely sheet.old sheet.new out (layout sheetVersion (leg fields (take len bytes.now))) }
+    requires { (len + 16 ≤ label_limit) × (length bytes.now ≡ label_limit) × (out < 2 ^ 62) }
+    ensures { LaidFreely sheet.old sheet.new out (layout sheet_version (leg fields (take len bytes.now))) }
 {
     let name = out + 34;
     if sheet.len() < name + len {

@@ -1,15 +1,15 @@
 // The records of a sheet, laid out in bytes.
 ghost use Rattle.std.specs.Prelude.{◌≡◌, List, [], ◌∷◌, ◌++◌, ℕ, ◌+◌, ◌^◌, ◌≤◌, ◌<◌, length, take};
-ghost use Rattle.format.specs.Bytes.{over, toBe16, toBe32};
-ghost use Rattle.format.specs.Sheet.{sheetVersion, pointBytes, dimensionBytes, traverseBytes, dateKind, dateDay, dateLast, dateBytes, errorSize, recordLimit, layout, headerLayout};
+ghost use Rattle.format.specs.Bytes.{over, to_be16, to_be32};
+ghost use Rattle.format.specs.Sheet.{sheet_version, point_bytes, dimension_bytes, traverse_bytes, date_kind, date_day, date_last, date_bytes, error_size, record_limit, layout, header_layout};
 ghost use Rattle.format.specs.State.{leg, station, section};
-ghost use Rattle.format.specs.Fields.{recordOf, recordSize};
+ghost use Rattle.format.specs.Fields.{record_of, record_size};
 ghost use Rattle.layout.specs.Freely.{LaidFreely, Named};
-ghost use Rattle.layout.specs.Fronts.{legFront, stationFront, sectionFront};
+ghost use Rattle.layout.specs.Fronts.{leg_front, station_front, section_front};
 ghost use Rattle.layout.specs.Joined.{Joint};
-ghost use Rattle.wire.specs.Laid.{laid, laidIf};
-ghost use Rattle.format.specs.Header.{timeLimit, titleLimit};
-ghost use Rattle.format.specs.Label.{labelLimit};
+ghost use Rattle.wire.specs.Laid.{laid, laid_if};
+ghost use Rattle.format.specs.Header.{time_limit, title_limit};
+ghost use Rattle.format.specs.Label.{label_limit};
 
 use format::{
     Dated, Dimensions, Fields, LABEL_LIMIT, Leg, Point, SHEET_VERSION, Section, Station, Traverse,
@@ -24,7 +24,7 @@ pub struct Days {
 }
 
 fn days_of(date: Dated) -> Days
-    ensures { (result.kind ≡ dateKind date) × (result.day ≡ dateDay date) × (result.last ≡ dateLast date) }
+    ensures { (result.kind ≡ date_kind date) × (result.day ≡ date_day date) × (result.last ≡ date_last date) }
 {
     match date {
         Dated::Undated => Days {
@@ -47,7 +47,7 @@ fn days_of(date: Dated) -> Days
 
 // A traverse error, whole: it has no label.
 fn error_bytes(t: Traverse) -> [u8; 23]
-    ensures { result ≡ toBe16 errorSize ++ (4 ∷ traverseBytes toBe32 t) }
+    ensures { result ≡ to_be16 error_size ++ (4 ∷ traverse_bytes to_be32 t) }
 {
     [
         0,
@@ -88,7 +88,7 @@ fn put_at(out: &mut [u8], k: usize, part: &[u8])
 // of bytes is a store for each.
 fn put_word(out: &mut [u8], k: usize, n: u32)
     requires { k + 4 ≤ length out.old }
-    ensures { out.new ≡ laid out.old k (toBe32 n) }
+    ensures { out.new ≡ laid out.old k (to_be32 n) }
 {
     number::put_be32(&mut out[k..], n);
 }
@@ -96,7 +96,7 @@ fn put_word(out: &mut [u8], k: usize, n: u32)
 // Writes a place into out from index k on.
 fn put_point(out: &mut [u8], k: usize, p: Point)
     requires { k + 12 ≤ length out.old }
-    ensures { out.new ≡ laid out.old k (pointBytes toBe32 p) }
+    ensures { out.new ≡ laid out.old k (point_bytes to_be32 p) }
 {
     put_word(out, k, p.x);
     put_word(out, k + 4, p.y);
@@ -106,7 +106,7 @@ fn put_point(out: &mut [u8], k: usize, p: Point)
 // Writes dimensions into out from index k on.
 fn put_dimensions(out: &mut [u8], k: usize, d: Dimensions)
     requires { k + 16 ≤ length out.old }
-    ensures { out.new ≡ laid out.old k (dimensionBytes toBe32 d) }
+    ensures { out.new ≡ laid out.old k (dimension_bytes to_be32 d) }
 {
     put_word(out, k, d.left);
     put_word(out, k + 4, d.right);
@@ -116,7 +116,7 @@ fn put_dimensions(out: &mut [u8], k: usize, d: Dimensions)
 
 // Copies the first len bytes of a label into out from index k on.
 fn put_label(out: &mut [u8], k: usize, bytes: &[u8; LABEL_LIMIT], len: usize)
-    requires { (len ≤ labelLimit) × (k + len ≤ length out.old) × (length bytes.now ≡ labelLimit) }
+    requires { (len ≤ label_limit) × (k + len ≤ length out.old) × (length bytes.now ≡ label_limit) }
     ensures { out.new ≡ laid out.old k (take len bytes.now) }
 {
     let whole = &bytes[..];
@@ -125,7 +125,7 @@ fn put_label(out: &mut [u8], k: usize, bytes: &[u8; LABEL_LIMIT], len: usize)
 
 // The same for a label that was not just written byte by byte, by words.
 fn put_kept(out: &mut [u8], k: usize, bytes: &[u8; LABEL_LIMIT], len: usize)
-    requires { (len ≤ labelLimit) × (k + len ≤ length out.old) × (length bytes.now ≡ labelLimit) }
+    requires { (len ≤ label_limit) × (k + len ≤ length out.old) × (length bytes.now ≡ label_limit) }
     ensures { out.new ≡ laid out.old k (take len bytes.now) }
 {
     let whole = &bytes[..];
@@ -148,7 +148,7 @@ fn put_joined(out: &mut [u8], k: usize, bytes: &[u8; LABEL_LIMIT], keep: usize, 
 
 // Copies the first 48 bytes of a label to the front of out.
 fn put_three(out: &mut [u8], bytes: &[u8; LABEL_LIMIT])
-    requires { (48 ≤ length out.old) × (length bytes.now ≡ labelLimit) }
+    requires { (48 ≤ length out.old) × (length bytes.now ≡ label_limit) }
     ensures { out.new ≡ over (take 48 bytes.now) out.old }
 {
     let whole = &bytes[..];
@@ -159,7 +159,7 @@ fn put_three(out: &mut [u8], bytes: &[u8; LABEL_LIMIT])
 
 // The first keep bytes of a label, at most 48, and sixteen more.
 fn put_over(out: &mut [u8], bytes: &[u8; LABEL_LIMIT], keep: usize, added: &[u8])
-    requires { (64 ≤ length out.old) × (keep ≤ 48) × (16 ≤ length added.now) × (length bytes.now ≡ labelLimit) }
+    requires { (64 ≤ length out.old) × (keep ≤ 48) × (16 ≤ length added.now) × (length bytes.now ≡ label_limit) }
     ensures { LaidFreely out.old out.new 0 (take keep bytes.now ++ take 16 added.now) }
 {
     put_three(out, bytes);
@@ -192,7 +192,7 @@ pub fn put_name_freely(
 
 // The same of the first len bytes of a label, with nothing added.
 pub fn put_label_freely(out: &mut [u8], k: usize, bytes: &[u8; LABEL_LIMIT], len: usize)
-    requires { (k + len ≤ length out.old) × (k < 2 ^ 63) × (len + 16 ≤ labelLimit) × (length bytes.now ≡ labelLimit) }
+    requires { (k + len ≤ length out.old) × (k < 2 ^ 63) × (len + 16 ≤ label_limit) × (length bytes.now ≡ label_limit) }
     ensures { LaidFreely out.old out.new k (take len bytes.now) }
 {
     let whole = &bytes[..];
@@ -209,8 +209,8 @@ pub fn put_label_freely(out: &mut [u8], k: usize, bytes: &[u8; LABEL_LIMIT], len
 
 // How many bytes a record takes in a sheet, with its length bytes.
 pub fn record_size(fields: Fields, len: usize) -> usize
-    requires { len ≤ labelLimit }
-    ensures { (result ≡ recordSize fields len) × (result ≤ recordLimit) }
+    requires { len ≤ label_limit }
+    ensures { (result ≡ record_size fields len) × (result ≤ record_limit) }
 {
     match fields {
         Fields::Leg {
@@ -237,7 +237,7 @@ pub fn record_size(fields: Fields, len: usize) -> usize
 // The length bytes of a body of n bytes, its kind and the byte behind.
 fn put_start(out: &mut [u8], n: usize, kind: u8, first: u8)
     requires { (n < 65536) × (4 ≤ length out.old) }
-    ensures { out.new ≡ over (toBe16 n ++ (kind ∷ first ∷ [])) out.old }
+    ensures { out.new ≡ over (to_be16 n ++ (kind ∷ first ∷ [])) out.old }
 {
     let k = number::wide(kind);
     let b = number::wide(first);
@@ -261,7 +261,7 @@ fn wide_day(n: u16) -> u32
 // A date from index k on: its kind, its day and its last day.
 fn put_date(out: &mut [u8], k: usize, date: Dated)
     requires { k + 5 ≤ length out.old }
-    ensures { out.new ≡ laid out.old k (dateBytes date) }
+    ensures { out.new ≡ laid out.old k (date_bytes date) }
 {
     let days = days_of(date);
     let day = wide_day(days.day);
@@ -271,8 +271,8 @@ fn put_date(out: &mut [u8], k: usize, date: Dated)
 }
 
 pub fn put_leg(out: &mut [u8], fields: Leg, len: usize)
-    requires { (len ≤ labelLimit) × (34 ≤ length out.old) }
-    ensures { out.new ≡ over (legFront fields len) out.old }
+    requires { (len ≤ label_limit) × (34 ≤ length out.old) }
+    ensures { out.new ≡ over (leg_front fields len) out.old }
 {
     let date = fields.date;
     let from = fields.from;
@@ -285,8 +285,8 @@ pub fn put_leg(out: &mut [u8], fields: Leg, len: usize)
 }
 
 pub fn put_station(out: &mut [u8], fields: Station, len: usize)
-    requires { (len ≤ labelLimit) × (16 ≤ length out.old) }
-    ensures { out.new ≡ over (stationFront fields len) out.old }
+    requires { (len ≤ label_limit) × (16 ≤ length out.old) }
+    ensures { out.new ≡ over (station_front fields len) out.old }
 {
     let place = fields.place;
     put_start(out, 14 + len, 2, fields.flags);
@@ -294,8 +294,8 @@ pub fn put_station(out: &mut [u8], fields: Station, len: usize)
 }
 
 pub fn put_section(out: &mut [u8], fields: Section, len: usize)
-    requires { (len ≤ labelLimit) × (25 ≤ length out.old) }
-    ensures { out.new ≡ over (sectionFront fields len) out.old }
+    requires { (len ≤ label_limit) × (25 ≤ length out.old) }
+    ensures { out.new ≡ over (section_front fields len) out.old }
 {
     let date = fields.date;
     let size = fields.size;
@@ -307,7 +307,7 @@ pub fn put_section(out: &mut [u8], fields: Section, len: usize)
 // A traverse error, over the front of out.
 fn put_error(out: &mut [u8], traverse: Traverse)
     requires { 23 ≤ length out.old }
-    ensures { out.new ≡ over (toBe16 errorSize ++ (4 ∷ traverseBytes toBe32 traverse)) out.old }
+    ensures { out.new ≡ over (to_be16 error_size ++ (4 ∷ traverse_bytes to_be32 traverse)) out.old }
 {
     let whole = error_bytes(traverse);
     wire::copy(&whole, out);
@@ -315,8 +315,8 @@ fn put_error(out: &mut [u8], traverse: Traverse)
 
 // Lays a record over the front of out.
 fn put_record(out: &mut [u8], fields: Fields, bytes: &[u8; LABEL_LIMIT], len: usize)
-    requires { (len ≤ labelLimit) × (recordSize fields len ≤ length out.old) × (length bytes.now ≡ labelLimit) }
-    ensures { out.new ≡ over (layout sheetVersion (recordOf fields (take len bytes.now))) out.old }
+    requires { (len ≤ label_limit) × (record_size fields len ≤ length out.old) × (length bytes.now ≡ label_limit) }
+    ensures { out.new ≡ over (layout sheet_version (record_of fields (take len bytes.now))) out.old }
 {
     match fields {
         Fields::Leg {
@@ -362,8 +362,8 @@ pub fn lay_record(
     bytes: &[u8; LABEL_LIMIT],
     len: usize,
 )
-    requires { (at < 2 ^ 63) × (len ≤ labelLimit) × (length bytes.now ≡ labelLimit) }
-    ensures { sheet.new ≡ laidIf sheet.old at (layout sheetVersion (recordOf fields (take len bytes.now))) }
+    requires { (at < 2 ^ 63) × (len ≤ label_limit) × (length bytes.now ≡ label_limit) }
+    ensures { sheet.new ≡ laid_if sheet.old at (layout sheet_version (record_of fields (take len bytes.now))) }
 {
     // The pass that measures is lent no bytes: it goes no further than this.
     if sheet.len() <= at {
@@ -389,7 +389,7 @@ pub fn lay_short_leg(
     added: &[u8],
 )
     requires { (at < 2 ^ 62) × Joint keep added.now bytes.now }
-    ensures { sheet.new ≡ laidIf sheet.old at (layout sheetVersion (leg fields (take keep bytes.now ++ added.now))) }
+    ensures { sheet.new ≡ laid_if sheet.old at (layout sheet_version (leg fields (take keep bytes.now ++ added.now))) }
 {
     let len = keep + added.len();
     let name = at + 34;
@@ -409,7 +409,7 @@ pub fn lay_short_station(
     added: &[u8],
 )
     requires { (at < 2 ^ 62) × Joint keep added.now bytes.now }
-    ensures { sheet.new ≡ laidIf sheet.old at (layout sheetVersion (station fields (take keep bytes.now ++ added.now))) }
+    ensures { sheet.new ≡ laid_if sheet.old at (layout sheet_version (station fields (take keep bytes.now ++ added.now))) }
 {
     let len = keep + added.len();
     let name = at + 16;
@@ -429,7 +429,7 @@ pub fn lay_short_section(
     added: &[u8],
 )
     requires { (at < 2 ^ 62) × Joint keep added.now bytes.now }
-    ensures { sheet.new ≡ laidIf sheet.old at (layout sheetVersion (section fields (take keep bytes.now ++ added.now))) }
+    ensures { sheet.new ≡ laid_if sheet.old at (layout sheet_version (section fields (take keep bytes.now ++ added.now))) }
 {
     let len = keep + added.len();
     let name = at + 25;
@@ -443,8 +443,8 @@ pub fn lay_short_section(
 // The version byte and the fields of a header whose title has t bytes and whose
 // time line has m.
 fn front_head(extended: u8, t: usize, m: usize) -> [u8; 7]
-    requires { (t ≤ titleLimit) × (m ≤ timeLimit) }
-    ensures { result ≡ sheetVersion ∷ (toBe16 (4 + t + m) ++ (0 ∷ extended ∷ toBe16 t)) }
+    requires { (t ≤ title_limit) × (m ≤ time_limit) }
+    ensures { result ≡ sheet_version ∷ (to_be16 (4 + t + m) ++ (0 ∷ extended ∷ to_be16 t)) }
 {
     let n = 4 + t + m;
     [
@@ -460,8 +460,8 @@ fn front_head(extended: u8, t: usize, m: usize) -> [u8; 7]
 
 // Lays the version byte and the header record over the front of a sheet.
 pub fn put_front(sheet: &mut [u8], extended: u8, title: &[u8], time: &[u8])
-    requires { (length title.now ≤ titleLimit) × (length time.now ≤ timeLimit) × (7 + length title.now + length time.now ≤ length sheet.old) }
-    ensures { sheet.new ≡ over (sheetVersion ∷ headerLayout (record { extended = extended; title = title.now; time = time.now })) sheet.old }
+    requires { (length title.now ≤ title_limit) × (length time.now ≤ time_limit) × (7 + length title.now + length time.now ≤ length sheet.old) }
+    ensures { sheet.new ≡ over (sheet_version ∷ header_layout (record { extended = extended; title = title.now; time = time.now })) sheet.old }
 {
     let t = title.len();
     let head = front_head(extended, t, time.len());

@@ -1,7 +1,7 @@
 // The numbers of a label part.
 ghost use Rattle.std.specs.Prelude.{◌≡◌, ℕ, ◌+◌, ◌≤◌, ◌<◌, length};
 ghost use Rattle.format.specs.Bytes.{pick};
-ghost use Rattle.format.specs.Items.{oldPart, lengthSize, lengthValue, longPart, newPart};
+ghost use Rattle.format.specs.Items.{old_part, length_size, length_value, long_part, new_part};
 ghost use Rattle.format.specs.declared.LabelPart.TheVariants.{Numbers};
 ghost use Rattle.length.specs.Parts.{Small, part_at, finished};
 
@@ -19,7 +19,7 @@ fn long(x: u32) -> usize
 
 // The numbers of a label part, v3 to v7.
 fn old_part(t: &[u8]) -> LabelPart
-    ensures { (result ≡ oldPart t.now) × Small result }
+    ensures { (result ≡ old_part t.now) × Small result }
 {
     if t.len() < 1 {
         return LabelPart::Unfinished;
@@ -56,7 +56,7 @@ fn old_part(t: &[u8]) -> LabelPart
 
 // The size of the number at the front of t, v8; 0 where it is unfinished.
 fn length_size(t: &[u8]) -> usize
-    ensures { (result ≡ lengthSize t.now) × (result ≤ length t.now) × (result ≤ 5) }
+    ensures { (result ≡ length_size t.now) × (result ≤ length t.now) × (result ≤ 5) }
 {
     if t.len() < 1 {
         return 0;
@@ -72,8 +72,8 @@ fn length_size(t: &[u8]) -> usize
 
 // Its value.
 fn length_value(t: &[u8]) -> usize
-    requires { 0 < lengthSize t.now }
-    ensures { (result ≡ lengthValue t.now) × (result < 4294967296) }
+    requires { 0 < length_size t.now }
+    ensures { (result ≡ length_value t.now) × (result < 4294967296) }
 {
     let b = index(t[0]);
     if b < 0xff {
@@ -85,7 +85,7 @@ fn length_value(t: &[u8]) -> usize
 // The numbers of a label part that begins with 00, v8.
 fn long_part(t: &[u8]) -> LabelPart
     requires { 1 ≤ length t.now }
-    ensures { (result ≡ longPart t.now) × Small result }
+    ensures { (result ≡ long_part t.now) × Small result }
 {
     let first = &t[1..];
     let d = length_size(first);
@@ -108,7 +108,7 @@ fn long_part(t: &[u8]) -> LabelPart
 
 // The numbers of a label part, v8.
 fn new_part(t: &[u8]) -> LabelPart
-    ensures { (result ≡ newPart t.now) × Small result }
+    ensures { (result ≡ new_part t.now) × Small result }
 {
     if t.len() < 1 {
         return LabelPart::Unfinished;

@@ -1,6 +1,6 @@
 // Prints the sheet of a 3d file as text. The file is standard input, at most 16,384 bytes.
 ghost use Rattle.std.specs.Prelude.{◌≡◌, ◌+◌, ◌≤◌, length, take};
-ghost use Rattle.listing.specs.Lines.{inputLimit, listerSheetLimit, listerTextLimit, listerText};
+ghost use Rattle.listing.specs.Lines.{input_limit, lister_sheet_limit, lister_text_limit, lister_text};
 
 use format::Answer;
 use listing::Printed;
@@ -11,8 +11,8 @@ const INPUT_LIMIT: usize = 16384;
 // The text for the n bytes that were read to the front of input, over the front of out;
 // its length. What input has room for beyond the limit tells that there was more.
 fn text_of(input: &[u8], n: usize, sheet: &mut [u8], out: &mut [u8]) -> usize
-    requires { (length input.now ≡ inputLimit + 1) × (n ≤ length input.now) × (length sheet.old ≡ listerSheetLimit) × (length out.old ≡ listerTextLimit) }
-    ensures { (result ≤ listerTextLimit) × (take result out.new ≡ listerText (take n input.now)) }
+    requires { (length input.now ≡ input_limit + 1) × (n ≤ length input.now) × (length sheet.old ≡ lister_sheet_limit) × (length out.old ≡ lister_text_limit) }
+    ensures { (result ≤ lister_text_limit) × (take result out.new ≡ lister_text (take n input.now)) }
 {
     let file = &input[..n];
     if INPUT_LIMIT < n {

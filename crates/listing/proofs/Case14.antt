@@ -3,17 +3,17 @@ use Prim.Native.Nat.{ℕ}
 use mathlib.Core.Path.{◌≡◌, refl}
 use mathlib.Core.List.{List, [], ◌∷◌, ◌++◌}
 use lib.ListN.{replicate}
-use Rattle.format.specs.Bytes.{pick, le16, le32, toLe16, toLe32, toBe16, toBe32, widened, same, over}
-use Rattle.format.specs.Header.{magic, lineEnd, endsInReturn, goodLine, extendedByte, closedHeader, timeLine, titleLine, goodVersion, headerOf, openingOf}
-use Rattle.format.specs.Label.{labelStep}
-use Rattle.format.specs.Items.{sized, oldPart, lengthSize, lengthValue, longPart, newPart, labelledItem, stationItem, lineItem, sectionItem, moveItem}
-use Rattle.format.specs.Items.{errorItem, newDateItem, newLowItem, newHighItem, item_of}
-use Rattle.format.specs.Iterate.{iter, iterUp}
-use Rattle.format.specs.Sheet.{layout, layoutAll, headerLayout, sheetOf}
-use Rattle.format.specs.Reading.{next, ended, read_step, run, items_of, readOutcome}
-use Rattle.listing.specs.Text.{digitsUp, decimalText, signedText, hexDigit, plain, escapedByte, escaped, text_of, spaced, line}
-use Rattle.listing.specs.Lines.{versionWord, titleWord, timeWord, extendedWord, stationWord, legWord, end_word, noneWord, legLine, stationLine}
-use Rattle.listing.specs.Lines.{headerLine, endLine, recordLines, rest_of, listingOf, listerText}
+use Rattle.format.specs.Bytes.{pick, le16, le32, to_le16, to_le32, to_be16, to_be32, widened, same, over}
+use Rattle.format.specs.Header.{magic, line_end, ends_in_return, good_line, extended_byte, closed_header, time_line, title_line, good_version, header_of, opening_of}
+use Rattle.format.specs.Label.{label_step}
+use Rattle.format.specs.Items.{sized, old_part, length_size, length_value, long_part, new_part, labelled_item, station_item, line_item, section_item, move_item}
+use Rattle.format.specs.Items.{error_item, new_date_item, new_low_item, new_high_item, item_of}
+use Rattle.format.specs.Iterate.{iter, iter_up}
+use Rattle.format.specs.Sheet.{layout, layout_all, header_layout, sheet_of}
+use Rattle.format.specs.Reading.{next, ended, read_step, run, items_of, read_outcome}
+use Rattle.listing.specs.Text.{digits_up, decimal_text, signed_text, hex_digit, plain, escaped_byte, escaped, text_of, spaced, line}
+use Rattle.listing.specs.Lines.{version_word, title_word, time_word, extended_word, station_word, leg_word, end_word, none_word, leg_line, station_line}
+use Rattle.listing.specs.Lines.{header_line, end_line, record_lines, rest_of, listing_of, lister_text}
 
 -- "the header of case 1 and items 82 03 61 2e 31, twelve 00; 00; 0f, twelve 00; 40 20 64 00 00 00 00 00 00 00 ff ff ff ff; 00"
 abbrev pub case14 : List ℕ
@@ -38,10 +38,10 @@ printed14 =
     ∷ 101 ∷ 110 ∷ 100 ∷ 32 ∷ 50 ∷ 10 ∷ []
 
 -- what the lister prints for the file of case 14 is what document 01 shows
-pub case-14 : listerText case14 ≡ printed14
-unfolding pick le16 le32 toLe16 toLe32 toBe16 toBe32 widened same over magic lineEnd endsInReturn goodLine extendedByte closedHeader timeLine titleLine
-    goodVersion headerOf openingOf labelStep sized oldPart lengthSize lengthValue longPart newPart labelledItem stationItem lineItem sectionItem moveItem
-    errorItem newDateItem newLowItem newHighItem item_of iter iterUp layout layoutAll headerLayout sheetOf next ended read_step run items_of readOutcome digitsUp
-    decimalText signedText hexDigit plain escapedByte escaped text_of spaced line versionWord titleWord timeWord extendedWord stationWord legWord end_word
-    noneWord legLine stationLine headerLine endLine recordLines rest_of listingOf listerText
-case-14 = refl
+pub case_14 : lister_text case14 ≡ printed14
+unfolding pick le16 le32 to_le16 to_le32 to_be16 to_be32 widened same over magic line_end ends_in_return good_line extended_byte closed_header time_line title_line
+    good_version header_of opening_of label_step sized old_part length_size length_value long_part new_part labelled_item station_item line_item section_item move_item
+    error_item new_date_item new_low_item new_high_item item_of iter iter_up layout layout_all header_layout sheet_of next ended read_step run items_of read_outcome digits_up
+    decimal_text signed_text hex_digit plain escaped_byte escaped text_of spaced line version_word title_word time_word extended_word station_word leg_word end_word
+    none_word leg_line station_line header_line end_line record_lines rest_of listing_of lister_text
+case_14 = refl

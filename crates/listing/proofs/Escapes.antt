@@ -10,61 +10,61 @@ use lib.ListN.{length, take, get_or}
 use lib.Seq.{take-suc}
 use Rattle.format.specs.Bytes.{pick, same}
 use Rattle.wire.proofs.Laws.{same_false}
-use Rattle.listing.specs.Text.{decimalText, signedText, hexDigit, plain, escapedByte, escaped, text_of}
+use Rattle.listing.specs.Text.{decimal_text, signed_text, hex_digit, plain, escaped_byte, escaped, text_of}
 use Rattle.listing.specs.Puts.{Put}
 use Rattle.listing.proofs.Stores.{put_then, put_as}
 
 -- ---- numbers
 
-pub signed-plus : (n : ℕ) → n < 2147483648 → decimalText n ≡ signedText n
-unfolding signedText pick
-signed-plus n h = simp (lt-ltb _ _ h)
+pub signed_plus : (n : ℕ) → n < 2147483648 → decimal_text n ≡ signed_text n
+unfolding signed_text pick
+signed_plus n h = simp (lt-ltb _ _ h)
 
-pub signed-minus : (n : ℕ) → 2147483648 ≤ n → 45 ∷ decimalText (4294967296 - n) ≡ signedText n
-unfolding signedText pick
-signed-minus n h = simp (le-ltb _ _ h)
+pub signed_minus : (n : ℕ) → 2147483648 ≤ n → 45 ∷ decimal_text (4294967296 - n) ≡ signed_text n
+unfolding signed_text pick
+signed_minus n h = simp (le-ltb _ _ h)
 
 -- ---- a byte of text
 
-pub byte-plain : (b : ℕ) → plain b ≡ true → b ∷ [] ≡ escapedByte b
-unfolding escapedByte pick
-byte-plain b e = simp e
+pub byte_plain : (b : ℕ) → plain b ≡ true → b ∷ [] ≡ escaped_byte b
+unfolding escaped_byte pick
+byte_plain b e = simp e
 
-pub byte-hex : (b : ℕ) → plain b ≡ false → 37 ∷ hexDigit (b / 16) ∷ hexDigit (b % 16) ∷ [] ≡ escapedByte b
-unfolding escapedByte pick
-byte-hex b e = simp e
+pub byte_hex : (b : ℕ) → plain b ≡ false → 37 ∷ hex_digit (b / 16) ∷ hex_digit (b % 16) ∷ [] ≡ escaped_byte b
+unfolding escaped_byte pick
+byte_hex b e = simp e
 
 -- ---- text
 
-escaped-append : (s t : List ℕ) → escaped (s ++ t) ≡ escaped s ++ escaped t
+escaped_append : (s t : List ℕ) → escaped (s ++ t) ≡ escaped s ++ escaped t
 unfolding escaped
-escaped-append [] t = refl
-escaped-append (b ∷ s) t = rw (escaped-append s t) (sym (append_assoc (escapedByte b) (escaped s) (escaped t)))
+escaped_append [] t = refl
+escaped_append (b ∷ s) t = rw (escaped_append s t) (sym (append_assoc (escaped_byte b) (escaped s) (escaped t)))
 
-escaped-next : (s : List ℕ) (i : ℕ) → i < length s → escaped (take i s) ++ escapedByte (get_or s i 0) ≡ escaped (take (i + 1) s)
+escaped_next : (s : List ℕ) (i : ℕ) → i < length s → escaped (take i s) ++ escaped_byte (get_or s i 0) ≡ escaped (take (i + 1) s)
 unfolding escaped
-escaped-next s i h = rw (add-one i, take-suc s i 0 h, escaped-append (take i s) (get_or s i 0 ∷ []), append-nil)
+escaped_next s i h = rw (add-one i, take-suc s i 0 h, escaped_append (take i s) (get_or s i 0 ∷ []), append-nil)
 
 -- one byte more of a text
-pub escape-next : (s : List ℕ) {d d' d'' : List ℕ} {k r r' i : ℕ} → i < length s → Put (3 * i) (escaped (take i s)) d k r d'
-    → Put 3 (escapedByte (get_or s i 0)) d' r r' d''
+pub escape_next : (s : List ℕ) {d d' d'' : List ℕ} {k r r' i : ℕ} → i < length s → Put (3 * i) (escaped (take i s)) d k r d'
+    → Put 3 (escaped_byte (get_or s i 0)) d' r r' d''
     → Put (3 * (i + 1)) (escaped (take (i + 1) s)) d k r' d''
-escape-next s {i = i} h p q = put_as (put_then p q) (omega arith) (escaped-next s i h)
+escape_next s {i = i} h p q = put_as (put_then p q) (omega arith) (escaped_next s i h)
 
-pub text-empty : (s : List ℕ) → length s ≡ 0 → 45 ∷ [] ≡ text_of s
+pub text_empty : (s : List ℕ) → length s ≡ 0 → 45 ∷ [] ≡ text_of s
 unfolding text_of pick same
-text-empty [] h = refl
-text-empty (b ∷ s) h = absurd (omega arith)
+text_empty [] h = refl
+text_empty (b ∷ s) h = absurd (omega arith)
 
 module _ (s : List ℕ) (h : length s ≡ 0 → ⊥) where
-  text-some : text_of s ≡ pick (same s (45 ∷ [])) (37 ∷ 50 ∷ 100 ∷ []) (escaped s)
+  text_some : text_of s ≡ pick (same s (45 ∷ [])) (37 ∷ 50 ∷ 100 ∷ []) (escaped s)
   unfolding text_of pick
-  text-some = simp (same_false s [] (λ e. h (ap length e)))
+  text_some = simp (same_false s [] (λ e. h (ap length e)))
 
-  pub text-dash : same s (45 ∷ []) ≡ true → 37 ∷ 50 ∷ 100 ∷ [] ≡ text_of s
+  pub text_dash : same s (45 ∷ []) ≡ true → 37 ∷ 50 ∷ 100 ∷ [] ≡ text_of s
   unfolding pick
-  text-dash e = rw text-some (simp e)
+  text_dash e = rw text_some (simp e)
 
-  pub text-other : same s (45 ∷ []) ≡ false → escaped s ≡ text_of s
+  pub text_other : same s (45 ∷ []) ≡ false → escaped s ≡ text_of s
   unfolding pick
-  text-other e = rw text-some (simp e)
+  text_other e = rw text_some (simp e)

@@ -1,10 +1,10 @@
 -- The lines of the lister, document 01, "Cases at the edges", the lister: "Fields: ..", and what it prints for an input. Assumes nothing.
 use Rattle.std.specs.Prelude.{ℕ, ◌+◌, ◌^◌, List, [], ◌∷◌, ◌++◌, length, ltb}
 use Rattle.format.specs.Bytes.{pick}
-use Rattle.format.specs.Header.{Header, Opening, shut, opened, openingOf}
+use Rattle.format.specs.Header.{Header, Opening, shut, opened, opening_of}
 use Rattle.format.specs.State.{Record, leg, station, section, error}
-use Rattle.format.specs.Sheet.{frontHeader, sheetResult}
-use Rattle.format.specs.Reading.{items_of, readFrom}
+use Rattle.format.specs.Sheet.{front_header, sheet_result}
+use Rattle.format.specs.Reading.{items_of, read_from}
 use Rattle.format.specs.Refusals.{Outcome, accepted, refused}
 use Rattle.format.specs.declared.Point.{Point}
 use Rattle.format.specs.declared.Dimensions.{Dimensions}
@@ -16,157 +16,157 @@ use Rattle.format.specs.declared.Verdict.{Verdict}
 use Rattle.format.specs.declared.Verdict.TheVariants.{Good, Refusal}
 use Rattle.format.specs.declared.Dated.{Dated}
 use Rattle.format.specs.declared.Dated.TheVariants.{Undated, Day, Range}
-use Rattle.listing.specs.Text.{decimalText, signedText, text_of, line}
+use Rattle.listing.specs.Text.{decimal_text, signed_text, text_of, line}
 
 -- ---- the words
 
 -- `version`, `title`, `time`, `extended`
-unfoldable pub versionWord : List ℕ
-versionWord = 118 ∷ 101 ∷ 114 ∷ 115 ∷ 105 ∷ 111 ∷ 110 ∷ []
+unfoldable pub version_word : List ℕ
+version_word = 118 ∷ 101 ∷ 114 ∷ 115 ∷ 105 ∷ 111 ∷ 110 ∷ []
 
-unfoldable pub titleWord : List ℕ
-titleWord = 116 ∷ 105 ∷ 116 ∷ 108 ∷ 101 ∷ []
+unfoldable pub title_word : List ℕ
+title_word = 116 ∷ 105 ∷ 116 ∷ 108 ∷ 101 ∷ []
 
-unfoldable pub timeWord : List ℕ
-timeWord = 116 ∷ 105 ∷ 109 ∷ 101 ∷ []
+unfoldable pub time_word : List ℕ
+time_word = 116 ∷ 105 ∷ 109 ∷ 101 ∷ []
 
-unfoldable pub extendedWord : List ℕ
-extendedWord = 101 ∷ 120 ∷ 116 ∷ 101 ∷ 110 ∷ 100 ∷ 101 ∷ 100 ∷ []
+unfoldable pub extended_word : List ℕ
+extended_word = 101 ∷ 120 ∷ 116 ∷ 101 ∷ 110 ∷ 100 ∷ 101 ∷ 100 ∷ []
 
 -- `station`, `leg`, `xsect`, `error`
-unfoldable pub stationWord : List ℕ
-stationWord = 115 ∷ 116 ∷ 97 ∷ 116 ∷ 105 ∷ 111 ∷ 110 ∷ []
+unfoldable pub station_word : List ℕ
+station_word = 115 ∷ 116 ∷ 97 ∷ 116 ∷ 105 ∷ 111 ∷ 110 ∷ []
 
-unfoldable pub legWord : List ℕ
-legWord = 108 ∷ 101 ∷ 103 ∷ []
+unfoldable pub leg_word : List ℕ
+leg_word = 108 ∷ 101 ∷ 103 ∷ []
 
-unfoldable pub sectionWord : List ℕ
-sectionWord = 120 ∷ 115 ∷ 101 ∷ 99 ∷ 116 ∷ []
+unfoldable pub section_word : List ℕ
+section_word = 120 ∷ 115 ∷ 101 ∷ 99 ∷ 116 ∷ []
 
-unfoldable pub errorWord : List ℕ
-errorWord = 101 ∷ 114 ∷ 114 ∷ 111 ∷ 114 ∷ []
+unfoldable pub error_word : List ℕ
+error_word = 101 ∷ 114 ∷ 114 ∷ 111 ∷ 114 ∷ []
 
 -- `end`, `refused`, `at`, `none`
 unfoldable pub end_word : List ℕ
 end_word = 101 ∷ 110 ∷ 100 ∷ []
 
-unfoldable pub refusedWord : List ℕ
-refusedWord = 114 ∷ 101 ∷ 102 ∷ 117 ∷ 115 ∷ 101 ∷ 100 ∷ []
+unfoldable pub refused_word : List ℕ
+refused_word = 114 ∷ 101 ∷ 102 ∷ 117 ∷ 115 ∷ 101 ∷ 100 ∷ []
 
-unfoldable pub atWord : List ℕ
-atWord = 97 ∷ 116 ∷ []
+unfoldable pub at_word : List ℕ
+at_word = 97 ∷ 116 ∷ []
 
-unfoldable pub noneWord : List ℕ
-noneWord = 110 ∷ 111 ∷ 110 ∷ 101 ∷ []
+unfoldable pub none_word : List ℕ
+none_word = 110 ∷ 111 ∷ 110 ∷ 101 ∷ []
 
 -- ---- the lines
 
 -- "date (`none`, day, or day-day)"
-abbrev pub dateText : Dated → List ℕ
-dateText Undated = noneWord
-dateText (Day d) = decimalText d
-dateText (Range d e) = decimalText d ++ 45 ∷ decimalText e
+abbrev pub date_text : Dated → List ℕ
+date_text Undated = none_word
+date_text (Day d) = decimal_text d
+date_text (Range d e) = decimal_text d ++ 45 ∷ decimal_text e
 
-abbrev pub pointWords : Point → List (List ℕ)
-pointWords p = signedText p.x ∷ signedText p.y ∷ signedText p.z ∷ []
+abbrev pub point_words : Point → List (List ℕ)
+point_words p = signed_text p.x ∷ signed_text p.y ∷ signed_text p.z ∷ []
 
 -- "L R U D"
-abbrev pub dimensionWords : Dimensions → List (List ℕ)
-dimensionWords d = signedText d.left ∷ signedText d.right ∷ signedText d.up ∷ signedText d.down ∷ []
+abbrev pub dimension_words : Dimensions → List (List ℕ)
+dimension_words d = signed_text d.left ∷ signed_text d.right ∷ signed_text d.up ∷ signed_text d.down ∷ []
 
 -- "five numbers"
-abbrev pub traverseWords : Traverse → List (List ℕ)
-traverseWords t = signedText t.legs ∷ signedText t.total ∷ signedText t.e ∷ signedText t.h ∷ signedText t.v ∷ []
+abbrev pub traverse_words : Traverse → List (List ℕ)
+traverse_words t = signed_text t.legs ∷ signed_text t.total ∷ signed_text t.e ∷ signed_text t.h ∷ signed_text t.v ∷ []
 
 -- "leg flags, style, date (`none`, day, or day-day), from, to, survey"
-unfoldable pub legLine : Leg → List ℕ → List ℕ
-legLine g label =
-    line legWord (decimalText g.flags ∷ decimalText g.style ∷ dateText g.date ∷ (pointWords g.from ++ (pointWords g.to ++ text_of label ∷ [])))
+unfoldable pub leg_line : Leg → List ℕ → List ℕ
+leg_line g label =
+    line leg_word (decimal_text g.flags ∷ decimal_text g.style ∷ date_text g.date ∷ (point_words g.from ++ (point_words g.to ++ text_of label ∷ [])))
 
 -- "station flags, x y z, name"
-unfoldable pub stationLine : Station → List ℕ → List ℕ
-stationLine s label = line stationWord (decimalText s.flags ∷ (pointWords s.place ++ text_of label ∷ []))
+unfoldable pub station_line : Station → List ℕ → List ℕ
+station_line s label = line station_word (decimal_text s.flags ∷ (point_words s.place ++ text_of label ∷ []))
 
 -- "`xsect` last, L R U D, name"; "The lister prints the date after the last-in-passage number" (#106)
-unfoldable pub sectionLine : Section → List ℕ → List ℕ
-sectionLine s label = line sectionWord (decimalText s.last ∷ dateText s.date ∷ (dimensionWords s.size ++ text_of label ∷ []))
+unfoldable pub section_line : Section → List ℕ → List ℕ
+section_line s label = line section_word (decimal_text s.last ∷ date_text s.date ∷ (dimension_words s.size ++ text_of label ∷ []))
 
 -- "`error` and five numbers"
-unfoldable pub errorLine : Traverse → List ℕ
-errorLine t = line errorWord (traverseWords t)
+unfoldable pub error_line : Traverse → List ℕ
+error_line t = line error_word (traverse_words t)
 
-abbrev pub recordLine : Record → List ℕ
-recordLine (leg g label) = legLine g label
-recordLine (station s label) = stationLine s label
-recordLine (section s label) = sectionLine s label
-recordLine (error t) = errorLine t
+abbrev pub record_line : Record → List ℕ
+record_line (leg g label) = leg_line g label
+record_line (station s label) = station_line s label
+record_line (section s label) = section_line s label
+record_line (error t) = error_line t
 
 -- `version 8 title A time @0 extended 0`
-unfoldable pub headerLine : ℕ → Header → List ℕ
-headerLine version h =
-    line versionWord (decimalText version ∷ titleWord ∷ text_of h.title ∷ timeWord ∷ text_of h.time ∷ extendedWord ∷ decimalText h.extended ∷ [])
+unfoldable pub header_line : ℕ → Header → List ℕ
+header_line version h =
+    line version_word (decimal_text version ∷ title_word ∷ text_of h.title ∷ time_word ∷ text_of h.time ∷ extended_word ∷ decimal_text h.extended ∷ [])
 
 -- `end 2`: "record count"
-unfoldable pub endLine : ℕ → List ℕ
-endLine records = line end_word (decimalText records ∷ [])
+unfoldable pub end_line : ℕ → List ℕ
+end_line records = line end_word (decimal_text records ∷ [])
 
 -- "A refusal prints only `refused N at P`"
-unfoldable pub refusalLine : ℕ → ℕ → List ℕ
-refusalLine number place = line refusedWord (decimalText number ∷ atWord ∷ decimalText place ∷ [])
+unfoldable pub refusal_line : ℕ → ℕ → List ℕ
+refusal_line number place = line refused_word (decimal_text number ∷ at_word ∷ decimal_text place ∷ [])
 
 -- "else prints `too long`"
-unfoldable pub tooLongLine : List ℕ
-tooLongLine = 116 ∷ 111 ∷ 111 ∷ 32 ∷ 108 ∷ 111 ∷ 110 ∷ 103 ∷ 10 ∷ []
+unfoldable pub too_long_line : List ℕ
+too_long_line = 116 ∷ 111 ∷ 111 ∷ 32 ∷ 108 ∷ 111 ∷ 110 ∷ 103 ∷ 10 ∷ []
 
 -- ---- the listing of a sheet: a header and records, read from a file of that version
 
-unfoldable pub recordLines : List Record → List ℕ
-recordLines [] = []
-recordLines (r ∷ rs) = recordLine r ++ recordLines rs
+unfoldable pub record_lines : List Record → List ℕ
+record_lines [] = []
+record_lines (r ∷ rs) = record_line r ++ record_lines rs
 
 -- the lines of the records behind the first n, and the last line
 unfoldable pub rest_of : ℕ → List Record → List ℕ
-rest_of n rs = recordLines rs ++ endLine (n + length rs)
+rest_of n rs = record_lines rs ++ end_line (n + length rs)
 
-unfoldable pub listingOf : ℕ → Header → List Record → List ℕ
-listingOf version h rs = headerLine version h ++ rest_of 0 rs
+unfoldable pub listing_of : ℕ → Header → List Record → List ℕ
+listing_of version h rs = header_line version h ++ rest_of 0 rs
 
 -- a sheet of so many bytes or more prints `too long`: the library's own limit, above any memory, so that no count of its lines' bytes wraps
-abbrev pub listingLimit : ℕ
-listingLimit = 2 ^ 55
+abbrev pub listing_limit : ℕ
+listing_limit = 2 ^ 55
 
 -- the listing of a sheet's bytes on which the writer has that verdict: "A refusal prints only `refused N at P`"; 12, "sheet breaks the layout"
-abbrev pub judgedListing : Verdict → ℕ → List ℕ → List ℕ
-judgedListing Good version sheet = listingOf version (frontHeader sheet) (sheetResult sheet).records
-judgedListing (Refusal n p) version sheet = refusalLine n p
+abbrev pub judged_listing : Verdict → ℕ → List ℕ → List ℕ
+judged_listing Good version sheet = listing_of version (front_header sheet) (sheet_result sheet).records
+judged_listing (Refusal n p) version sheet = refusal_line n p
 
-unfoldable pub sheetListing : ℕ → List ℕ → List ℕ
-sheetListing version sheet = pick (ltb (length sheet) listingLimit) (judgedListing (sheetResult sheet).verdict version sheet) tooLongLine
+unfoldable pub sheet_listing : ℕ → List ℕ → List ℕ
+sheet_listing version sheet = pick (ltb (length sheet) listing_limit) (judged_listing (sheet_result sheet).verdict version sheet) too_long_line
 
 -- ---- what the lister prints for an input
 
 -- "The lister reads standard input, at most 16,384 bytes"
-abbrev pub inputLimit : ℕ
-inputLimit = 16384
+abbrev pub input_limit : ℕ
+input_limit = 16384
 
 -- "a sheet over 49,152 bytes gives 11"
-abbrev pub listerSheetLimit : ℕ
-listerSheetLimit = 49152
+abbrev pub lister_sheet_limit : ℕ
+lister_sheet_limit = 49152
 
 -- no text of the lister's is longer: a line takes at most four times the bytes of its record
-abbrev pub listerTextLimit : ℕ
-listerTextLimit = 262144
+abbrev pub lister_text_limit : ℕ
+lister_text_limit = 262144
 
 -- what is printed after an answer: "A refusal prints only `refused N at P`"
-abbrev pub outcomeText : Outcome → List ℕ → List ℕ
-outcomeText (refused n p) text = refusalLine n p
-outcomeText (accepted bytes records version) text = text
+abbrev pub outcome_text : Outcome → List ℕ → List ℕ
+outcome_text (refused n p) text = refusal_line n p
+outcome_text (accepted bytes records version) text = text
 
-abbrev pub listingFrom : Opening → List ℕ → List ℕ
-listingFrom (shut n p) file = []
-listingFrom (opened version place h) file = listingOf version h (items_of version place file).records
+abbrev pub listing_from : Opening → List ℕ → List ℕ
+listing_from (shut n p) file = []
+listing_from (opened version place h) file = listing_of version h (items_of version place file).records
 
 -- "The lister reads standard input, at most 16,384 bytes, else prints `too long`"
-unfoldable pub listerText : List ℕ → List ℕ
-listerText input =
-    pick (ltb inputLimit (length input)) tooLongLine (outcomeText (readFrom (openingOf input) input listerSheetLimit) (listingFrom (openingOf input) input))
+unfoldable pub lister_text : List ℕ → List ℕ
+lister_text input =
+    pick (ltb input_limit (length input)) too_long_line (outcome_text (read_from (opening_of input) input lister_sheet_limit) (listing_from (opening_of input) input))

@@ -2,17 +2,17 @@
 use Rattle.std.specs.Prelude.{ℕ, ◌+◌, ◌*◌, List}
 use Rattle.listing.specs.declared.Printed.{Printed}
 use Rattle.listing.specs.declared.Printed.TheVariants.{TooLong, Refused, Sheet}
-use Rattle.listing.specs.Lines.{refusalLine, tooLongLine, sheetListing}
-use Rattle.listing.specs.Puts.{lineLimit}
+use Rattle.listing.specs.Lines.{refusal_line, too_long_line, sheet_listing}
+use Rattle.listing.specs.Puts.{line_limit}
 
 -- the text for an input: "A refusal prints only `refused N at P`", "else prints `too long`"
-abbrev pub printedText : Printed → List ℕ → List ℕ
-printedText TooLong sheet = tooLongLine
-printedText (Refused number place) sheet = refusalLine number place
-printedText (Sheet version) sheet = sheetListing version sheet
+abbrev pub printed_text : Printed → List ℕ → List ℕ
+printed_text TooLong sheet = too_long_line
+printed_text (Refused number place) sheet = refusal_line number place
+printed_text (Sheet version) sheet = sheet_listing version sheet
 
 -- and the most bytes that it can have, for a sheet of n
-abbrev pub printedLimit : Printed → ℕ → ℕ
-printedLimit TooLong n = lineLimit
-printedLimit (Refused number place) n = lineLimit
-printedLimit (Sheet version) n = 4 * n + 2 * lineLimit
+abbrev pub printed_limit : Printed → ℕ → ℕ
+printed_limit TooLong n = line_limit
+printed_limit (Refused number place) n = line_limit
+printed_limit (Sheet version) n = 4 * n + 2 * line_limit

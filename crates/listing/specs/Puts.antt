@@ -8,8 +8,8 @@ unfoldable pub fitted : List ℕ → List ℕ → List ℕ
 fitted text old = pick (ltb (length old) (length text)) old (over text old)
 
 -- no line is longer: a title of 4,096 bytes takes 12,288, and a time line of 64 takes 192
-abbrev pub lineLimit : ℕ
-lineLimit = 13000
+abbrev pub line_limit : ℕ
+line_limit = 13000
 
 -- a text's length, and the buffer with the text in it where it fits
 pub record Wrote (text old : List ℕ) (r : ℕ) (new : List ℕ) : Type 0 where

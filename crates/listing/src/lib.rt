@@ -2,15 +2,15 @@
 // the buffer reaches; a line is measured so with no room, and put where it fits. The
 // bounds on an index, each a little lower than its callee's, keep sums from wrapping.
 ghost use Rattle.std.specs.Prelude.{◌≡◌, [], ◌∷◌, ◌++◌, ℕ, ◌+◌, ◌*◌, ◌^◌, ◌≤◌, ◌<◌, length, drop};
-ghost use Rattle.listing.specs.Text.{decimalText, signedText, hexDigit, plain, escapedByte, escaped, text_of, spaced};
-ghost use Rattle.listing.specs.Lines.{legWord, versionWord, titleWord, dateText, pointWords, dimensionWords, traverseWords, legLine, stationLine, sectionLine, errorLine, recordLine, headerLine, endLine, refusalLine, tooLongLine, rest_of, listingOf, sheetListing, listingLimit};
-ghost use Rattle.listing.specs.Puts.{Put, Wrote, lineLimit};
-ghost use Rattle.listing.specs.Printed.{printedText, printedLimit};
-ghost use Rattle.format.specs.Fields.{recordOf};
-ghost use Rattle.format.specs.Sheet.{recordsOf, frontHeader, sheetResult};
+ghost use Rattle.listing.specs.Text.{decimal_text, signed_text, hex_digit, plain, escaped_byte, escaped, text_of, spaced};
+ghost use Rattle.listing.specs.Lines.{leg_word, version_word, title_word, date_text, point_words, dimension_words, traverse_words, leg_line, station_line, section_line, error_line, record_line, header_line, end_line, refusal_line, too_long_line, rest_of, listing_of, sheet_listing, listing_limit};
+ghost use Rattle.listing.specs.Puts.{Put, Wrote, line_limit};
+ghost use Rattle.listing.specs.Printed.{printed_text, printed_limit};
+ghost use Rattle.format.specs.Fields.{record_of};
+ghost use Rattle.format.specs.Sheet.{records_of, front_header, sheet_result};
 ghost use Rattle.format.specs.declared.Verdict.TheVariants.{Good};
-ghost use Rattle.format.specs.Label.{labelLimit};
-ghost use Rattle.format.specs.Header.{titleLimit, timeLimit};
+ghost use Rattle.format.specs.Label.{label_limit};
+ghost use Rattle.format.specs.Header.{title_limit, time_limit};
 
 use format::{Dated, Dimensions, Fields, Leg, Point, Section, Station, Traverse, Verdict};
 use number::index;
@@ -61,7 +61,7 @@ fn word(out: &mut [u8], at: usize, s: &[u8]) -> usize
 // Puts the digits of a number, the highest first.
 fn decimal(out: &mut [u8], at: usize, n: usize) -> usize
     requires { at < 2 ^ 62 }
-    ensures { Put 20 (decimalText n) out.old at result out.new }
+    ensures { Put 20 (decimal_text n) out.old at result out.new }
 {
     if n < 10 {
         return put(out, at, (48 + n) as u8);
@@ -73,7 +73,7 @@ fn decimal(out: &mut [u8], at: usize, n: usize) -> usize
 // Puts the i32 whose bit pattern n is.
 fn signed(out: &mut [u8], at: usize, n: u32) -> usize
     requires { at < 2 ^ 61 }
-    ensures { Put 21 (signedText n) out.old at result out.new }
+    ensures { Put 21 (signed_text n) out.old at result out.new }
 {
     let size = n as usize;
     if size < 2147483648 {
@@ -86,7 +86,7 @@ fn signed(out: &mut [u8], at: usize, n: u32) -> usize
 // A lower hex digit.
 fn hex(n: u8) -> u8
     requires { n < 16 }
-    ensures { result ≡ hexDigit n }
+    ensures { result ≡ hex_digit n }
 {
     if n < 10 {
         return 48 + n;
@@ -110,7 +110,7 @@ fn is_plain(b: u8) -> bool
 // Puts a byte of text.
 fn text_byte(out: &mut [u8], at: usize, b: u8) -> usize
     requires { at < 2 ^ 62 }
-    ensures { Put 3 (escapedByte b) out.old at result out.new }
+    ensures { Put 3 (escaped_byte b) out.old at result out.new }
 {
     if is_plain(b) {
         return put(out, at, b);
@@ -122,7 +122,7 @@ fn text_byte(out: &mut [u8], at: usize, b: u8) -> usize
 
 // Puts the bytes of text.
 fn escape(out: &mut [u8], at: usize, s: &[u8]) -> usize
-    requires { (at < 2 ^ 61) × (length s.now ≤ labelLimit) }
+    requires { (at < 2 ^ 61) × (length s.now ≤ label_limit) }
     ensures { Put (3 * length s.now) (escaped s.now) out.old at result out.new }
 {
     let mut k = at;
@@ -136,7 +136,7 @@ fn escape(out: &mut [u8], at: usize, s: &[u8]) -> usize
 
 // Puts text; empty text is `-`.
 fn text(out: &mut [u8], at: usize, s: &[u8]) -> usize
-    requires { (at < 2 ^ 61) × (length s.now ≤ labelLimit) }
+    requires { (at < 2 ^ 61) × (length s.now ≤ label_limit) }
     ensures { Put (64 + 3 * length s.now) (text_of s.now) out.old at result out.new }
 {
     if s.len() == 0 {
@@ -151,7 +151,7 @@ fn text(out: &mut [u8], at: usize, s: &[u8]) -> usize
 // Puts a space and a number.
 fn number(out: &mut [u8], at: usize, n: usize) -> usize
     requires { at < 2 ^ 61 }
-    ensures { Put 21 (32 ∷ decimalText n) out.old at result out.new }
+    ensures { Put 21 (32 ∷ decimal_text n) out.old at result out.new }
 {
     let k = put(out, at, b' ');
     decimal(out, k, n)
@@ -160,7 +160,7 @@ fn number(out: &mut [u8], at: usize, n: usize) -> usize
 // Puts a space and an i32.
 fn signed_number(out: &mut [u8], at: usize, n: u32) -> usize
     requires { at < 2 ^ 60 }
-    ensures { Put 22 (32 ∷ signedText n) out.old at result out.new }
+    ensures { Put 22 (32 ∷ signed_text n) out.old at result out.new }
 {
     let k = put(out, at, b' ');
     signed(out, k, n)
@@ -168,7 +168,7 @@ fn signed_number(out: &mut [u8], at: usize, n: u32) -> usize
 
 // Puts a space and text.
 fn name(out: &mut [u8], at: usize, s: &[u8]) -> usize
-    requires { (at < 2 ^ 60) × (length s.now ≤ labelLimit) }
+    requires { (at < 2 ^ 60) × (length s.now ≤ label_limit) }
     ensures { Put (65 + 3 * length s.now) (32 ∷ text_of s.now) out.old at result out.new }
 {
     let k = put(out, at, b' ');
@@ -178,7 +178,7 @@ fn name(out: &mut [u8], at: usize, s: &[u8]) -> usize
 // Puts a space and a date.
 fn date(out: &mut [u8], at: usize, d: Dated) -> usize
     requires { at < 2 ^ 60 }
-    ensures { Put 64 (32 ∷ dateText d) out.old at result out.new }
+    ensures { Put 64 (32 ∷ date_text d) out.old at result out.new }
 {
     match d {
         Dated::Undated => word(out, at, b" none"),
@@ -194,7 +194,7 @@ fn date(out: &mut [u8], at: usize, d: Dated) -> usize
 // Puts a place, a space before each number.
 fn point(out: &mut [u8], at: usize, p: Point) -> usize
     requires { at < 2 ^ 59 }
-    ensures { Put 66 (spaced (pointWords p)) out.old at result out.new }
+    ensures { Put 66 (spaced (point_words p)) out.old at result out.new }
 {
     let k = signed_number(out, at, p.x);
     let k = signed_number(out, k, p.y);
@@ -204,7 +204,7 @@ fn point(out: &mut [u8], at: usize, p: Point) -> usize
 // Puts a passage's size, a space before each number.
 fn dimensions(out: &mut [u8], at: usize, d: Dimensions) -> usize
     requires { at < 2 ^ 59 }
-    ensures { Put 88 (spaced (dimensionWords d)) out.old at result out.new }
+    ensures { Put 88 (spaced (dimension_words d)) out.old at result out.new }
 {
     let k = signed_number(out, at, d.left);
     let k = signed_number(out, k, d.right);
@@ -215,7 +215,7 @@ fn dimensions(out: &mut [u8], at: usize, d: Dimensions) -> usize
 // Puts a traverse's error, a space before each number.
 fn traverse(out: &mut [u8], at: usize, t: Traverse) -> usize
     requires { at < 2 ^ 59 }
-    ensures { Put 110 (spaced (traverseWords t)) out.old at result out.new }
+    ensures { Put 110 (spaced (traverse_words t)) out.old at result out.new }
 {
     let k = signed_number(out, at, t.legs);
     let k = signed_number(out, k, t.total);
@@ -226,7 +226,7 @@ fn traverse(out: &mut [u8], at: usize, t: Traverse) -> usize
 
 // Puts a space, text and a linefeed.
 fn last_name(out: &mut [u8], at: usize, s: &[u8]) -> usize
-    requires { (at < 2 ^ 59) × (length s.now ≤ labelLimit) }
+    requires { (at < 2 ^ 59) × (length s.now ≤ label_limit) }
     ensures { Put 12354 (32 ∷ (text_of s.now ++ 10 ∷ [])) out.old at result out.new }
 {
     let k = name(out, at, s);
@@ -236,7 +236,7 @@ fn last_name(out: &mut [u8], at: usize, s: &[u8]) -> usize
 // Puts a space, a number and a linefeed.
 fn last_number(out: &mut [u8], at: usize, n: usize) -> usize
     requires { at < 2 ^ 59 }
-    ensures { Put 22 (32 ∷ (decimalText n ++ 10 ∷ [])) out.old at result out.new }
+    ensures { Put 22 (32 ∷ (decimal_text n ++ 10 ∷ [])) out.old at result out.new }
 {
     let k = number(out, at, n);
     put(out, k, b'\n')
@@ -245,7 +245,7 @@ fn last_number(out: &mut [u8], at: usize, n: usize) -> usize
 // Puts a leg's line up to its date.
 fn leg_front(out: &mut [u8], at: usize, flags: u8, style: u8, day: Dated) -> usize
     requires { at < 2 ^ 59 }
-    ensures { Put 170 (legWord ++ spaced (decimalText flags ∷ decimalText style ∷ dateText day ∷ [])) out.old at result out.new }
+    ensures { Put 170 (leg_word ++ spaced (decimal_text flags ∷ decimal_text style ∷ date_text day ∷ [])) out.old at result out.new }
 {
     let k = word(out, at, b"leg");
     let k = number(out, k, index(flags));
@@ -255,8 +255,8 @@ fn leg_front(out: &mut [u8], at: usize, flags: u8, style: u8, day: Dated) -> usi
 
 // Puts a leg's line.
 fn leg_line(out: &mut [u8], at: usize, leg: Leg, label: &[u8]) -> usize
-    requires { (at < 2 ^ 58) × (length label.now ≤ labelLimit) }
-    ensures { Put lineLimit (legLine leg label.now) out.old at result out.new }
+    requires { (at < 2 ^ 58) × (length label.now ≤ label_limit) }
+    ensures { Put line_limit (leg_line leg label.now) out.old at result out.new }
 {
     let day = leg.date;
     let k = leg_front(out, at, leg.flags, leg.style, day);
@@ -267,8 +267,8 @@ fn leg_line(out: &mut [u8], at: usize, leg: Leg, label: &[u8]) -> usize
 
 // Puts a station's line.
 fn station_line(out: &mut [u8], at: usize, station: Station, label: &[u8]) -> usize
-    requires { (at < 2 ^ 58) × (length label.now ≤ labelLimit) }
-    ensures { Put lineLimit (stationLine station label.now) out.old at result out.new }
+    requires { (at < 2 ^ 58) × (length label.now ≤ label_limit) }
+    ensures { Put line_limit (station_line station label.now) out.old at result out.new }
 {
     let k = word(out, at, b"station");
     let k = number(out, k, index(station.flags));
@@ -278,8 +278,8 @@ fn station_line(out: &mut [u8], at: usize, station: Station, label: &[u8]) -> us
 
 // Puts a cross-section's line.
 fn section_line(out: &mut [u8], at: usize, section: Section, label: &[u8]) -> usize
-    requires { (at < 2 ^ 58) × (length label.now ≤ labelLimit) }
-    ensures { Put lineLimit (sectionLine section label.now) out.old at result out.new }
+    requires { (at < 2 ^ 58) × (length label.now ≤ label_limit) }
+    ensures { Put line_limit (section_line section label.now) out.old at result out.new }
 {
     let day = section.date;
     let k = word(out, at, b"xsect");
@@ -292,7 +292,7 @@ fn section_line(out: &mut [u8], at: usize, section: Section, label: &[u8]) -> us
 // Puts a traverse error's line.
 fn error_line(out: &mut [u8], at: usize, t: Traverse) -> usize
     requires { at < 2 ^ 58 }
-    ensures { Put lineLimit (errorLine t) out.old at result out.new }
+    ensures { Put line_limit (error_line t) out.old at result out.new }
 {
     let k = word(out, at, b"error");
     let k = traverse(out, k, t);
@@ -301,8 +301,8 @@ fn error_line(out: &mut [u8], at: usize, t: Traverse) -> usize
 
 // Puts a record's line.
 fn record_line(out: &mut [u8], at: usize, fields: Fields, label: &[u8]) -> usize
-    requires { (at < 2 ^ 58) × (length label.now ≤ labelLimit) }
-    ensures { Put lineLimit (recordLine (recordOf fields label.now)) out.old at result out.new }
+    requires { (at < 2 ^ 58) × (length label.now ≤ label_limit) }
+    ensures { Put line_limit (record_line (record_of fields label.now)) out.old at result out.new }
 {
     match fields {
         Fields::Leg {
@@ -341,8 +341,8 @@ fn record_line(out: &mut [u8], at: usize, fields: Fields, label: &[u8]) -> usize
 
 // Puts the header's line up to its time.
 fn header_front(out: &mut [u8], at: usize, version: u8, title: &[u8]) -> usize
-    requires { (at < 2 ^ 59) × (length title.now ≤ titleLimit) }
-    ensures { Put 12502 (versionWord ++ spaced (decimalText version ∷ titleWord ∷ text_of title.now ∷ [])) out.old at result out.new }
+    requires { (at < 2 ^ 59) × (length title.now ≤ title_limit) }
+    ensures { Put 12502 (version_word ++ spaced (decimal_text version ∷ title_word ∷ text_of title.now ∷ [])) out.old at result out.new }
 {
     let k = word(out, at, b"version");
     let k = number(out, k, index(version));
@@ -359,8 +359,8 @@ fn header_line(
     title: &[u8],
     time: &[u8],
 ) -> usize
-    requires { (at < 2 ^ 58) × (length title.now ≤ titleLimit) × (length time.now ≤ timeLimit) }
-    ensures { Put lineLimit (headerLine version (record { extended = extended; title = title.now; time = time.now })) out.old at result out.new }
+    requires { (at < 2 ^ 58) × (length title.now ≤ title_limit) × (length time.now ≤ time_limit) }
+    ensures { Put line_limit (header_line version (record { extended = extended; title = title.now; time = time.now })) out.old at result out.new }
 {
     let k = header_front(out, at, version, title);
     let k = word(out, k, b" time");
@@ -372,7 +372,7 @@ fn header_line(
 // Puts the last line.
 fn end_line(out: &mut [u8], at: usize, records: usize) -> usize
     requires { at < 2 ^ 58 }
-    ensures { Put lineLimit (endLine records) out.old at result out.new }
+    ensures { Put line_limit (end_line records) out.old at result out.new }
 {
     let k = word(out, at, b"end");
     last_number(out, k, records)
@@ -381,7 +381,7 @@ fn end_line(out: &mut [u8], at: usize, records: usize) -> usize
 // Puts a refusal's line.
 fn refusal_line(out: &mut [u8], at: usize, refused: u8, place: usize) -> usize
     requires { at < 2 ^ 58 }
-    ensures { Put lineLimit (refusalLine refused place) out.old at result out.new }
+    ensures { Put line_limit (refusal_line refused place) out.old at result out.new }
 {
     let k = word(out, at, b"refused");
     let k = number(out, k, index(refused));
@@ -392,8 +392,8 @@ fn refusal_line(out: &mut [u8], at: usize, refused: u8, place: usize) -> usize
 // Puts the lines of the records from a place of the sheet on, whose version is given, and
 // the last line.
 fn rest_lines(sheet: &[u8], layout: u8, from: usize, out: &mut [u8], begin: usize) -> usize
-    requires { (from ≤ length sheet.now) × (length sheet.now < listingLimit) × (begin ≤ lineLimit) }
-    ensures { Put (4 * length sheet.now + lineLimit) (rest_of 0 (recordsOf layout (drop from sheet.now)).records) out.old begin result out.new }
+    requires { (from ≤ length sheet.now) × (length sheet.now < listing_limit) × (begin ≤ line_limit) }
+    ensures { Put (4 * length sheet.now + line_limit) (rest_of 0 (records_of layout (drop from sheet.now)).records) out.old begin result out.new }
 {
     let mut at = from;
     let mut k = begin;
@@ -421,7 +421,7 @@ fn rest_lines(sheet: &[u8], layout: u8, from: usize, out: &mut [u8], begin: usiz
 // What the writer says of the records from a place of the sheet on.
 fn records_verdict(sheet: &[u8], layout: u8, from: usize) -> Verdict
     requires { from ≤ length sheet.now }
-    ensures { result ≡ (recordsOf layout (drop from sheet.now)).verdict }
+    ensures { result ≡ (records_of layout (drop from sheet.now)).verdict }
 {
     let mut at = from;
     let mut record: usize = 0;
@@ -451,7 +451,7 @@ fn records_verdict(sheet: &[u8], layout: u8, from: usize) -> Verdict
 
 // What the writer says of a sheet: 12 where it breaks the layout.
 fn sheet_verdict(sheet: &[u8]) -> Verdict
-    ensures { result ≡ (sheetResult sheet.now).verdict }
+    ensures { result ≡ (sheet_result sheet.now).verdict }
 {
     let layout = version_of(sheet);
     let front = read_front(sheet, layout);
@@ -470,8 +470,8 @@ fn sheet_verdict(sheet: &[u8]) -> Verdict
 
 // Puts the lines of a sheet that keeps the layout.
 fn sheet_lines(sheet: &[u8], version: u8, out: &mut [u8]) -> usize
-    requires { (length sheet.now < listingLimit) × ((sheetResult sheet.now).verdict ≡ Good) }
-    ensures { Put (4 * length sheet.now + 2 * lineLimit) (listingOf version (frontHeader sheet.now) (sheetResult sheet.now).records) out.old 0 result out.new }
+    requires { (length sheet.now < listing_limit) × ((sheet_result sheet.now).verdict ≡ Good) }
+    ensures { Put (4 * length sheet.now + 2 * line_limit) (listing_of version (front_header sheet.now) (sheet_result sheet.now).records) out.old 0 result out.new }
 {
     let layout = version_of(sheet);
     let front = read_front(sheet, layout);
@@ -500,8 +500,8 @@ fn sheet_lines(sheet: &[u8], version: u8, out: &mut [u8]) -> usize
 // Writes the lines of a sheet that keeps the layout, read from a file of that version,
 // over the front of out where they fit, and answers their length either way.
 fn list_lines(sheet: &[u8], version: u8, out: &mut [u8]) -> usize
-    requires { (length sheet.now < listingLimit) × ((sheetResult sheet.now).verdict ≡ Good) }
-    ensures { Wrote (listingOf version (frontHeader sheet.now) (sheetResult sheet.now).records) out.old result out.new × (result ≤ 4 * length sheet.now + 2 * lineLimit) }
+    requires { (length sheet.now < listing_limit) × ((sheet_result sheet.now).verdict ≡ Good) }
+    ensures { Wrote (listing_of version (front_header sheet.now) (sheet_result sheet.now).records) out.old result out.new × (result ≤ 4 * length sheet.now + 2 * line_limit) }
 {
     let size = sheet_lines(sheet, version, &mut out[0..0]);
     if out.len() < size {
@@ -513,7 +513,7 @@ fn list_lines(sheet: &[u8], version: u8, out: &mut [u8]) -> usize
 // Writes a refusal's line over the front of out where it fits, and answers its length
 // either way. It stands alone.
 fn list_refusal(out: &mut [u8], refused: u8, place: usize) -> usize
-    ensures { Wrote (refusalLine refused place) out.old result out.new × (result ≤ lineLimit) }
+    ensures { Wrote (refusal_line refused place) out.old result out.new × (result ≤ line_limit) }
 {
     let size = refusal_line(&mut out[0..0], 0, refused, place);
     if out.len() < size {
@@ -524,7 +524,7 @@ fn list_refusal(out: &mut [u8], refused: u8, place: usize) -> usize
 
 // The same for an input that is too long.
 fn list_too_long(out: &mut [u8]) -> usize
-    ensures { Wrote tooLongLine out.old result out.new × (result ≤ lineLimit) }
+    ensures { Wrote too_long_line out.old result out.new × (result ≤ line_limit) }
 {
     let text = b"too long\n";
     if out.len() < 9 {
@@ -535,7 +535,7 @@ fn list_too_long(out: &mut [u8]) -> usize
 
 // The same for a sheet, read from a file of that version.
 fn list_sheet(sheet: &[u8], version: u8, out: &mut [u8]) -> usize
-    ensures { Wrote (sheetListing version sheet.now) out.old result out.new × (result ≤ 4 * length sheet.now + 2 * lineLimit) }
+    ensures { Wrote (sheet_listing version sheet.now) out.old result out.new × (result ≤ 4 * length sheet.now + 2 * line_limit) }
 {
     if LISTING_LIMIT <= sheet.len() {
         return list_too_long(out);
@@ -549,7 +549,7 @@ fn list_sheet(sheet: &[u8], version: u8, out: &mut [u8]) -> usize
 
 // Writes the text over the front of out where it fits, and answers its length either way.
 pub fn list(printed: Printed, sheet: &[u8], out: &mut [u8]) -> usize
-    ensures { Wrote (printedText printed sheet.now) out.old result out.new × (result ≤ printedLimit printed (length sheet.now)) }
+    ensures { Wrote (printed_text printed sheet.now) out.old result out.new × (result ≤ printed_limit printed (length sheet.now)) }
 {
     match printed {
         Printed::TooLong => list_too_long(out),

@@ -12,14 +12,14 @@ use Rattle.format.specs.Refusals.{stop}
 use Rattle.format.specs.declared.Verdict.{Verdict}
 use Rattle.format.specs.declared.Verdict.TheVariants.{Good, Refusal}
 use Rattle.format.specs.Reading.{next, ended, run, items_of}
-use Rattle.format.proofs.Basics.{pick-case}
-use Rattle.format.proofs.ReadingLaws.{there-within, left-bad, left_after, left-done, left-on, left-made}
+use Rattle.format.proofs.Basics.{pick_case}
+use Rattle.format.proofs.ReadingLaws.{there_within, left_bad, left_after, left_done, left_on, left_made}
 use Rattle.measure.specs.Measures.{Keeps, Goes, Makes, Measures, ComesIn}
-use Rattle.measure.specs.Totals.{passed_by, passOf}
+use Rattle.measure.specs.Totals.{passed_by, pass_of}
 use Rattle.measure.specs.declared.Measured.{Measured}
 use Rattle.measure.specs.declared.Measured.TheVariants.{Bad, End, Styled, Moved, Passes, Made}
 use Rattle.measure.specs.declared.Passed.{Passed}
-use Rattle.measure.proofs.Sums.{pass-also, pass-stop}
+use Rattle.measure.proofs.Sums.{pass_also, pass_stop}
 
 -- the end item: why reading stops there, over the bytes as the code cuts them out
 pub left_end : (version : ℕ) (file : List ℕ) (at : ℕ) (st : State) → end ≡ next version (take (length file - at) (drop at file)) st
@@ -27,9 +27,9 @@ pub left_end : (version : ℕ) (file : List ℕ) (at : ℕ) (st : State) → end
 unfolding ended
 left_end version file at st e =
     rw (part_to_end file at)
-    (pick-case (λ (v : Verdict). run version at (drop at file) st ≡ stop v) _ _ _
+    (pick_case (λ (v : Verdict). run version at (drop at file) st ≡ stop v) _ _ _
     (λ t. left_after version file at st e (ltb-true _ _ t))
-    (λ t. left-done version file at st e (ltb-false _ _ t)))
+    (λ t. left_done version file at st e (ltb-false _ _ t)))
 
 -- what is left of the file, in a state of which this is kept, comes with the counts so far to the same as the whole
 pub record Going (file : List ℕ) (place front at out records len style : ℕ) (placed : Bool) : Type 0 where
@@ -37,20 +37,20 @@ pub record Going (file : List ℕ) (place front at out records len style : ℕ) 
   pub keeps : Keeps state len style placed
   pub inside : at ≤ length file
   pub short : len ≤ 4096
-  pub out-few : out ≤ front + 4130 * at
-  pub records-few : records ≤ at
-  pub answer : passOf out records (run 8 at (drop at file) state) ≡ passOf front 0 (items_of 8 place file)
+  pub out_few : out ≤ front + 4130 * at
+  pub records_few : records ≤ at
+  pub answer : pass_of out records (run 8 at (drop at file) state) ≡ pass_of front 0 (items_of 8 place file)
 
-pub going-first : (file : List ℕ) (place front : ℕ) → place ≤ length file → Going file place front place front 0 0 5 false
+pub going_first : (file : List ℕ) (place front : ℕ) → place ≤ length file → Going file place front place front 0 0 5 false
 unfolding items_of
-going-first file place front h =
+going_first file place front h =
     record {
       state = start;
-      keeps = record { label_is = refl; style-is = refl; position-is = refl };
+      keeps = record { label_is = refl; style_is = refl; position_is = refl };
       inside = h;
       short = omega arith;
-      out-few = omega arith;
-      records-few = omega arith;
+      out_few = omega arith;
+      records_few = omega arith;
       answer = refl;
     }
 
@@ -69,58 +69,58 @@ module _ (file : List ℕ) (place front at out records len style : ℕ) (placed 
   Found r = ComesIn r len style placed (λ st. next 8 (take (length file - at) (drop at file)) st)
 
   abbrev whole : Passed
-  whole = passOf front 0 (items_of 8 place file)
+  whole = pass_of front 0 (items_of 8 place file)
 
   pub found : (r : Measured) → Found r → Measures r len style placed (next 8 (take (length file - at) (drop at file)) G.state)
   found r f = f G.state G.keeps
 
   pub ends : {v : Verdict} → run 8 at (drop at file) G.state ≡ stop v → passed_by v out records ≡ whole
-  ends {v} e = sym (pass-stop out records v) ∙ rw e at G.answer
+  ends {v} e = sym (pass_stop out records v) ∙ rw e at G.answer
 
-  pub ends-bad : (k : ℕ) → Found (Bad k) → passed_by (Refusal k at) out records ≡ whole
-  ends-bad k f = ends (left-bad 8 file at G.state (sym (found (Bad k) f)))
+  pub ends_bad : (k : ℕ) → Found (Bad k) → passed_by (Refusal k at) out records ≡ whole
+  ends_bad k f = ends (left_bad 8 file at G.state (sym (found (Bad k) f)))
 
-  pub ends-end : Found End → passed_by (ended at (take (length file - at) (drop at file))) out records ≡ whole
-  ends-end f = ends (left_end 8 file at G.state (sym (found End f)))
+  pub ends_end : Found End → passed_by (ended at (take (length file - at) (drop at file))) out records ≡ whole
+  ends_end f = ends (left_end 8 file at G.state (sym (found End f)))
 
   -- the next turn, behind an item of n bytes
   turn : (st : State) (n out' records' m y : ℕ) (p : Bool) → Keeps st m y p → (1 ≤ n) × (at + n ≤ length file) → m ≤ 4096 → out' ≤ out + 4130
-      → records' ≤ records + 1 → passOf out' records' (run 8 (at + n) (drop (at + n) file) st) ≡ whole → Going file place front (at + n) out' records' m y p
+      → records' ≤ records + 1 → pass_of out' records' (run 8 (at + n) (drop (at + n) file) st) ≡ whole → Going file place front (at + n) out' records' m y p
   turn st n out' records' m y p K z h few one same =
       record {
         state = st;
         keeps = K;
         inside = z.1;
         short = h;
-        out-few = omega (arith, G.out-few);
-        records-few = omega (arith, G.records-few);
+        out_few = omega (arith, G.out_few);
+        records_few = omega (arith, G.records_few);
         answer = same;
       }
 
   -- an item that makes no record
   module _ (n m y : ℕ) (p : Bool) (g : Goes (next 8 (take (length file - at) (drop at file)) G.state) n m y p) where
-    goes-size : (1 ≤ n) × (at + n ≤ length file)
-    goes-size = there-within 8 file at G.state G.inside (sym g.same)
+    goes_size : (1 ≤ n) × (at + n ≤ length file)
+    goes_size = there_within 8 file at G.state G.inside (sym g.same)
 
     pub going_on : m ≤ 4096 → Going file place front (at + n) out records m y p
     going_on h =
-        turn g.after n out records m y p g.keeps goes-size h (omega arith) (omega arith)
-        (rw (left-on 8 file at G.state (sym g.same)) at G.answer)
+        turn g.after n out records m y p g.keeps goes_size h (omega arith) (omega arith)
+        (rw (left_on 8 file at G.state (sym g.same)) at G.answer)
 
   -- an item that makes one
   module _ (n bytes m : ℕ) (g : Makes (next 8 (take (length file - at) (drop at file)) G.state) n bytes m style placed) where
-    makes-size : (1 ≤ n) × (at + n ≤ length file)
-    makes-size = there-within 8 file at G.state G.inside (sym g.same)
+    makes_size : (1 ≤ n) × (at + n ≤ length file)
+    makes_size = there_within 8 file at G.state G.inside (sym g.same)
 
-    pub going-made : m ≤ 4096 → bytes ≤ 4130 → Going file place front (at + n) (out + bytes) (records + 1) m style placed
-    going-made h k =
-        turn g.after n (out + bytes) (records + 1) m style placed g.keeps makes-size h (omega arith) (omega arith)
-        (rw (← g.size) (sym (pass-also out records g.gives _) ∙ rw (left-made 8 file at G.state (sym g.same)) at G.answer))
+    pub going_made : m ≤ 4096 → bytes ≤ 4130 → Going file place front (at + n) (out + bytes) (records + 1) m style placed
+    going_made h k =
+        turn g.after n (out + bytes) (records + 1) m style placed g.keeps makes_size h (omega arith) (omega arith)
+        (rw (← g.size) (sym (pass_also out records g.gives _) ∙ rw (left_made 8 file at G.state (sym g.same)) at G.answer))
 
-  pub item-within : (r : Measured) → Found r → Within (length file) at r
-  item-within (Bad k) f = tt
-  item-within End f = tt
-  item-within (Styled to) f = (goes-size 1 len to placed (found (Styled to) f)).1
-  item-within Moved f = (goes-size 13 len style true (found Moved f)).1
-  item-within (Passes n) f = goes-size n len style placed (found (Passes n) f)
-  item-within (Made n m bytes) f = makes-size n bytes m (found (Made n m bytes) f)
+  pub item_within : (r : Measured) → Found r → Within (length file) at r
+  item_within (Bad k) f = tt
+  item_within End f = tt
+  item_within (Styled to) f = (goes_size 1 len to placed (found (Styled to) f)).1
+  item_within Moved f = (goes_size 13 len style true (found Moved f)).1
+  item_within (Passes n) f = goes_size n len style placed (found (Passes n) f)
+  item_within (Made n m bytes) f = makes_size n bytes m (found (Made n m bytes) f)

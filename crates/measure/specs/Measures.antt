@@ -1,10 +1,10 @@
 -- What measuring keeps of a state, and what it says of an item in every state of which it keeps the same. Assumes nothing.
 use Rattle.std.specs.Prelude.{ℕ, ◌≤◌, ◌≡◌, List, Bool, true, false, length}
 use Rattle.format.specs.Bytes.{le16, le32, widened}
-use Rattle.format.specs.Items.{point_of, dimensionsOf}
-use Rattle.format.specs.Label.{labelLimit}
-use Rattle.format.specs.State.{State, Record, station, section, named, Next, bad, end, on, made, legFrom}
-use Rattle.format.specs.Sheet.{sheetVersion, recordLimit, layout}
+use Rattle.format.specs.Items.{point_of, dimensions_of}
+use Rattle.format.specs.Label.{label_limit}
+use Rattle.format.specs.State.{State, Record, station, section, named, Next, bad, end, on, made, leg_from}
+use Rattle.format.specs.Sheet.{sheet_version, record_limit, layout}
 use Rattle.format.specs.declared.Position.{Position}
 use Rattle.format.specs.declared.Position.TheVariants.{Unset, Stands}
 use Rattle.kind.specs.declared.Tail.{Tail}
@@ -20,8 +20,8 @@ is_set (Stands p) = true
 
 pub record Keeps (st : State) (len style : ℕ) (placed : Bool) : Type 0 where
   pub label_is : length st.label ≡ len
-  pub style-is : st.setting.style ≡ style
-  pub position-is : is_set st.setting.position ≡ placed
+  pub style_is : st.setting.style ≡ style
+  pub position_is : is_set st.setting.position ≡ placed
 
 -- ---- an item
 
@@ -36,7 +36,7 @@ pub record Makes (x : Next) (n bytes len style : ℕ) (placed : Bool) : Type 0 w
   pub after : State
   pub gives : Record
   pub same : x ≡ made n gives after
-  pub size : length (layout sheetVersion gives) ≡ bytes
+  pub size : length (layout sheet_version gives) ≡ bytes
   pub keeps : Keeps after len style placed
 
 -- an answer tells what an item comes to, with what was kept before it
@@ -55,7 +55,7 @@ Small End = Unit
 Small (Styled to) = Unit
 Small Moved = Unit
 Small (Passes n) = Unit
-Small (Made n m bytes) = (m ≤ labelLimit) × (bytes ≤ recordLimit)
+Small (Made n m bytes) = (m ≤ label_limit) × (bytes ≤ record_limit)
 
 -- an answer tells what f gives in every state of which this is kept
 abbrev pub ComesIn : Measured → ℕ → ℕ → Bool → (State → Next) → Type 0
@@ -67,12 +67,12 @@ Comes r f = (len style : ℕ) (placed : Bool) → ComesIn r len style placed f
 
 -- ---- an item with a label, once it has the label l; `rest` is what follows the label in the file
 
-abbrev pub tailNext : Tail → State → ℕ → List ℕ → List ℕ → Next
-tailNext (Short last) st n rest l = made n (section (record { last = last; date = st.setting.date; size = dimensionsOf 2 (λ s. widened (le16 s)) rest }) l) (named l st)
-tailNext (Long last) st n rest l = made n (section (record { last = last; date = st.setting.date; size = dimensionsOf 4 le32 rest }) l) (named l st)
-tailNext (Station flags) st n rest l = made n (station (record { flags = flags; place = point_of le32 rest }) l) (named l st)
-tailNext (Line flags) st n rest l = legFrom st.setting.position n st flags (point_of le32 rest) l
+abbrev pub tail_next : Tail → State → ℕ → List ℕ → List ℕ → Next
+tail_next (Short last) st n rest l = made n (section (record { last = last; date = st.setting.date; size = dimensions_of 2 (λ s. widened (le16 s)) rest }) l) (named l st)
+tail_next (Long last) st n rest l = made n (section (record { last = last; date = st.setting.date; size = dimensions_of 4 le32 rest }) l) (named l st)
+tail_next (Station flags) st n rest l = made n (station (record { flags = flags; place = point_of le32 rest }) l) (named l st)
+tail_next (Line flags) st n rest l = leg_from st.setting.position n st flags (point_of le32 rest) l
 
 -- the label has m bytes
 abbrev pub Tailed : Measured → Tail → Bool → ℕ → ℕ → Type 0
-Tailed r tail placed n m = (st : State) (len style : ℕ) → Keeps st len style placed → (rest l : List ℕ) → length l ≡ m → Measures r len style placed (tailNext tail st n rest l)
+Tailed r tail placed n m = (st : State) (len style : ℕ) → Keeps st len style placed → (rest l : List ℕ) → length l ≡ m → Measures r len style placed (tail_next tail st n rest l)

@@ -1,16 +1,16 @@
 // The bytes and records of a v8 file's sheet, before any is written. Only the lengths of
 // labels count here, so no label is kept: v3 to v7 look for dots, and v8 does not.
 ghost use Rattle.std.specs.Prelude.{◌≡◌, Bool, ℕ, ◌≤◌, length, drop};
-ghost use Rattle.format.specs.Items.{Date as dateItem, Style as styleItem, moveItem, dayItem, spanItem, daysItem, errorItem, newPart};
+ghost use Rattle.format.specs.Items.{Date as date_item, Style as style_item, move_item, day_item, span_item, days_item, error_item, new_part};
 ghost use Rattle.format.specs.State.{apply, next_of};
 ghost use Rattle.format.specs.Reading.{next, ended, items_of};
-ghost use Rattle.kind.specs.Kinds.{labelledBy};
+ghost use Rattle.kind.specs.Kinds.{labelled_by};
 ghost use Rattle.measure.specs.Measures.{Keeps, Comes, ComesIn, Small, Tailed};
-ghost use Rattle.measure.specs.Counting.{Counts, countedAs, legCounted};
-ghost use Rattle.measure.specs.Totals.{passed_by, passOf};
-ghost use Rattle.format.specs.Header.{fileLimit};
-ghost use Rattle.format.specs.Label.{labelLimit};
-ghost use Rattle.format.specs.Sheet.{frontLimit};
+ghost use Rattle.measure.specs.Counting.{Counts, counted_as, leg_counted};
+ghost use Rattle.measure.specs.Totals.{passed_by, pass_of};
+ghost use Rattle.format.specs.Header.{file_limit};
+ghost use Rattle.format.specs.Label.{label_limit};
+ghost use Rattle.format.specs.Sheet.{front_limit};
 
 use format::{LABEL_LIMIT, LabelPart, Verdict};
 use kind::{Kind, Tail, new_kind, tail_size};
@@ -53,7 +53,7 @@ enum Measured {
 
 // A style, after another; normal where it is normal already is the end.
 fn styled(style: u8, old: u8) -> Measured
-    ensures { Small result × ((len : ℕ) (placed : Bool) → ComesIn result len old placed (λ st. apply st 1 (styleItem style))) }
+    ensures { Small result × ((len : ℕ) (placed : Bool) → ComesIn result len old placed (λ st. apply st 1 (style_item style))) }
 {
     if style != 0 {
         return Measured::Styled { style };
@@ -65,7 +65,7 @@ fn styled(style: u8, old: u8) -> Measured
 }
 
 fn moved(s: &[u8]) -> Measured
-    ensures { Small result × Comes result (λ st. next_of st (moveItem s.now)) }
+    ensures { Small result × Comes result (λ st. next_of st (move_item s.now)) }
 {
     if s.len() < 13 {
         return Measured::Bad { number: 5 };
@@ -75,7 +75,7 @@ fn moved(s: &[u8]) -> Measured
 
 // Two days, of an item of so many bytes.
 fn dated(size: usize, first: u32, last: u32) -> Measured
-    ensures { Small result × Comes result (λ st. apply st size (dateItem first last)) }
+    ensures { Small result × Comes result (λ st. apply st size (date_item first last)) }
 {
     if last < first {
         return Measured::Bad { number: 9 };
@@ -87,7 +87,7 @@ fn dated(size: usize, first: u32, last: u32) -> Measured
 }
 
 fn day(s: &[u8]) -> Measured
-    ensures { Small result × Comes result (λ st. next_of st (dayItem s.now)) }
+    ensures { Small result × Comes result (λ st. next_of st (day_item s.now)) }
 {
     if s.len() < 3 {
         return Measured::Bad { number: 5 };
@@ -97,7 +97,7 @@ fn day(s: &[u8]) -> Measured
 }
 
 fn span(s: &[u8]) -> Measured
-    ensures { Small result × Comes result (λ st. next_of st (spanItem s.now)) }
+    ensures { Small result × Comes result (λ st. next_of st (span_item s.now)) }
 {
     if s.len() < 4 {
         return Measured::Bad { number: 5 };
@@ -108,7 +108,7 @@ fn span(s: &[u8]) -> Measured
 }
 
 fn days(s: &[u8]) -> Measured
-    ensures { Small result × Comes result (λ st. next_of st (daysItem s.now)) }
+    ensures { Small result × Comes result (λ st. next_of st (days_item s.now)) }
 {
     if s.len() < 5 {
         return Measured::Bad { number: 5 };
@@ -119,8 +119,8 @@ fn days(s: &[u8]) -> Measured
 }
 
 fn error(s: &[u8], len: usize) -> Measured
-    requires { len ≤ labelLimit }
-    ensures { Small result × ((style : ℕ) (placed : Bool) → ComesIn result len style placed (λ st. next_of st (errorItem s.now))) }
+    requires { len ≤ label_limit }
+    ensures { Small result × ((style : ℕ) (placed : Bool) → ComesIn result len style placed (λ st. next_of st (error_item s.now))) }
 {
     if s.len() < 21 {
         return Measured::Bad { number: 5 };
@@ -136,7 +136,7 @@ fn error(s: &[u8], len: usize) -> Measured
 
 // What an item of so many bytes comes to once its label has len.
 fn tailed(tail: Tail, placed: bool, size: usize, len: usize) -> Measured
-    requires { len ≤ labelLimit }
+    requires { len ≤ label_limit }
     ensures { Small result × Tailed result tail placed size len }
 {
     match tail {
@@ -170,8 +170,8 @@ fn tailed(tail: Tail, placed: bool, size: usize, len: usize) -> Measured
 
 // 5, then 6 and 7, and then the position.
 fn labelled(s: &[u8], bare: bool, tail: Tail, len: usize, placed: bool) -> Measured
-    requires { (1 ≤ length s.now) × (len ≤ labelLimit) }
-    ensures { Small result × ((style : ℕ) → ComesIn result len style placed (λ st. next_of st (labelledBy bare tail newPart (drop 1 s.now)))) }
+    requires { (1 ≤ length s.now) × (len ≤ label_limit) }
+    ensures { Small result × ((style : ℕ) → ComesIn result len style placed (λ st. next_of st (labelled_by bare tail new_part (drop 1 s.now)))) }
 {
     let t = &s[1..];
     let n = tail_size(tail);
@@ -196,7 +196,7 @@ fn labelled(s: &[u8], bare: bool, tail: Tail, len: usize, placed: bool) -> Measu
 
 // What any item at the front of s comes to.
 fn any_item(s: &[u8], len: usize, style: u8, placed: bool) -> Measured
-    requires { len ≤ labelLimit }
+    requires { len ≤ label_limit }
     ensures { Small result × ComesIn result len style placed (λ st. next 8 s.now st) }
 {
     if s.len() < 1 {
@@ -235,8 +235,8 @@ enum Counted {
 
 // The same of a record with so many bytes beside its label, of an item of so many.
 fn count_record(size: usize, len: usize, head: usize) -> Counted
-    requires { (len ≤ labelLimit) × (head ≤ labelLimit) }
-    ensures { result ≡ countedAs size len head }
+    requires { (len ≤ label_limit) × (head ≤ label_limit) }
+    ensures { result ≡ counted_as size len head }
 {
     Counted::Record {
         size,
@@ -247,8 +247,8 @@ fn count_record(size: usize, len: usize, head: usize) -> Counted
 
 // The same of a leg, which needs the position set.
 fn count_leg(size: usize, len: usize, placed: bool) -> Counted
-    requires { len ≤ labelLimit }
-    ensures { result ≡ legCounted size len placed }
+    requires { len ≤ label_limit }
+    ensures { result ≡ leg_counted size len placed }
 {
     if placed {
         return count_record(size, len, 34);
@@ -281,7 +281,7 @@ fn count_short(s: &[u8], len: usize, placed: bool) -> Counted
 
 // What the item at the front of s comes to: the commonest are tried first.
 fn measure_item(s: &[u8], len: usize, style: u8, placed: bool) -> Measured
-    requires { len ≤ labelLimit }
+    requires { len ≤ label_limit }
     ensures { Small result × ComesIn result len style placed (λ st. next 8 s.now st) }
 {
     let short = count_short(s, len, placed);
@@ -313,7 +313,7 @@ pub fn stopped(verdict: Verdict, bytes: usize, records: usize) -> Passed
 
 // The same at the end item, which the bytes from `at` on begin with: 10 where others follow it.
 pub fn ended(at: usize, rest: &[u8], bytes: usize, records: usize) -> Passed
-    requires { at ≤ fileLimit }
+    requires { at ≤ file_limit }
     ensures { result ≡ passed_by (ended at rest.now) bytes records }
 {
     if 1 < rest.len() {
@@ -326,8 +326,8 @@ pub fn ended(at: usize, rest: &[u8], bytes: usize, records: usize) -> Passed
 // The items of a v8 file from `place` on: the answer for a sheet with room enough, whose
 // first record goes to `front`.
 pub fn measure(file: &[u8], place: usize, front: usize) -> Passed
-    requires { (length file.now ≤ fileLimit) × (place ≤ length file.now) × (front ≤ frontLimit) }
-    ensures { result ≡ passOf front 0 (items_of 8 place file.now) }
+    requires { (length file.now ≤ file_limit) × (place ≤ length file.now) × (front ≤ front_limit) }
+    ensures { result ≡ pass_of front 0 (items_of 8 place file.now) }
 {
     let mut at = place;
     let mut out = front;

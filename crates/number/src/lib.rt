@@ -1,7 +1,7 @@
 // Numbers in bytes.
 ghost use Rattle.std.specs.Prelude.{◌≡◌, ◌≤◌, ◌<◌, length, take};
-ghost use Rattle.format.specs.Bytes.{le16, le32, be16, be32, toLe16, toLe32, toBe32, over};
-ghost use Rattle.number.specs.Four.{Four, toLe64};
+ghost use Rattle.format.specs.Bytes.{le16, le32, be16, be32, to_le16, to_le32, to_be32, over};
+ghost use Rattle.number.specs.Four.{Four, to_le64};
 
 // A byte as a length or an index.
 pub fn index(x: u8) -> usize
@@ -54,14 +54,14 @@ pub fn get_be32(s: &[u8]) -> u32
 
 // The lowest 16 bits of n as bytes, the lowest first.
 pub fn le16_bytes(n: u32) -> [u8; 2]
-    ensures { result ≡ toLe16 n }
+    ensures { result ≡ to_le16 n }
 {
     [(n % 256) as u8, (n / 256 % 256) as u8]
 }
 
 // n as bytes, the lowest first.
 pub fn le32_bytes(n: u32) -> [u8; 4]
-    ensures { result ≡ toLe32 n }
+    ensures { result ≡ to_le32 n }
 {
     [
         (n % 256) as u8,
@@ -73,7 +73,7 @@ pub fn le32_bytes(n: u32) -> [u8; 4]
 
 // n as bytes, the highest first.
 pub fn be32_bytes(n: u32) -> [u8; 4]
-    ensures { result ≡ toBe32 n }
+    ensures { result ≡ to_be32 n }
 {
     let low = le32_bytes(n);
     [low[3], low[2], low[1], low[0]]
@@ -90,7 +90,7 @@ pub fn long(x: u8) -> u64
 
 // The four bytes of n the other way about.
 pub fn swap32(n: u32) -> u32
-    ensures { toLe32 result ≡ toBe32 n }
+    ensures { to_le32 result ≡ to_be32 n }
 {
     n % 256 * 16777216 + n / 256 % 256 * 65536 + n / 65536 % 256 * 256 + n / 16777216
 }
@@ -98,7 +98,7 @@ pub fn swap32(n: u32) -> u32
 // n over the first four bytes of s, the lowest first.
 pub fn put_le32(s: &mut [u8], n: u32)
     requires { 4 ≤ length s.old }
-    ensures { s.new ≡ over (toLe32 n) s.old }
+    ensures { s.new ≡ over (to_le32 n) s.old }
 {
     s[0] = (n % 256) as u8;
     s[1] = (n / 256 % 256) as u8;
@@ -110,7 +110,7 @@ pub fn put_le32(s: &mut [u8], n: u32)
 // it is one store.
 pub fn put_be32(s: &mut [u8], n: u32)
     requires { 4 ≤ length s.old }
-    ensures { s.new ≡ over (toBe32 n) s.old }
+    ensures { s.new ≡ over (to_be32 n) s.old }
 {
     put_le32(s, swap32(n));
 }
@@ -118,7 +118,7 @@ pub fn put_be32(s: &mut [u8], n: u32)
 // The first eight bytes of s as one number.
 pub fn get_le64(s: &[u8]) -> u64
     requires { 8 ≤ length s.now }
-    ensures { toLe64 result ≡ take 8 s.now }
+    ensures { to_le64 result ≡ take 8 s.now }
 {
     long(s[0])
         + long(s[1]) * 256
@@ -133,7 +133,7 @@ pub fn get_le64(s: &[u8]) -> u64
 // n over the first eight bytes of s, the lowest first.
 pub fn put_le64(s: &mut [u8], n: u64)
     requires { 8 ≤ length s.old }
-    ensures { s.new ≡ over (toLe64 n) s.old }
+    ensures { s.new ≡ over (to_le64 n) s.old }
 {
     s[0] = (n % 256) as u8;
     s[1] = (n / 256 % 256) as u8;

@@ -2,9 +2,9 @@
 // append, and those. Each piece is written where it fits.
 ghost use Rattle.std.specs.Prelude.{◌≡◌, ◌++◌, ◌-◌, ◌≤◌, length, drop};
 ghost use Rattle.format.specs.Bytes.{same};
-ghost use Rattle.format.specs.Codes.{common, keptBytes, lengthCodes, shortPart, partCodes};
+ghost use Rattle.format.specs.Codes.{common, kept_bytes, length_codes, short_part, part_codes};
 ghost use Rattle.part.specs.Lays.{Lays};
-ghost use Rattle.format.specs.Label.{labelLimit};
+ghost use Rattle.format.specs.Label.{label_limit};
 
 // How many bytes two labels have in common at their start, and whether they are the same.
 #[derive(Drop)]
@@ -15,7 +15,7 @@ pub struct Overlap {
 
 // Writes s into out from `at` on where it fits; answers where it ends.
 pub fn put(out: &mut [u8], at: usize, s: &[u8]) -> usize
-    requires { (at ≤ 65536) × (length s.now ≤ labelLimit) }
+    requires { (at ≤ 65536) × (length s.now ≤ label_limit) }
     ensures { Lays out.old out.new at s.now (length s.now) result }
 {
     let end = at + s.len();
@@ -28,8 +28,8 @@ pub fn put(out: &mut [u8], at: usize, s: &[u8]) -> usize
 
 // A length: one byte below ff, or ff and 32 bits.
 fn put_length(out: &mut [u8], at: usize, n: usize) -> usize
-    requires { (at ≤ 32768) × (n ≤ labelLimit) }
-    ensures { Lays out.old out.new at (lengthCodes n) 5 result }
+    requires { (at ≤ 32768) × (n ≤ label_limit) }
+    ensures { Lays out.old out.new at (length_codes n) 5 result }
 {
     if n < 0xff {
         let code = [n as u8];
@@ -42,7 +42,7 @@ fn put_length(out: &mut [u8], at: usize, n: usize) -> usize
 
 // Whether d bytes to drop and a to append go in one byte.
 pub fn one_byte(d: usize, a: usize) -> bool
-    ensures { result ≡ shortPart d a }
+    ensures { result ≡ short_part d a }
 {
     if 15 < d {
         return false;
@@ -58,8 +58,8 @@ pub fn one_byte(d: usize, a: usize) -> bool
 
 // d bytes to drop and a to append: both in one byte, or 00 and each as a length.
 fn put_part(out: &mut [u8], at: usize, d: usize, a: usize) -> usize
-    requires { (at ≤ 16384) × (d ≤ labelLimit) × (a ≤ labelLimit) }
-    ensures { Lays out.old out.new at (partCodes d a) 11 result }
+    requires { (at ≤ 16384) × (d ≤ label_limit) × (a ≤ label_limit) }
+    ensures { Lays out.old out.new at (part_codes d a) 11 result }
 {
     if one_byte(d, a) {
         let code = [(16 * d + a) as u8];
@@ -73,8 +73,8 @@ fn put_part(out: &mut [u8], at: usize, d: usize, a: usize) -> usize
 
 // The label `name` after one of len bytes, of which k stay.
 pub fn put_label(out: &mut [u8], at: usize, len: usize, name: &[u8], k: usize) -> usize
-    requires { (at ≤ 8192) × (len ≤ labelLimit) × (length name.now ≤ labelLimit) × (k ≤ len) × (k ≤ length name.now) }
-    ensures { Lays out.old out.new at (partCodes (len - k) (length name.now - k) ++ drop k name.now) 4107 result }
+    requires { (at ≤ 8192) × (len ≤ label_limit) × (length name.now ≤ label_limit) × (k ≤ len) × (k ≤ length name.now) }
+    ensures { Lays out.old out.new at (part_codes (len - k) (length name.now - k) ++ drop k name.now) 4107 result }
 {
     let next = put_part(out, at, len - k, name.len() - k);
     put(out, next, &name[k..])
@@ -97,7 +97,7 @@ pub fn shared(last: &[u8], name: &[u8]) -> Overlap
 // How many bytes of the previous label a station or a cross-section keeps: of the
 // same label all but the last.
 pub fn kept_bytes(last: &[u8], name: &[u8]) -> usize
-    ensures { result ≡ keptBytes last.now name.now }
+    ensures { result ≡ kept_bytes last.now name.now }
 {
     let s = shared(last, name);
     let kept = s.kept;

@@ -3,7 +3,7 @@
 ghost use Rattle.std.specs.Prelude.{◌≡◌, ◌+◌, ◌≤◌, ◌<◌, length, take, replicate};
 ghost use Rattle.format.specs.Bytes.{same};
 ghost use Rattle.wire.specs.Laid.{laid};
-ghost use Rattle.piece.specs.Pieces.{le24, le40, toLe24};
+ghost use Rattle.piece.specs.Pieces.{le24, le40, to_le24};
 
 use number::{get_le32, index};
 
@@ -29,7 +29,7 @@ pub fn get_le40(s: &[u8]) -> usize
 
 // The lowest 24 bits of n as bytes, the lowest first.
 pub fn le24_bytes(n: usize) -> [u8; 3]
-    ensures { result ≡ toLe24 n }
+    ensures { result ≡ to_le24 n }
 {
     [
         (n % 256) as u8,

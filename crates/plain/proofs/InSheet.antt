@@ -9,16 +9,16 @@ use borrow.Author.Rules.{part_to_end}
 use Rattle.format.specs.declared.Position.{Position}
 use Rattle.sheet.specs.Seen.{label_of}
 use Rattle.sheet.proofs.EntryAt.{part}
-use Rattle.plain.proofs.Finds.{drop-take}
+use Rattle.plain.proofs.Finds.{drop_take}
 use Rattle.plain.specs.Plainly.{label_at, Plainly}
 use Rattle.plain.specs.declared.Form.{Form}
 use Rattle.plain.specs.declared.Form.TheVariants.{Leg, Station, Narrow, Wide}
 
-label-some : (form : Form) → (16 ≤ label_at form) × (label_at form ≤ 34)
-label-some Leg = (omega arith, omega arith)
-label-some Station = (omega arith, omega arith)
-label-some Narrow = (omega arith, omega arith)
-label-some Wide = (omega arith, omega arith)
+label_some : (form : Form) → (16 ≤ label_at form) × (label_at form ≤ 34)
+label_some Leg = (omega arith, omega arith)
+label_some Station = (omega arith, omega arith)
+label_some Narrow = (omega arith, omega arith)
+label_some Wide = (omega arith, omega arith)
 
 -- where it ends in the sheet, and what of its label is kept, dropped and added
 pub record Sizes (sheet : List ℕ) (at from to size kept label : ℕ) : Type 0 where
@@ -27,8 +27,8 @@ pub record Sizes (sheet : List ℕ) (at from to size kept label : ℕ) : Type 0 
   pub some : 16 ≤ label
   pub few : label ≤ 34
   pub first : kept ≤ to - from
-  pub few-dropped : to - from - kept ≤ 15
-  pub few-added : size - label - kept ≤ 15
+  pub few_dropped : to - from - kept ≤ 15
+  pub few_added : size - label - kept ≤ 15
 
 module _ (version : ℕ) (sheet : List ℕ) (at mark : ℕ) (position : Position) (from to size kept code : ℕ) (form : Form) (h : at < length sheet)
     (i : to ≤ length sheet)
@@ -36,37 +36,37 @@ module _ (version : ℕ) (sheet : List ℕ) (at mark : ℕ) (position : Position
   abbrev s : List ℕ
   s = take (length sheet - at) (drop at sheet)
 
-  pub last-long : length (part sheet from to) ≡ to - from
-  last-long = simp (length-take, length-drop) (omega arith)
+  pub last_long : length (part sheet from to) ≡ to - from
+  last_long = simp (length-take, length-drop) (omega arith)
 
-  ends-in : at + size ≤ length sheet
-  ends-in = let l : length s ≡ length sheet - at = simp (length-take, length-drop) (omega arith) in omega (arith, l, P.within)
+  ends_in : at + size ≤ length sheet
+  ends_in = let l : length s ≡ length sheet - at = simp (length-take, length-drop) (omega arith) in omega (arith, l, P.within)
 
-  pub plain-sizes : Sizes sheet at from to size kept (label_at form)
-  plain-sizes =
-      let l = last-long in
-      let z = label-some form in
+  pub plain_sizes : Sizes sheet at from to size kept (label_at form)
+  plain_sizes =
+      let l = last_long in
+      let z = label_some form in
       record {
-        ends = ends-in;
+        ends = ends_in;
         starts = P.kept_second;
         some = z.0;
         few = z.1;
-        first = omega (arith, l, P.kept-first);
-        few-dropped = omega (arith, l, P.few-dropped);
-        few-added = P.few-added;
+        first = omega (arith, l, P.kept_first);
+        few_dropped = omega (arith, l, P.few_dropped);
+        few_added = P.few_added;
       }
 
-  pub name-is : label_of size (label_at form) s ≡ part sheet (at + label_at form) (at + size)
-  name-is = let z : at + size - (at + label_at form) ≡ size - label_at form = omega arith in rw (part_to_end sheet at, drop-drop (label_at form) at sheet, z)
+  pub name_is : label_of size (label_at form) s ≡ part sheet (at + label_at form) (at + size)
+  name_is = let z : at + size - (at + label_at form) ≡ size - label_at form = omega arith in rw (part_to_end sheet at, drop-drop (label_at form) at sheet, z)
 
   pub added_is : drop kept (label_of size (label_at form) s) ≡ part sheet (at + label_at form + kept) (at + size)
   added_is =
       let z : at + size - (at + label_at form) - kept ≡ at + size - (at + label_at form + kept) = omega arith in
-      let b = ends-in in
-      ap (drop kept) name-is
-      ∙ drop-take kept (at + size - (at + label_at form)) (drop (at + label_at form) sheet) (omega (arith, P.kept_second))
+      let b = ends_in in
+      ap (drop kept) name_is
+      ∙ drop_take kept (at + size - (at + label_at form)) (drop (at + label_at form) sheet) (omega (arith, P.kept_second))
       (simp length-drop (omega (arith, b)))
       ∙ rw (drop-drop kept (at + label_at form) sheet, z)
 
-  pub added-long : length (part sheet (at + label_at form + kept) (at + size)) ≡ size - label_at form - kept
-  added-long = let b = ends-in in simp (length-take, length-drop) (omega (arith, b))
+  pub added_long : length (part sheet (at + label_at form + kept) (at + size)) ≡ size - label_at form - kept
+  added_long = let b = ends_in in simp (length-take, length-drop) (omega (arith, b))

@@ -17,11 +17,11 @@ Placed Narrow = ⊥
 Placed Wide = ⊥
 
 -- where that place stands
-abbrev pub placeAt : Form → ℕ
-placeAt Leg = 22
-placeAt Station = 4
-placeAt Narrow = 0
-placeAt Wide = 0
+abbrev pub place_at : Form → ℕ
+place_at Leg = 22
+place_at Station = 4
+place_at Narrow = 0
+place_at Wide = 0
 
 -- by its code a leg, or a station with flags that v7 has too
 abbrev pub PlacedTold : Head → List ℕ → ℕ → Position → Type 0

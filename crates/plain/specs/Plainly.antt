@@ -1,13 +1,13 @@
 -- The commonest records of a sheet, whose codes are one item with a label part of one byte: what is told of the record at the front of s, and
 -- what a state has to be for it. Assumes nothing.
 use Rattle.std.specs.Prelude.{ℕ, ◌+◌, ◌-◌, ◌*◌, ◌/◌, ◌%◌, ◌≤◌, ◌≡◌, List, ◌∷◌, ◌++◌, true, false, ◌&&◌, length, get_or, take, drop, ltb}
-use Rattle.format.specs.Bytes.{be16, be32, toLe16, toLe32, same}
-use Rattle.format.specs.Items.{point_of, dimensionsOf}
-use Rattle.format.specs.Sheet.{pointBytes, dimensionBytes, dateKind, dateDay, dateLast}
-use Rattle.format.specs.Codes.{common, shortPart, labelCodes, codes, after, unsayable}
-use Rattle.format.specs.State.{notSaid}
-use Rattle.format.specs.V7Codes.{labelledCodes, v7Codes, v7After, v7Unable}
-use Rattle.format.specs.Fields.{recordOf, state_of}
+use Rattle.format.specs.Bytes.{be16, be32, to_le16, to_le32, same}
+use Rattle.format.specs.Items.{point_of, dimensions_of}
+use Rattle.format.specs.Sheet.{point_bytes, dimension_bytes, date_kind, date_day, date_last}
+use Rattle.format.specs.Codes.{common, short_part, label_codes, codes, after, unsayable}
+use Rattle.format.specs.State.{not_said}
+use Rattle.format.specs.V7Codes.{labelled_codes, v7_codes, v7_after, v7_unable}
+use Rattle.format.specs.Fields.{record_of, state_of}
 use Rattle.format.specs.WellFormed.{GoodDated}
 use Rattle.format.specs.declared.Dated.{Dated}
 use Rattle.format.specs.declared.Position.{Position}
@@ -26,11 +26,11 @@ use Rattle.plain.specs.declared.Item.{Item}
 
 -- ---- style and date as one number: the six bytes of a leg's record, the lowest first
 
-abbrev pub markFrom : ℕ → ℕ → ℕ → ℕ → ℕ
-markFrom style kind d e = style + 256 * (kind + 256 * (d / 256 + 256 * (d % 256 + 256 * (e / 256 + 256 * (e % 256)))))
+abbrev pub mark_from : ℕ → ℕ → ℕ → ℕ → ℕ
+mark_from style kind d e = style + 256 * (kind + 256 * (d / 256 + 256 * (d % 256 + 256 * (e / 256 + 256 * (e % 256)))))
 
 abbrev pub mark_of : ℕ → Dated → ℕ
-mark_of style date = markFrom style (dateKind date) (dateDay date) (dateLast date)
+mark_of style date = mark_from style (date_kind date) (date_day date) (date_last date)
 
 -- ---- the forms
 
@@ -42,37 +42,37 @@ label_at Narrow = 25
 label_at Wide = 25
 
 -- what ends the codes
-abbrev pub tailOf : Form → List ℕ → List ℕ
-tailOf Leg s = pointBytes toLe32 (point_of be32 (drop 22 s))
-tailOf Station s = pointBytes toLe32 (point_of be32 (drop 4 s))
-tailOf Narrow s = dimensionBytes toLe16 (dimensionsOf 4 be32 (drop 9 s))
-tailOf Wide s = dimensionBytes toLe32 (dimensionsOf 4 be32 (drop 9 s))
+abbrev pub tail_of : Form → List ℕ → List ℕ
+tail_of Leg s = point_bytes to_le32 (point_of be32 (drop 22 s))
+tail_of Station s = point_bytes to_le32 (point_of be32 (drop 4 s))
+tail_of Narrow s = dimension_bytes to_le16 (dimensions_of 4 be32 (drop 9 s))
+tail_of Wide s = dimension_bytes to_le32 (dimensions_of 4 be32 (drop 9 s))
 
-abbrev pub tailSize : Form → ℕ
-tailSize Leg = 12
-tailSize Station = 12
-tailSize Narrow = 8
-tailSize Wide = 16
+abbrev pub tail_size : Form → ℕ
+tail_size Leg = 12
+tail_size Station = 12
+tail_size Narrow = 8
+tail_size Wide = 16
 
 -- the position that the record leaves
-abbrev pub positionAfter : Form → List ℕ → Position → Position
-positionAfter Leg s old = Stands (point_of be32 (drop 22 s))
-positionAfter Station s old = old
-positionAfter Narrow s old = old
-positionAfter Wide s old = old
+abbrev pub position_after : Form → List ℕ → Position → Position
+position_after Leg s old = Stands (point_of be32 (drop 22 s))
+position_after Station s old = old
+position_after Narrow s old = old
+position_after Wide s old = old
 
 -- ---- v7
 
 -- the code of the same item in v7
-abbrev pub v7Code : Form → ℕ → ℕ
-v7Code Leg code = code + 0x40
-v7Code Station code = code - 0x40
-v7Code Narrow code = code
-v7Code Wide code = code
+abbrev pub v7_code : Form → ℕ → ℕ
+v7_code Leg code = code + 0x40
+v7_code Station code = code - 0x40
+v7_code Narrow code = code
+v7_code Wide code = code
 
 -- v7 has no styles: its state says none
 abbrev pub unsaid : Setting → Setting
-unsaid setting = record { style = notSaid; date = setting.date; position = setting.position }
+unsaid setting = record { style = not_said; date = setting.date; position = setting.position }
 
 -- ---- what is told
 
@@ -81,18 +81,18 @@ unsaid setting = record { style = notSaid; date = setting.date; position = setti
 pub record Goes (version : ℕ) (s : List ℕ) (setting : Setting) (size code : ℕ) (form : Form) : Type 0 where
   pub fields : Fields
   pub told : EntryTold (Whole size fields (label_at form)) version s
-  pub codes-are : (last label : List ℕ) → same last label ≡ false
-      → codes (state_of setting last) (recordOf fields label) ≡ code ∷ (labelCodes last label (common last label) ++ tailOf form s)
-  pub leaves : (last label : List ℕ) → after (state_of setting last) (recordOf fields label)
-      ≡ state_of (record { style = setting.style; date = setting.date; position = positionAfter form s setting.position }) label
-  pub sayable : (label : List ℕ) → unsayable setting.style (recordOf fields label) ≡ false
+  pub codes_are : (last label : List ℕ) → same last label ≡ false
+      → codes (state_of setting last) (record_of fields label) ≡ code ∷ (label_codes last label (common last label) ++ tail_of form s)
+  pub leaves : (last label : List ℕ) → after (state_of setting last) (record_of fields label)
+      ≡ state_of (record { style = setting.style; date = setting.date; position = position_after form s setting.position }) label
+  pub sayable : (label : List ℕ) → unsayable setting.style (record_of fields label) ≡ false
   -- in v7 its codes are one item with its label, and v7 can carry it where its style and flags let it
-  pub v7-codes-are : (last label : List ℕ)
-      → v7Codes (state_of setting last) (recordOf fields label) ≡ labelledCodes last label (v7Code form code) (tailOf form s)
-  pub v7-leaves : (last label : List ℕ) → v7After (state_of (unsaid setting) last) (recordOf fields label)
-      ≡ state_of (record { style = notSaid; date = setting.date; position = positionAfter form s setting.position }) label
-  pub v7-able : (label : List ℕ) → (ltb 0 setting.style && ltb setting.style notSaid) ≡ false → code ≤ 0x9f
-      → v7Unable (recordOf fields label) ≡ false
+  pub v7_codes_are : (last label : List ℕ)
+      → v7_codes (state_of setting last) (record_of fields label) ≡ labelled_codes last label (v7_code form code) (tail_of form s)
+  pub v7_leaves : (last label : List ℕ) → v7_after (state_of (unsaid setting) last) (record_of fields label)
+      ≡ state_of (record { style = not_said; date = setting.date; position = position_after form s setting.position }) label
+  pub v7_able : (label : List ℕ) → (ltb 0 setting.style && ltb setting.style not_said) ≡ false → code ≤ 0x9f
+      → v7_unable (record_of fields label) ≡ false
 
 -- the same in every setting with this mark and position
 pub record Headed (version : ℕ) (s : List ℕ) (mark : ℕ) (position : Position) (size code : ℕ) (form : Form) : Type 0 where
@@ -123,12 +123,12 @@ SectionTold r s mark = (position : Position) → HeadTold r 2 s mark position
 pub record Plainly (version : ℕ) (s : List ℕ) (mark : ℕ) (position : Position) (last : List ℕ) (size kept code : ℕ) (form : Form) : Type 0 where
   pub headed : Headed version s mark position size code form
   pub within : size ≤ length s
-  pub kept-is : kept ≡ common last (label_of size (label_at form) s)
-  pub kept-first : kept ≤ length last
+  pub kept_is : kept ≡ common last (label_of size (label_at form) s)
+  pub kept_first : kept ≤ length last
   pub kept_second : label_at form + kept ≤ size
-  pub short : shortPart (length last - kept) (size - label_at form - kept) ≡ true
-  pub few-dropped : length last - kept ≤ 15
-  pub few-added : size - label_at form - kept ≤ 15
+  pub short : short_part (length last - kept) (size - label_at form - kept) ≡ true
+  pub few_dropped : length last - kept ≤ 15
+  pub few_added : size - label_at form - kept ≤ 15
   pub other : same last (label_of size (label_at form) s) ≡ false
 
 abbrev pub Found : Plain → ℕ → List ℕ → ℕ → Position → List ℕ → Type 0
@@ -147,21 +147,21 @@ abbrev pub Labelled : Plain → Head → List ℕ → ℕ → List ℕ → Type 
 Labelled Other found s size last = Unit
 Labelled (One item) found s size last =
     (item.size ≡ size) × (found ≡ Known item.code item.form) × (item.kept ≡ common last (label_of size (label_at item.form) s))
-    × (shortPart (length last - item.kept) (length (label_of size (label_at item.form) s) - item.kept) ≡ true)
+    × (short_part (length last - item.kept) (length (label_of size (label_at item.form) s) - item.kept) ≡ true)
 
 -- ---- its codes
 
 -- what `Plainly` says of numbers, behind a label of so many bytes
 pub record Fitting (item : Item) (long : ℕ) (s : List ℕ) : Type 0 where
   pub within : item.size ≤ length s
-  pub kept-first : item.kept ≤ long
+  pub kept_first : item.kept ≤ long
   pub kept_second : label_at item.form + item.kept ≤ item.size
-  pub few-dropped : long - item.kept ≤ 15
-  pub few-added : item.size - label_at item.form - item.kept ≤ 15
+  pub few_dropped : long - item.kept ≤ 15
+  pub few_added : item.size - label_at item.form - item.kept ≤ 15
 
 -- the bytes of the record that are added to the label
-abbrev pub addedOf : Item → List ℕ → List ℕ
-addedOf item s = take (item.size - (label_at item.form + item.kept)) (drop (label_at item.form + item.kept) s)
+abbrev pub added_of : Item → List ℕ → List ℕ
+added_of item s = take (item.size - (label_at item.form + item.kept)) (drop (label_at item.form + item.kept) s)
 
-abbrev pub plainCodes : Item → ℕ → List ℕ → List ℕ
-plainCodes item long s = item.code ∷ (16 * (long - item.kept) + length (addedOf item s)) ∷ (addedOf item s ++ tailOf item.form s)
+abbrev pub plain_codes : Item → ℕ → List ℕ → List ℕ
+plain_codes item long s = item.code ∷ (16 * (long - item.kept) + length (added_of item s)) ∷ (added_of item s ++ tail_of item.form s)

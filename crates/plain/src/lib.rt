@@ -2,13 +2,13 @@
 // byte, since style, date and position go on. They are found and written without being
 // taken apart; every other record goes the general way.
 ghost use Rattle.std.specs.Prelude.{◌≡◌, [], ◌∷◌, ◌++◌, true, ◌+◌, ◌*◌, ◌≤◌, ◌<◌, length, get_or};
-ghost use Rattle.format.specs.Bytes.{be16, be32, toLe16, toLe32, over};
-ghost use Rattle.format.specs.Codes.{shortPart};
-ghost use Rattle.format.specs.Items.{point_of, dimensionsOf};
-ghost use Rattle.format.specs.Sheet.{framed, pointBytes, dimensionBytes};
+ghost use Rattle.format.specs.Bytes.{be16, be32, to_le16, to_le32, over};
+ghost use Rattle.format.specs.Codes.{short_part};
+ghost use Rattle.format.specs.Items.{point_of, dimensions_of};
+ghost use Rattle.format.specs.Sheet.{framed, point_bytes, dimension_bytes};
 ghost use Rattle.part.specs.Lays.{Puts};
-ghost use Rattle.plain.specs.Plainly.{mark_of, markFrom, label_at, tailSize, tailOf, positionAfter, LegTold, StationTold, SectionTold, HeadTold, Found, HeadFits, Labelled, Fitting, plainCodes};
-ghost use Rattle.plain.specs.Placed.{Placed, placeAt, PlacedTold, FoundPlaced};
+ghost use Rattle.plain.specs.Plainly.{mark_of, mark_from, label_at, tail_size, tail_of, position_after, LegTold, StationTold, SectionTold, HeadTold, Found, HeadFits, Labelled, Fitting, plain_codes};
+ghost use Rattle.plain.specs.Placed.{Placed, place_at, PlacedTold, FoundPlaced};
 
 use format::{Dated, Position, SHEET_VERSION};
 
@@ -56,7 +56,7 @@ fn long_day(n: u16) -> u64
 
 fn mark_from(style: u8, kind: u64, first: u16, last: u16) -> u64
     requires { kind ≤ 2 }
-    ensures { result ≡ markFrom style kind first last }
+    ensures { result ≡ mark_from style kind first last }
 {
     let s = number::long(style);
     let f = long_day(first);
@@ -255,7 +255,7 @@ pub fn find_placed(s: &[u8], mark: u64, position: Position, last: &[u8]) -> Plai
 // The place at the front of s, over the front of out.
 fn put_place(s: &[u8], out: &mut [u8])
     requires { (12 ≤ length s.now) × (12 ≤ length out.old) }
-    ensures { out.new ≡ over (pointBytes toLe32 (point_of be32 s.now)) out.old }
+    ensures { out.new ≡ over (point_bytes to_le32 (point_of be32 s.now)) out.old }
 {
     let p = sheet::point(s);
     number::put_le32(out, p.x);
@@ -265,7 +265,7 @@ fn put_place(s: &[u8], out: &mut [u8])
 
 // Two numbers of 16 bits as one of 32.
 fn pair(a: u32, b: u32) -> u32
-    ensures { toLe32 result ≡ toLe16 a ++ toLe16 b }
+    ensures { to_le32 result ≡ to_le16 a ++ to_le16 b }
 {
     a % 65536 + b % 65536 * 65536
 }
@@ -273,7 +273,7 @@ fn pair(a: u32, b: u32) -> u32
 // The dimensions at the front of s as i16, over the front of out.
 fn put_narrow(s: &[u8], out: &mut [u8])
     requires { (16 ≤ length s.now) × (8 ≤ length out.old) }
-    ensures { out.new ≡ over (dimensionBytes toLe16 (dimensionsOf 4 be32 s.now)) out.old }
+    ensures { out.new ≡ over (dimension_bytes to_le16 (dimensions_of 4 be32 s.now)) out.old }
 {
     let d = sheet::dimensions(s);
     let first = pair(d.left, d.right);
@@ -285,7 +285,7 @@ fn put_narrow(s: &[u8], out: &mut [u8])
 // The same as i32.
 fn put_wide(s: &[u8], out: &mut [u8])
     requires { (16 ≤ length s.now) × (16 ≤ length out.old) }
-    ensures { out.new ≡ over (dimensionBytes toLe32 (dimensionsOf 4 be32 s.now)) out.old }
+    ensures { out.new ≡ over (dimension_bytes to_le32 (dimensions_of 4 be32 s.now)) out.old }
 {
     let d = sheet::dimensions(s);
     number::put_le32(out, d.left);
@@ -296,7 +296,7 @@ fn put_wide(s: &[u8], out: &mut [u8])
 
 // How many bytes end the codes.
 fn tail_size(form: Form) -> usize
-    ensures { result ≡ tailSize form }
+    ensures { result ≡ tail_size form }
 {
     match form {
         Form::Leg => 12,
@@ -308,7 +308,7 @@ fn tail_size(form: Form) -> usize
 
 // Where the place of a leg or a station stands that ends its codes.
 fn place_at(form: Form) -> usize
-    ensures { result ≡ placeAt form }
+    ensures { result ≡ place_at form }
 {
     match form {
         Form::Leg => 22,
@@ -320,8 +320,8 @@ fn place_at(form: Form) -> usize
 
 // What ends the codes of the record s, over the front of out.
 fn put_tail(form: Form, s: &[u8], out: &mut [u8])
-    requires { (label_at form ≤ length s.now) × (tailSize form ≤ length out.old) }
-    ensures { out.new ≡ over (tailOf form s.now) out.old }
+    requires { (label_at form ≤ length s.now) × (tail_size form ≤ length out.old) }
+    ensures { out.new ≡ over (tail_of form s.now) out.old }
 {
     match form {
         Form::Leg => put_place(&s[22..], out),
@@ -343,8 +343,8 @@ fn put_two(out: &mut [u8], code: u8, part: u8)
 // A code, a label part, the bytes that are added to the label and what ends the codes of
 // the record s, over the front of out.
 fn put_all(out: &mut [u8], code: u8, part: u8, added: &[u8], form: Form, s: &[u8])
-    requires { (2 + length added.now + tailSize form ≤ length out.old) × (length added.now ≤ 15) × (label_at form ≤ length s.now) }
-    ensures { out.new ≡ over (code ∷ part ∷ (added.now ++ tailOf form s.now)) out.old }
+    requires { (2 + length added.now + tail_size form ≤ length out.old) × (length added.now ≤ 15) × (label_at form ≤ length s.now) }
+    ensures { out.new ≡ over (code ∷ part ∷ (added.now ++ tail_of form s.now)) out.old }
 {
     let end = 2 + added.len();
     put_two(out, code, part);
@@ -356,7 +356,7 @@ fn put_all(out: &mut [u8], code: u8, part: u8, added: &[u8], form: Form, s: &[u8
 // front of out where they fit; answers their length.
 pub fn put(out: &mut [u8], item: Item, long: usize, s: &[u8]) -> usize
     requires { Fitting item long s.now }
-    ensures { Puts out.old out.new (plainCodes item long s.now) 33 result }
+    ensures { Puts out.old out.new (plain_codes item long s.now) 33 result }
 {
     let form = item.form;
     let from = label_at(form) + item.kept;
@@ -376,7 +376,7 @@ pub fn put(out: &mut [u8], item: Item, long: usize, s: &[u8]) -> usize
 // bytes that are added behind it.
 pub fn put_placed(out: &mut [u8], code: u8, added: &[u8], form: Form, s: &[u8]) -> usize
     requires { Placed form × (length added.now ≤ 15) × (label_at form ≤ length s.now) }
-    ensures { Puts out.old out.new (code ∷ length added.now ∷ (added.now ++ tailOf form s.now)) 33 result }
+    ensures { Puts out.old out.new (code ∷ length added.now ∷ (added.now ++ tail_of form s.now)) 33 result }
 {
     let end = 2 + added.len();
     let n = end + 12;
@@ -392,7 +392,7 @@ pub fn put_placed(out: &mut [u8], code: u8, added: &[u8], form: Form, s: &[u8]) 
 // The position that the record s leaves.
 pub fn position_after(form: Form, s: &[u8], old: Position) -> Position
     requires { label_at form ≤ length s.now }
-    ensures { result ≡ positionAfter form s.now old }
+    ensures { result ≡ position_after form s.now old }
 {
     match form {
         Form::Leg => {

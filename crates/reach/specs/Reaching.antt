@@ -4,7 +4,7 @@ use Rattle.format.specs.Bytes.{pick, be32}
 use Rattle.format.specs.Items.{point_of}
 use Rattle.format.specs.Sheet.{Entry, flawed, entry}
 use Rattle.format.specs.Refusals.{Result}
-use Rattle.format.specs.Reach.{axisX, axisY, axisZ, lesser, greater, along, takesPart, legsOf, ends, ReachOutcome, spans, unspanned}
+use Rattle.format.specs.Reach.{axis_x, axis_y, axis_z, lesser, greater, along, takes_part, legs_of, ends, ReachOutcome, spans, unspanned}
 use Rattle.format.specs.declared.Point.{Point}
 use Rattle.format.specs.declared.Leg.{Leg}
 use Rattle.format.specs.declared.Verdict.{Verdict}
@@ -12,11 +12,11 @@ use Rattle.format.specs.declared.Verdict.TheVariants.{Good, Refusal}
 
 -- ---- bounds with places taken in
 
-unfoldable pub rowFrom : (ℤ → ℤ → ℤ) → List ℤ → List Point → List ℤ
-rowFrom f a ps = along f axisX (get_or a 0 (pos 0)) ps ∷ along f axisY (get_or a 1 (pos 0)) ps ∷ along f axisZ (get_or a 2 (pos 0)) ps ∷ []
+unfoldable pub row_from : (ℤ → ℤ → ℤ) → List ℤ → List Point → List ℤ
+row_from f a ps = along f axis_x (get_or a 0 (pos 0)) ps ∷ along f axis_y (get_or a 1 (pos 0)) ps ∷ along f axis_z (get_or a 2 (pos 0)) ps ∷ []
 
-unfoldable pub boundsFrom : List (List ℤ) → List Point → List (List ℤ)
-boundsFrom b ps = rowFrom lesser (get_or b 0 []) ps ∷ rowFrom greater (get_or b 1 []) ps ∷ []
+unfoldable pub bounds_from : List (List ℤ) → List Point → List (List ℤ)
+bounds_from b ps = row_from lesser (get_or b 0 []) ps ∷ row_from greater (get_or b 1 []) ps ∷ []
 
 -- ---- the record at the front of s
 
@@ -30,17 +30,17 @@ abbrev pub ends_at : List ℕ → List Point
 ends_at s = point_of be32 (drop 10 s) ∷ point_of be32 (drop 22 s) ∷ []
 
 -- whether a record of n bytes is a leg that takes part
-abbrev pub takesAt : List ℕ → ℕ → List ℕ → Bool
-takesAt name n s = eqb (get_or s 2 0) 1 && takesPart name (take (n - 34) (drop 34 s))
+abbrev pub takes_at : List ℕ → ℕ → List ℕ → Bool
+takes_at name n s = eqb (get_or s 2 0) 1 && takes_part name (take (n - 34) (drop 34 s))
 
 -- ---- the answer, where so many legs have been taken into the bounds and others are left
 
-abbrev pub legsReachFrom : ℕ → List (List ℤ) → List Leg → ReachOutcome
-legsReachFrom n b gs = pick (eqb (n + length gs) 0) (unspanned 21 0) (spans (boundsFrom b (ends gs)) (n + length gs))
+abbrev pub legs_reach_from : ℕ → List (List ℤ) → List Leg → ReachOutcome
+legs_reach_from n b gs = pick (eqb (n + length gs) 0) (unspanned 21 0) (spans (bounds_from b (ends gs)) (n + length gs))
 
-abbrev pub reachLeft : ℕ → List (List ℤ) → Verdict → List Leg → ReachOutcome
-reachLeft n b (Refusal k p) gs = unspanned k p
-reachLeft n b Good gs = legsReachFrom n b gs
+abbrev pub reach_left : ℕ → List (List ℤ) → Verdict → List Leg → ReachOutcome
+reach_left n b (Refusal k p) gs = unspanned k p
+reach_left n b Good gs = legs_reach_from n b gs
 
-abbrev pub resultLeft : List ℕ → ℕ → List (List ℤ) → Result → ReachOutcome
-resultLeft name n b x = reachLeft n b x.verdict (legsOf name x.records)
+abbrev pub result_left : List ℕ → ℕ → List (List ℤ) → Result → ReachOutcome
+result_left name n b x = reach_left n b x.verdict (legs_of name x.records)

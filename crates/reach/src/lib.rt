@@ -2,10 +2,10 @@
 // in one pass over a sheet. The box is two rows of three.
 ghost use Rattle.std.specs.Prelude.{◌≡◌, [], ◌∷◌, true, ◌+◌, ◌≤◌, length, get_or, take, drop};
 ghost use Rattle.format.specs.Bytes.{same};
-ghost use Rattle.format.specs.Sheet.{legEntry, entry_of, recordsOf};
-ghost use Rattle.format.specs.Reach.{signed, lesser, greater, highest, lowest, begins, takesPart, reachOf, resultReach};
-ghost use Rattle.format.specs.Answers.{reachedOf};
-ghost use Rattle.reach.specs.Reaching.{rowFrom, boundsFrom, size_of, ends_at, takesAt, legsReachFrom};
+ghost use Rattle.format.specs.Sheet.{leg_entry, entry_of, records_of};
+ghost use Rattle.format.specs.Reach.{signed, lesser, greater, highest, lowest, begins, takes_part, reach_of, result_reach};
+ghost use Rattle.format.specs.Answers.{reached_of};
+ghost use Rattle.reach.specs.Reaching.{row_from, bounds_from, size_of, ends_at, takes_at, legs_reach_from};
 
 use format::{Corner, Point, Reached};
 
@@ -40,7 +40,7 @@ fn greater_of(a: i32, n: u32) -> i32
 
 // The least x, y and z with a place taken in.
 fn lower(row: [i32; 3], p: Point) -> [i32; 3]
-    ensures { result ≡ rowFrom lesser row (p ∷ []) }
+    ensures { result ≡ row_from lesser row (p ∷ []) }
 {
     [
         lesser_of(row[0], p.x),
@@ -51,7 +51,7 @@ fn lower(row: [i32; 3], p: Point) -> [i32; 3]
 
 // The greatest.
 fn upper(row: [i32; 3], p: Point) -> [i32; 3]
-    ensures { result ≡ rowFrom greater row (p ∷ []) }
+    ensures { result ≡ row_from greater row (p ∷ []) }
 {
     [
         greater_of(row[0], p.x),
@@ -62,7 +62,7 @@ fn upper(row: [i32; 3], p: Point) -> [i32; 3]
 
 // The box with a place taken in.
 fn taken(b: [[i32; 3]; 2], p: Point) -> [[i32; 3]; 2]
-    ensures { result ≡ boundsFrom b (p ∷ []) }
+    ensures { result ≡ bounds_from b (p ∷ []) }
 {
     [lower(b[0], p), upper(b[1], p)]
 }
@@ -70,7 +70,7 @@ fn taken(b: [[i32; 3]; 2], p: Point) -> [[i32; 3]; 2]
 // The box with both ends of the leg's record s taken in.
 fn with_leg(b: [[i32; 3]; 2], s: &[u8]) -> [[i32; 3]; 2]
     requires { 34 ≤ length s.now }
-    ensures { result ≡ boundsFrom b (ends_at s.now) }
+    ensures { result ≡ bounds_from b (ends_at s.now) }
 {
     let from = sheet::point(&s[10..]);
     let first = taken(b, from);
@@ -132,7 +132,7 @@ fn begins_with(s: &[u8], name: &[u8]) -> bool
 
 // Whether a leg of this label takes part.
 fn takes_part(label: &[u8], name: &[u8]) -> bool
-    ensures { result ≡ takesPart name.now label.now }
+    ensures { result ≡ takes_part name.now label.now }
 {
     let n = name.len();
     if n == 0 {
@@ -150,7 +150,7 @@ fn takes_part(label: &[u8], name: &[u8]) -> bool
 // Whether the record s of so many bytes is a leg that takes part.
 fn takes(s: &[u8], size: usize, name: &[u8]) -> bool
     requires { (3 ≤ size) × (size ≤ length s.now) × (get_or s.now 2 0 ≡ 1 → 34 ≤ size) }
-    ensures { result ≡ takesAt name.now size s.now }
+    ensures { result ≡ takes_at name.now size s.now }
 {
     if s[2] != 1 {
         return false;
@@ -163,7 +163,7 @@ fn takes(s: &[u8], size: usize, name: &[u8]) -> bool
 // The size of the leg's record s, whose body has n bytes; 0 where it is not well-formed.
 fn leg_size(s: &[u8], n: usize) -> usize
     requires { 2 + n ≤ length s.now }
-    ensures { result ≡ size_of (legEntry n (drop 2 s.now)) }
+    ensures { result ≡ size_of (leg_entry n (drop 2 s.now)) }
 {
     if !sheet::label_fits(n, 32) {
         return 0;
@@ -213,7 +213,7 @@ fn size_at(s: &[u8], version: u8) -> usize
 
 // What so many legs reach, whose ends are all in the box.
 fn answer(b: [[i32; 3]; 2], legs: usize) -> Reached
-    ensures { reachedOf result ≡ legsReachFrom legs b [] }
+    ensures { reached_of result ≡ legs_reach_from legs b [] }
 {
     if legs == 0 {
         return Reached::Refused {
@@ -241,7 +241,7 @@ fn answer(b: [[i32; 3]; 2], legs: usize) -> Reached
 // How far the survey reaches in the records of a sheet of the version, from `begin` on.
 fn records_reach(sheet: &[u8], version: u8, begin: usize, name: &[u8]) -> Reached
     requires { begin ≤ length sheet.now }
-    ensures { reachedOf result ≡ resultReach name.now (recordsOf version (drop begin sheet.now)) }
+    ensures { reached_of result ≡ result_reach name.now (records_of version (drop begin sheet.now)) }
 {
     let mut at = begin;
     let mut number: usize = 0;
@@ -272,7 +272,7 @@ fn records_reach(sheet: &[u8], version: u8, begin: usize, name: &[u8]) -> Reache
 
 // How far the survey of that name reaches in a sheet.
 pub fn reach(sheet: &[u8], name: &[u8]) -> Reached
-    ensures { reachedOf result ≡ reachOf sheet.now name.now }
+    ensures { reached_of result ≡ reach_of sheet.now name.now }
 {
     let version = sheet::version_of(sheet);
     let front = sheet::read_front(sheet, version);

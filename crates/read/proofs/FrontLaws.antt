@@ -10,62 +10,62 @@ use lib.Dec.{eqb, ltb}
 use lib.Seq.{drop-drop, length-take-le}
 use borrow.Author.Tests.{ltb-true, ltb-false, le-ltb, eqb-false, eq-eqb, ne_eqb}
 use Rattle.format.specs.Bytes.{pick, le16, le32, widened}
-use Rattle.format.specs.Items.{Item, Stop, Shorten, Style, Move, NoDate, Date, Error, Xsect, Label, Line, Decoded, faulty, whole, reserved, sized, withPart, behindCode, labelledItem, stationItem, lineItem, sectionItem, moveItem, errorItem, dayItem, spanItem, daysItem, secondsItem, twoSecondsItem, dayOfSeconds, oldPart, lengthSize, lengthValue, longPart, newPart, oldDateItem, v7DateItem, oldMiddleItem, oldLowItem, oldHighItem, newDateItem, newLowItem, newHighItem, point_of, dimensionsOf, traverseOf, item_of}
+use Rattle.format.specs.Items.{Item, Stop, Shorten, Style, Move, NoDate, Date, Error, Xsect, Label, Line, Decoded, faulty, whole, reserved, sized, with_part, behind_code, labelled_item, station_item, line_item, section_item, move_item, error_item, day_item, span_item, days_item, seconds_item, two_seconds_item, day_of_seconds, old_part, length_size, length_value, long_part, new_part, old_date_item, v7_date_item, old_middle_item, old_low_item, old_high_item, new_date_item, new_low_item, new_high_item, point_of, dimensions_of, traverse_of, item_of}
 use Rattle.format.specs.declared.Point.{Point}
 use Rattle.format.specs.declared.Dimensions.{Dimensions}
 use Rattle.format.specs.declared.LabelPart.{LabelPart}
 use Rattle.format.specs.declared.LabelPart.TheVariants.{Unfinished, Numbers}
-use Rattle.format.proofs.Basics.{pick-case}
+use Rattle.format.proofs.Basics.{pick_case}
 use Rattle.format.proofs.ReadingLaws.{SizedItem, progress}
 
 -- ---- the front of a list, with t behind it
 
-pub drop-front : (j : ℕ) (u t : List ℕ) → j ≤ length u → drop j (u ++ t) ≡ drop j u ++ t
-drop-front zero u t h = refl
-drop-front (suc j) [] t h = absurd (omega arith)
-drop-front (suc j) (b ∷ u) t h = drop-front j u t (omega arith)
+pub drop_front : (j : ℕ) (u t : List ℕ) → j ≤ length u → drop j (u ++ t) ≡ drop j u ++ t
+drop_front zero u t h = refl
+drop_front (suc j) [] t h = absurd (omega arith)
+drop_front (suc j) (b ∷ u) t h = drop_front j u t (omega arith)
 
-take-front : (a : ℕ) (u t : List ℕ) → a ≤ length u → take a (u ++ t) ≡ take a u
-take-front zero u t h = refl
-take-front (suc a) [] t h = absurd (omega arith)
-take-front (suc a) (b ∷ u) t h = ap (λ (v : List ℕ). b ∷ v) (take-front a u t (omega arith))
+take_front : (a : ℕ) (u t : List ℕ) → a ≤ length u → take a (u ++ t) ≡ take a u
+take_front zero u t h = refl
+take_front (suc a) [] t h = absurd (omega arith)
+take_front (suc a) (b ∷ u) t h = ap (λ (v : List ℕ). b ∷ v) (take_front a u t (omega arith))
 
-get-front : (i : ℕ) (u t : List ℕ) → i < length u → get_or (u ++ t) i 0 ≡ get_or u i 0
-get-front i [] t h = absurd (omega arith)
-get-front zero (b ∷ u) t h = refl
-get-front (suc i) (b ∷ u) t h = get-front i u t (omega arith)
+get_front : (i : ℕ) (u t : List ℕ) → i < length u → get_or (u ++ t) i 0 ≡ get_or u i 0
+get_front i [] t h = absurd (omega arith)
+get_front zero (b ∷ u) t h = refl
+get_front (suc i) (b ∷ u) t h = get_front i u t (omega arith)
 
 -- what looks at w bytes of every list finds the same behind j others
 front_at : {X : Type 0} (f : List ℕ → X) (w : ℕ) (t : List ℕ) → ((v : List ℕ) → w ≤ length v → f (v ++ t) ≡ f v) → (j : ℕ) (u : List ℕ) → j + w ≤ length u → f (drop j (u ++ t)) ≡ f (drop j u)
-front_at f w t h j u l = ap f (drop-front j u t (omega arith)) ∙ h (drop j u) (let z = length-drop j u in omega arith)
+front_at f w t h j u l = ap f (drop_front j u t (omega arith)) ∙ h (drop j u) (let z = length-drop j u in omega arith)
 
 module _ (t : List ℕ) where
-  le16-front : (v : List ℕ) → 2 ≤ length v → le16 (v ++ t) ≡ le16 v
+  le16_front : (v : List ℕ) → 2 ≤ length v → le16 (v ++ t) ≡ le16 v
   unfolding le16
-  le16-front v l = rw (get-front 0 v t (omega arith), get-front 1 v t (omega arith))
+  le16_front v l = rw (get_front 0 v t (omega arith), get_front 1 v t (omega arith))
 
-  le32-front : (v : List ℕ) → 4 ≤ length v → le32 (v ++ t) ≡ le32 v
+  le32_front : (v : List ℕ) → 4 ≤ length v → le32 (v ++ t) ≡ le32 v
   unfolding le32
-  le32-front v l = rw (get-front 0 v t (omega arith), get-front 1 v t (omega arith), get-front 2 v t (omega arith), get-front 3 v t (omega arith))
+  le32_front v l = rw (get_front 0 v t (omega arith), get_front 1 v t (omega arith), get_front 2 v t (omega arith), get_front 3 v t (omega arith))
 
-  point-front : (v : List ℕ) → 12 ≤ length v → point_of le32 (v ++ t) ≡ point_of le32 v
-  point-front v l = rw (le32-front v (omega arith), front_at le32 4 t le32-front 4 v (omega arith), front_at le32 4 t le32-front 8 v (omega arith))
+  point_front : (v : List ℕ) → 12 ≤ length v → point_of le32 (v ++ t) ≡ point_of le32 v
+  point_front v l = rw (le32_front v (omega arith), front_at le32 4 t le32_front 4 v (omega arith), front_at le32 4 t le32_front 8 v (omega arith))
 
-  long-front : (v : List ℕ) → 16 ≤ length v → dimensionsOf 4 le32 (v ++ t) ≡ dimensionsOf 4 le32 v
-  long-front v l = rw (le32-front v (omega arith), front_at le32 4 t le32-front 4 v (omega arith), front_at le32 4 t le32-front 8 v (omega arith), front_at le32 4 t le32-front 12 v (omega arith))
+  long_front : (v : List ℕ) → 16 ≤ length v → dimensions_of 4 le32 (v ++ t) ≡ dimensions_of 4 le32 v
+  long_front v l = rw (le32_front v (omega arith), front_at le32 4 t le32_front 4 v (omega arith), front_at le32 4 t le32_front 8 v (omega arith), front_at le32 4 t le32_front 12 v (omega arith))
 
   abbrev short : List ℕ → ℕ
   short s = widened (le16 s)
 
-  wide-front : (v : List ℕ) → 2 ≤ length v → short (v ++ t) ≡ short v
-  wide-front v l = ap widened (le16-front v l)
+  wide_front : (v : List ℕ) → 2 ≤ length v → short (v ++ t) ≡ short v
+  wide_front v l = ap widened (le16_front v l)
 
-  short-front : (v : List ℕ) → 8 ≤ length v → dimensionsOf 2 short (v ++ t) ≡ dimensionsOf 2 short v
-  short-front v l = rw (wide-front v (omega arith), front_at short 2 t wide-front 2 v (omega arith), front_at short 2 t wide-front 4 v (omega arith), front_at short 2 t wide-front 6 v (omega arith))
+  short_front : (v : List ℕ) → 8 ≤ length v → dimensions_of 2 short (v ++ t) ≡ dimensions_of 2 short v
+  short_front v l = rw (wide_front v (omega arith), front_at short 2 t wide_front 2 v (omega arith), front_at short 2 t wide_front 4 v (omega arith), front_at short 2 t wide_front 6 v (omega arith))
 
-  traverse-front : (v : List ℕ) → 20 ≤ length v → traverseOf le32 (v ++ t) ≡ traverseOf le32 v
-  traverse-front v l =
-      rw (le32-front v (omega arith), front_at le32 4 t le32-front 4 v (omega arith), front_at le32 4 t le32-front 8 v (omega arith), front_at le32 4 t le32-front 12 v (omega arith), front_at le32 4 t le32-front 16 v (omega arith))
+  traverse_front : (v : List ℕ) → 20 ≤ length v → traverse_of le32 (v ++ t) ≡ traverse_of le32 v
+  traverse_front v l =
+      rw (le32_front v (omega arith), front_at le32 4 t le32_front 4 v (omega arith), front_at le32 4 t le32_front 8 v (omega arith), front_at le32 4 t le32_front 12 v (omega arith), front_at le32 4 t le32_front 16 v (omega arith))
 
 -- ---- what m bytes say of an item, and what more say
 
@@ -78,23 +78,23 @@ abbrev pub Grows : ℕ → Decoded → Decoded → Type 0
 Grows m (faulty k) y = Longer m y
 Grows m (whole n it) y = y ≡ whole n it
 
-grow-pick : (m : ℕ) (c : Bool) (a b a' b' : Decoded) → Grows m a a' → Grows m b b' → Grows m (pick c a b) (pick c a' b')
+grow_pick : (m : ℕ) (c : Bool) (a b a' b' : Decoded) → Grows m a a' → Grows m b b' → Grows m (pick c a b) (pick c a' b')
 unfolding pick
-grow-pick m true a b a' b' p q = p
-grow-pick m false a b a' b' p q = q
+grow_pick m true a b a' b' p q = p
+grow_pick m false a b a' b' p q = q
 
 -- a test that fails on both sides
-grow-skip : (m : ℕ) (c c' : Bool) (a b a' b' : Decoded) → c ≡ false → c' ≡ false → Grows m b b' → Grows m (pick c a b) (pick c' a' b')
+grow_skip : (m : ℕ) (c c' : Bool) (a b a' b' : Decoded) → c ≡ false → c' ≡ false → Grows m b b' → Grows m (pick c a b) (pick c' a' b')
 unfolding pick
-grow-skip m c c' a b a' b' e e' g = rw (e, e') g
+grow_skip m c c' a b a' b' e e' g = rw (e, e') g
 
-grow-open : (m k : ℕ) (c : Bool) (b y : Decoded) → c ≡ true → Longer m y → Grows m (pick c (faulty k) b) y
+grow_open : (m k : ℕ) (c : Bool) (b y : Decoded) → c ≡ true → Longer m y → Grows m (pick c (faulty k) b) y
 unfolding pick
-grow-open m k c b y e g = rw e g
+grow_open m k c b y e g = rw e g
 
-pick-false : {X : Type 0} (c : Bool) (a b : X) → c ≡ false → pick c a b ≡ b
+pick_false : {X : Type 0} (c : Bool) (a b : X) → c ≡ false → pick c a b ≡ b
 unfolding pick
-pick-false c a b e = rw e
+pick_false c a b e = rw e
 
 -- the same of a label part's numbers
 abbrev PartLonger : ℕ → LabelPart → Type 0
@@ -105,19 +105,19 @@ abbrev PartGrows : ℕ → LabelPart → LabelPart → Type 0
 PartGrows m Unfinished y = PartLonger m y
 PartGrows m (Numbers k d a) y = y ≡ Numbers k d a
 
-part-pick : (m : ℕ) (c : Bool) (a b a' b' : LabelPart) → PartGrows m a a' → PartGrows m b b' → PartGrows m (pick c a b) (pick c a' b')
+part_pick : (m : ℕ) (c : Bool) (a b a' b' : LabelPart) → PartGrows m a a' → PartGrows m b b' → PartGrows m (pick c a b) (pick c a' b')
 unfolding pick
-part-pick m true a b a' b' p q = p
-part-pick m false a b a' b' p q = q
+part_pick m true a b a' b' p q = p
+part_pick m false a b a' b' p q = q
 
-part-skip : (m : ℕ) (c c' : Bool) (a b a' b' : LabelPart) → c ≡ false → c' ≡ false → PartGrows m b b' → PartGrows m (pick c a b) (pick c' a' b')
+part_skip : (m : ℕ) (c c' : Bool) (a b a' b' : LabelPart) → c ≡ false → c' ≡ false → PartGrows m b b' → PartGrows m (pick c a b) (pick c' a' b')
 unfolding pick
-part-skip m c c' a b a' b' e e' g = rw (e, e') g
+part_skip m c c' a b a' b' e e' g = rw (e, e') g
 
 -- what is not finished yet
-part-open : (m : ℕ) (c : Bool) (b y : LabelPart) → c ≡ true → PartLonger m y → PartGrows m (pick c Unfinished b) y
+part_open : (m : ℕ) (c : Bool) (b y : LabelPart) → c ≡ true → PartLonger m y → PartGrows m (pick c Unfinished b) y
 unfolding pick
-part-open m c b y e g = rw e g
+part_open m c b y e g = rw e g
 
 module _ (u t : List ℕ) where
   more : length u ≤ length (u ++ t)
@@ -126,134 +126,134 @@ module _ (u t : List ℕ) where
   enough : (k : ℕ) → k ≤ length u → ltb (length (u ++ t)) k ≡ false
   enough k l = let z = more in le-ltb (length (u ++ t)) k (omega arith)
 
-  grow-sized : (k : ℕ) (x x' : Item) → (k ≤ length u → x' ≡ x) → Grows (length u) (sized k u x) (sized k (u ++ t) x')
+  grow_sized : (k : ℕ) (x x' : Item) → (k ≤ length u → x' ≡ x) → Grows (length u) (sized k u x) (sized k (u ++ t) x')
   unfolding sized
-  grow-sized k x x' h =
-      pick-case (λ (y : Decoded). Grows (length u) y (pick (ltb (length (u ++ t)) k) (faulty 5) (whole k x'))) (ltb (length u) k) (faulty 5) (whole k x)
-      (λ e. pick-case (Longer (length u)) (ltb (length (u ++ t)) k) (faulty 5) (whole k x') (λ f. tt) (λ f. ltb-true (length u) k e))
-      (λ e. let l = ltb-false (length u) k e in pick-false _ _ _ (enough k l) ∙ ap (whole k) (h l))
+  grow_sized k x x' h =
+      pick_case (λ (y : Decoded). Grows (length u) y (pick (ltb (length (u ++ t)) k) (faulty 5) (whole k x'))) (ltb (length u) k) (faulty 5) (whole k x)
+      (λ e. pick_case (Longer (length u)) (ltb (length (u ++ t)) k) (faulty 5) (whole k x') (λ f. tt) (λ f. ltb-true (length u) k e))
+      (λ e. let l = ltb-false (length u) k e in pick_false _ _ _ (enough k l) ∙ ap (whole k) (h l))
 
-  part-sized : (k d a a' : ℕ) → (k ≤ length u → a' ≡ a)
+  part_sized : (k d a a' : ℕ) → (k ≤ length u → a' ≡ a)
       → PartGrows (length u) (pick (ltb (length u) k) Unfinished (Numbers k d a)) (pick (ltb (length (u ++ t)) k) Unfinished (Numbers k d a'))
-  part-sized k d a a' h =
-      pick-case (λ (y : LabelPart). PartGrows (length u) y (pick (ltb (length (u ++ t)) k) Unfinished (Numbers k d a'))) (ltb (length u) k) Unfinished (Numbers k d a)
-      (λ e. pick-case (PartLonger (length u)) (ltb (length (u ++ t)) k) Unfinished (Numbers k d a') (λ f. tt) (λ f. ltb-true (length u) k e))
-      (λ e. let l = ltb-false (length u) k e in pick-false _ _ _ (enough k l) ∙ ap (Numbers k d) (h l))
+  part_sized k d a a' h =
+      pick_case (λ (y : LabelPart). PartGrows (length u) y (pick (ltb (length (u ++ t)) k) Unfinished (Numbers k d a'))) (ltb (length u) k) Unfinished (Numbers k d a)
+      (λ e. pick_case (PartLonger (length u)) (ltb (length (u ++ t)) k) Unfinished (Numbers k d a') (λ f. tt) (λ f. ltb-true (length u) k e))
+      (λ e. let l = ltb-false (length u) k e in pick_false _ _ _ (enough k l) ∙ ap (Numbers k d) (h l))
 
   -- ---- items without a label
 
-  grow-move : Grows (length u) (moveItem u) (moveItem (u ++ t))
-  unfolding moveItem
-  grow-move = grow-sized 13 _ _ (λ l. ap Move (front_at (point_of le32) 12 t (point-front t) 1 u l))
+  grow_move : Grows (length u) (move_item u) (move_item (u ++ t))
+  unfolding move_item
+  grow_move = grow_sized 13 _ _ (λ l. ap Move (front_at (point_of le32) 12 t (point_front t) 1 u l))
 
-  grow-error : Grows (length u) (errorItem u) (errorItem (u ++ t))
-  unfolding errorItem
-  grow-error = grow-sized 21 _ _ (λ l. ap Error (front_at (traverseOf le32) 20 t (traverse-front t) 1 u l))
+  grow_error : Grows (length u) (error_item u) (error_item (u ++ t))
+  unfolding error_item
+  grow_error = grow_sized 21 _ _ (λ l. ap Error (front_at (traverse_of le32) 20 t (traverse_front t) 1 u l))
 
-  le16-at : (j : ℕ) → j + 2 ≤ length u → le16 (drop j (u ++ t)) ≡ le16 (drop j u)
-  le16-at j l = front_at le16 2 t (le16-front t) j u l
+  le16_at : (j : ℕ) → j + 2 ≤ length u → le16 (drop j (u ++ t)) ≡ le16 (drop j u)
+  le16_at j l = front_at le16 2 t (le16_front t) j u l
 
-  le32-at : (j : ℕ) → j + 4 ≤ length u → le32 (drop j (u ++ t)) ≡ le32 (drop j u)
-  le32-at j l = front_at le32 4 t (le32-front t) j u l
+  le32_at : (j : ℕ) → j + 4 ≤ length u → le32 (drop j (u ++ t)) ≡ le32 (drop j u)
+  le32_at j l = front_at le32 4 t (le32_front t) j u l
 
-  grow-day : Grows (length u) (dayItem u) (dayItem (u ++ t))
-  unfolding dayItem
-  grow-day = grow-sized 3 _ _ (λ l. ap (λ (n : ℕ). Date n n) (le16-at 1 l))
+  grow_day : Grows (length u) (day_item u) (day_item (u ++ t))
+  unfolding day_item
+  grow_day = grow_sized 3 _ _ (λ l. ap (λ (n : ℕ). Date n n) (le16_at 1 l))
 
-  grow-span : Grows (length u) (spanItem u) (spanItem (u ++ t))
-  unfolding spanItem
-  grow-span = grow-sized 4 _ _ (λ l. ap₂ (λ (n : ℕ) (k : ℕ). Date n (n + k)) (le16-at 1 (omega arith)) (get-front 3 u t (omega arith)))
+  grow_span : Grows (length u) (span_item u) (span_item (u ++ t))
+  unfolding span_item
+  grow_span = grow_sized 4 _ _ (λ l. ap₂ (λ (n : ℕ) (k : ℕ). Date n (n + k)) (le16_at 1 (omega arith)) (get_front 3 u t (omega arith)))
 
-  grow-days : Grows (length u) (daysItem u) (daysItem (u ++ t))
-  unfolding daysItem
-  grow-days = grow-sized 5 _ _ (λ l. ap₂ Date (le16-at 1 (omega arith)) (le16-at 3 (omega arith)))
+  grow_days : Grows (length u) (days_item u) (days_item (u ++ t))
+  unfolding days_item
+  grow_days = grow_sized 5 _ _ (λ l. ap₂ Date (le16_at 1 (omega arith)) (le16_at 3 (omega arith)))
 
-  grow-seconds : Grows (length u) (secondsItem u) (secondsItem (u ++ t))
-  unfolding secondsItem
-  grow-seconds = grow-sized 5 _ _ (λ l. ap (λ (n : ℕ). Date (dayOfSeconds n) (dayOfSeconds n)) (le32-at 1 l))
+  grow_seconds : Grows (length u) (seconds_item u) (seconds_item (u ++ t))
+  unfolding seconds_item
+  grow_seconds = grow_sized 5 _ _ (λ l. ap (λ (n : ℕ). Date (day_of_seconds n) (day_of_seconds n)) (le32_at 1 l))
 
-  grow-two-seconds : Grows (length u) (twoSecondsItem u) (twoSecondsItem (u ++ t))
-  unfolding twoSecondsItem
-  grow-two-seconds = grow-sized 9 _ _ (λ l. ap₂ (λ (n : ℕ) (k : ℕ). Date (dayOfSeconds n) (dayOfSeconds k)) (le32-at 1 (omega arith)) (le32-at 5 (omega arith)))
+  grow_two_seconds : Grows (length u) (two_seconds_item u) (two_seconds_item (u ++ t))
+  unfolding two_seconds_item
+  grow_two_seconds = grow_sized 9 _ _ (λ l. ap₂ (λ (n : ℕ) (k : ℕ). Date (day_of_seconds n) (day_of_seconds k)) (le32_at 1 (omega arith)) (le32_at 5 (omega arith)))
 
   -- ---- items with a label, behind their code
 
-  behind : (m : ℕ) (x y : Decoded) → Grows m x y → Grows (1 + m) (behindCode x) (behindCode y)
+  behind : (m : ℕ) (x y : Decoded) → Grows m x y → Grows (1 + m) (behind_code x) (behind_code y)
   behind m (faulty k) (faulty j) g = tt
   behind m (faulty k) (whole n it) g = omega arith
-  behind m (whole n it) y g = ap behindCode g
+  behind m (whole n it) y g = ap behind_code g
 
-  part-rest : (k a n : ℕ) (make : ℕ → List ℕ → List ℕ → Item) (d : ℕ) → ((v : List ℕ) (added : List ℕ) → n ≤ length v → make d added (v ++ t) ≡ make d added v)
-      → Grows (length u) (withPart (Numbers k d a) u n make) (withPart (Numbers k d a) (u ++ t) n make)
-  part-rest k a n make d h =
-      grow-sized (k + a + n) _ _ λ l.
-      let e : take a (drop k (u ++ t)) ≡ take a (drop k u) = ap (take a) (drop-front k u t (omega arith)) ∙ take-front a (drop k u) t (let z = length-drop k u in omega arith) in
+  part_rest : (k a n : ℕ) (make : ℕ → List ℕ → List ℕ → Item) (d : ℕ) → ((v : List ℕ) (added : List ℕ) → n ≤ length v → make d added (v ++ t) ≡ make d added v)
+      → Grows (length u) (with_part (Numbers k d a) u n make) (with_part (Numbers k d a) (u ++ t) n make)
+  part_rest k a n make d h =
+      grow_sized (k + a + n) _ _ λ l.
+      let e : take a (drop k (u ++ t)) ≡ take a (drop k u) = ap (take a) (drop_front k u t (omega arith)) ∙ take_front a (drop k u) t (let z = length-drop k u in omega arith) in
       rw e (front_at (make d (take a (drop k u))) n t (λ v l'. h v _ l') (k + a) u l)
 
-  part-longer : (k d a n : ℕ) (make : ℕ → List ℕ → List ℕ → Item) → length u < k → Longer (length u) (withPart (Numbers k d a) (u ++ t) n make)
+  part_longer : (k d a n : ℕ) (make : ℕ → List ℕ → List ℕ → Item) → length u < k → Longer (length u) (with_part (Numbers k d a) (u ++ t) n make)
   unfolding sized
-  part-longer k d a n make g = pick-case (Longer (length u)) _ _ _ (λ f. tt) (λ f. omega arith)
+  part_longer k d a n make g = pick_case (Longer (length u)) _ _ _ (λ f. tt) (λ f. omega arith)
 
-  with_part : (p q : LabelPart) → PartGrows (length u) p q → (n : ℕ) (make : ℕ → List ℕ → List ℕ → Item)
-      → ((d : ℕ) (v : List ℕ) (added : List ℕ) → n ≤ length v → make d added (v ++ t) ≡ make d added v) → Grows (length u) (withPart p u n make) (withPart q (u ++ t) n make)
-  with_part Unfinished Unfinished g n make h = tt
-  with_part Unfinished (Numbers k d a) g n make h = part-longer k d a n make g
-  with_part (Numbers k d a) q g n make h = rw g (part-rest k a n make d (h d))
+  with_part_lem : (p q : LabelPart) → PartGrows (length u) p q → (n : ℕ) (make : ℕ → List ℕ → List ℕ → Item)
+      → ((d : ℕ) (v : List ℕ) (added : List ℕ) → n ≤ length v → make d added (v ++ t) ≡ make d added v) → Grows (length u) (with_part p u n make) (with_part q (u ++ t) n make)
+  with_part_lem Unfinished Unfinished g n make h = tt
+  with_part_lem Unfinished (Numbers k d a) g n make h = part_longer k d a n make g
+  with_part_lem (Numbers k d a) q g n make h = rw g (part_rest k a n make d (h d))
 
   module _ (p q : LabelPart) (g : PartGrows (length u) p q) where
-    grow-labelled : (n : ℕ) (make : ℕ → List ℕ → List ℕ → Item) → ((d : ℕ) (v : List ℕ) (added : List ℕ) → n ≤ length v → make d added (v ++ t) ≡ make d added v)
-        → Grows (1 + length u) (labelledItem p u n make) (labelledItem q (u ++ t) n make)
-    unfolding labelledItem
-    grow-labelled n make h = behind (length u) (withPart p u n make) (withPart q (u ++ t) n make) (with_part p q g n make h)
+    grow_labelled : (n : ℕ) (make : ℕ → List ℕ → List ℕ → Item) → ((d : ℕ) (v : List ℕ) (added : List ℕ) → n ≤ length v → make d added (v ++ t) ≡ make d added v)
+        → Grows (1 + length u) (labelled_item p u n make) (labelled_item q (u ++ t) n make)
+    unfolding labelled_item
+    grow_labelled n make h = behind (length u) (with_part p u n make) (with_part q (u ++ t) n make) (with_part_lem p q g n make h)
 
-    grow-station : (flags : ℕ) → Grows (1 + length u) (stationItem flags p u) (stationItem flags q (u ++ t))
-    unfolding stationItem
-    grow-station flags = grow-labelled 12 _ (λ d v added l. ap (λ (x : Point). Label flags x d added) (point-front t v l))
+    grow_station : (flags : ℕ) → Grows (1 + length u) (station_item flags p u) (station_item flags q (u ++ t))
+    unfolding station_item
+    grow_station flags = grow_labelled 12 _ (λ d v added l. ap (λ (x : Point). Label flags x d added) (point_front t v l))
 
-    grow-line : (flags : ℕ) → Grows (1 + length u) (lineItem flags p u) (lineItem flags q (u ++ t))
-    unfolding lineItem
-    grow-line flags = grow-labelled 12 _ (λ d v added l. ap (λ (x : Point). Line flags x d added) (point-front t v l))
+    grow_line : (flags : ℕ) → Grows (1 + length u) (line_item flags p u) (line_item flags q (u ++ t))
+    unfolding line_item
+    grow_line flags = grow_labelled 12 _ (λ d v added l. ap (λ (x : Point). Line flags x d added) (point_front t v l))
 
-    grow-section : (code : ℕ) → Grows (1 + length u) (sectionItem code p u) (sectionItem code q (u ++ t))
-    unfolding sectionItem
-    grow-section code =
-        grow-pick (1 + length u) (ltb code 0x32) _ _ _ _
-        (grow-labelled 8 _ (λ d v added l. ap (λ (x : Dimensions). Xsect (code % 2) x d added) (short-front t v l)))
-        (grow-labelled 16 _ (λ d v added l. ap (λ (x : Dimensions). Xsect (code % 2) x d added) (long-front t v l)))
+    grow_section : (code : ℕ) → Grows (1 + length u) (section_item code p u) (section_item code q (u ++ t))
+    unfolding section_item
+    grow_section code =
+        grow_pick (1 + length u) (ltb code 0x32) _ _ _ _
+        (grow_labelled 8 _ (λ d v added l. ap (λ (x : Dimensions). Xsect (code % 2) x d added) (short_front t v l)))
+        (grow_labelled 16 _ (λ d v added l. ap (λ (x : Dimensions). Xsect (code % 2) x d added) (long_front t v l)))
 
 -- ---- label parts
 
-old-none : (t : List ℕ) → PartLonger 0 (oldPart t)
-unfolding oldPart
-old-none t =
+old_none : (t : List ℕ) → PartLonger 0 (old_part t)
+unfolding old_part
+old_none t =
     let P = PartLonger 0 in
-    pick-case P _ _ _ (λ e. tt) λ e.
-    pick-case P _ _ _ (λ e. omega arith) λ e.
-    pick-case P _ _ _ (λ e. pick-case P _ _ _ (λ e. tt) (λ e. omega arith)) (λ e. pick-case P _ _ _ (λ e. tt) (λ e. omega arith))
+    pick_case P _ _ _ (λ e. tt) λ e.
+    pick_case P _ _ _ (λ e. omega arith) λ e.
+    pick_case P _ _ _ (λ e. pick_case P _ _ _ (λ e. tt) (λ e. omega arith)) (λ e. pick_case P _ _ _ (λ e. tt) (λ e. omega arith))
 
 some : (b : ℕ) (r : List ℕ) → ltb (length (b ∷ r)) 1 ≡ false
 some b r = le-ltb (length (b ∷ r)) 1 (omega arith)
 
-old-part : (u t : List ℕ) → PartGrows (length u) (oldPart u) (oldPart (u ++ t))
-unfolding oldPart
-old-part [] t = part-open 0 _ _ _ refl (old-none t)
-old-part (b ∷ r) t =
+old_part_lem : (u t : List ℕ) → PartGrows (length u) (old_part u) (old_part (u ++ t))
+unfolding old_part
+old_part_lem [] t = part_open 0 _ _ _ refl (old_none t)
+old_part_lem (b ∷ r) t =
     let m = length (b ∷ r) in
-    part-skip m _ _ _ _ _ _ (some b r) (some b (r ++ t))
-    (part-pick m (ltb b 0xfe) _ _ _ _ refl
-    (part-pick m (eqb b 0xfe) _ _ _ _
-    (part-sized (b ∷ r) t 3 0 _ _ (λ l. ap (λ (n : ℕ). n + 254) (le16-at (b ∷ r) t 1 l)))
-    (part-sized (b ∷ r) t 5 0 _ _ (λ l. le32-at (b ∷ r) t 1 l))))
+    part_skip m _ _ _ _ _ _ (some b r) (some b (r ++ t))
+    (part_pick m (ltb b 0xfe) _ _ _ _ refl
+    (part_pick m (eqb b 0xfe) _ _ _ _
+    (part_sized (b ∷ r) t 3 0 _ _ (λ l. ap (λ (n : ℕ). n + 254) (le16_at (b ∷ r) t 1 l)))
+    (part_sized (b ∷ r) t 5 0 _ _ (λ l. le32_at (b ∷ r) t 1 l))))
 
 -- a number of v8: it is there and settled, or it wants more bytes
 data Number (v w : List ℕ) : Type 0 where
-  cut : lengthSize v ≡ 0 → (1 ≤ lengthSize w → length v < lengthSize w) → Number v w
-  settled : 1 ≤ lengthSize v → lengthSize v ≤ length v → lengthSize w ≡ lengthSize v → lengthValue w ≡ lengthValue v → Number v w
+  cut : length_size v ≡ 0 → (1 ≤ length_size w → length v < length_size w) → Number v w
+  settled : 1 ≤ length_size v → length_size v ≤ length v → length_size w ≡ length_size v → length_value w ≡ length_value v → Number v w
 
-number-front : (v t : List ℕ) → Number v (v ++ t)
-unfolding lengthSize lengthValue pick
-number-front [] t = cut refl (λ h. omega arith)
-number-front (b ∷ r) t = byte (ltb b 0xff) refl
+number_front : (v t : List ℕ) → Number v (v ++ t)
+unfolding length_size length_value pick
+number_front [] t = cut refl (λ h. omega arith)
+number_front (b ∷ r) t = byte (ltb b 0xff) refl
   where
     v : List ℕ
     v = b ∷ r
@@ -263,20 +263,20 @@ number-front (b ∷ r) t = byte (ltb b 0xff) refl
 
     five : (c : Bool) → ltb (length v) 5 ≡ c → ltb b 0xff ≡ false → Number v w
     five true f e =
-        let s : lengthSize v ≡ 0 = rw (some b r, e, f) in
-        let s' : lengthSize w ≡ pick (ltb (length w) 5) 0 5 = rw (some b (r ++ t), e) in
-        cut s (rw s' (pick-case (λ (n : ℕ). 1 ≤ n → length v < n) (ltb (length w) 5) 0 5 (λ g h. absurd (omega arith)) (λ g h. ltb-true (length v) 5 f)))
+        let s : length_size v ≡ 0 = rw (some b r, e, f) in
+        let s' : length_size w ≡ pick (ltb (length w) 5) 0 5 = rw (some b (r ++ t), e) in
+        cut s (rw s' (pick_case (λ (n : ℕ). 1 ≤ n → length v < n) (ltb (length w) 5) 0 5 (λ g h. absurd (omega arith)) (λ g h. ltb-true (length v) 5 f)))
     five false f e =
         let l : 5 ≤ length v = ltb-false (length v) 5 f in
         let z = length-append r t in
-        let s : lengthSize v ≡ 5 = rw (some b r, e, f) in
-        let s' : lengthSize w ≡ 5 = rw (some b (r ++ t), e, le-ltb (length w) 5 (omega arith)) in
-        settled (omega (arith, s)) (omega (arith, s)) (s' ∙ sym s) (rw e (le32-front t r (omega arith)))
+        let s : length_size v ≡ 5 = rw (some b r, e, f) in
+        let s' : length_size w ≡ 5 = rw (some b (r ++ t), e, le-ltb (length w) 5 (omega arith)) in
+        settled (omega (arith, s)) (omega (arith, s)) (s' ∙ sym s) (rw e (le32_front t r (omega arith)))
 
     byte : (c : Bool) → ltb b 0xff ≡ c → Number v w
     byte true e =
-        let s : lengthSize v ≡ 1 = rw (some b r, e) in
-        let s' : lengthSize w ≡ 1 = rw (some b (r ++ t), e) in
+        let s : length_size v ≡ 1 = rw (some b r, e) in
+        let s' : length_size w ≡ 1 = rw (some b (r ++ t), e) in
         settled (omega (arith, s)) (omega (arith, s)) (s' ∙ sym s) (rw e)
     byte false e = five (ltb (length v) 5) refl e
 
@@ -292,75 +292,75 @@ module _ (b : ℕ) (r t : List ℕ) where
   w = b ∷ (r ++ t)
 
   -- D wants more bytes
-  long-first : lengthSize r ≡ 0 → (1 ≤ lengthSize (r ++ t) → length r < lengthSize (r ++ t)) → PartGrows m (longPart (b ∷ r)) (longPart w)
-  unfolding longPart
-  long-first e h =
+  long_first : length_size r ≡ 0 → (1 ≤ length_size (r ++ t) → length r < length_size (r ++ t)) → PartGrows m (long_part (b ∷ r)) (long_part w)
+  unfolding long_part
+  long_first e h =
       let P = PartLonger m in
-      part-open m _ _ _ (eq-eqb _ _ e)
-      (pick-case P _ _ _ (λ g. tt) (λ g. pick-case P _ _ _ (λ g'. tt) (λ g'. let k = h (pos _ (eqb-false _ _ g)) in omega arith)))
+      part_open m _ _ _ (eq-eqb _ _ e)
+      (pick_case P _ _ _ (λ g. tt) (λ g. pick_case P _ _ _ (λ g'. tt) (λ g'. let k = h (pos _ (eqb-false _ _ g)) in omega arith)))
 
-  module _ (one : 1 ≤ lengthSize r) (there : lengthSize r ≤ length r) (same : lengthSize (r ++ t) ≡ lengthSize r) (value : lengthValue (r ++ t) ≡ lengthValue r) where
+  module _ (one : 1 ≤ length_size r) (there : length_size r ≤ length r) (same : length_size (r ++ t) ≡ length_size r) (value : length_value (r ++ t) ≡ length_value r) where
     abbrev d : ℕ
-    d = lengthSize r
+    d = length_size r
 
     at : drop (1 + d) (b ∷ r) ≡ drop d r
     at = sym (drop-drop d 1 (b ∷ r))
 
-    at' : drop (1 + lengthSize (r ++ t)) w ≡ drop d r ++ t
-    at' = rw same (sym (drop-drop d 1 w) ∙ drop-front d r t there)
+    at' : drop (1 + length_size (r ++ t)) w ≡ drop d r ++ t
+    at' = rw same (sym (drop-drop d 1 w) ∙ drop_front d r t there)
 
-    first-there : eqb d 0 ≡ false
-    first-there = ne_eqb d 0 (λ z. omega (arith, z))
+    first_there : eqb d 0 ≡ false
+    first_there = ne_eqb d 0 (λ z. omega (arith, z))
 
-    first-there' : eqb (lengthSize (r ++ t)) 0 ≡ false
-    first-there' = ne_eqb (lengthSize (r ++ t)) 0 (λ z. omega (arith, z, same))
+    first_there' : eqb (length_size (r ++ t)) 0 ≡ false
+    first_there' = ne_eqb (length_size (r ++ t)) 0 (λ z. omega (arith, z, same))
 
     -- A wants more bytes
-    long-second : lengthSize (drop d r) ≡ 0 → (1 ≤ lengthSize (drop d r ++ t) → length (drop d r) < lengthSize (drop d r ++ t)) → PartGrows m (longPart (b ∷ r)) (longPart w)
-    unfolding longPart
-    long-second e h =
+    long_second : length_size (drop d r) ≡ 0 → (1 ≤ length_size (drop d r ++ t) → length (drop d r) < length_size (drop d r ++ t)) → PartGrows m (long_part (b ∷ r)) (long_part w)
+    unfolding long_part
+    long_second e h =
         let P = PartLonger m in
         let l = length-drop d r in
-        let a : lengthSize (drop (1 + d) (b ∷ r)) ≡ 0 = ap lengthSize at ∙ e in
-        let a' : lengthSize (drop (1 + lengthSize (r ++ t)) w) ≡ lengthSize (drop d r ++ t) = ap lengthSize at' in
-        part-skip m _ _ _ _ _ _ first-there first-there'
-        (part-open m _ _ _ (eq-eqb _ _ a)
-        (pick-case P _ _ _ (λ g. tt) (λ g. let k = h (rw a' at (pos (lengthSize (drop (1 + lengthSize (r ++ t)) w)) (eqb-false (lengthSize (drop (1 + lengthSize (r ++ t)) w)) 0 g))) in omega (arith, a', same))))
+        let a : length_size (drop (1 + d) (b ∷ r)) ≡ 0 = ap length_size at ∙ e in
+        let a' : length_size (drop (1 + length_size (r ++ t)) w) ≡ length_size (drop d r ++ t) = ap length_size at' in
+        part_skip m _ _ _ _ _ _ first_there first_there'
+        (part_open m _ _ _ (eq-eqb _ _ a)
+        (pick_case P _ _ _ (λ g. tt) (λ g. let k = h (rw a' at (pos (length_size (drop (1 + length_size (r ++ t)) w)) (eqb-false (length_size (drop (1 + length_size (r ++ t)) w)) 0 g))) in omega (arith, a', same))))
 
-    long-both : 1 ≤ lengthSize (drop d r) → lengthSize (drop d r ++ t) ≡ lengthSize (drop d r) → lengthValue (drop d r ++ t) ≡ lengthValue (drop d r)
-        → PartGrows m (longPart (b ∷ r)) (longPart w)
-    unfolding longPart
-    long-both one' same' value' =
-        let a : lengthSize (drop (1 + d) (b ∷ r)) ≡ lengthSize (drop d r) = ap lengthSize at in
-        let a' : lengthSize (drop (1 + lengthSize (r ++ t)) w) ≡ lengthSize (drop d r) = ap lengthSize at' ∙ same' in
-        part-skip m _ _ _ _ _ _ first-there first-there'
-        (part-skip m _ _ _ _ _ _ (ne_eqb (lengthSize (drop (1 + d) (b ∷ r))) 0 (λ z. omega (arith, z, a))) (ne_eqb (lengthSize (drop (1 + lengthSize (r ++ t)) w)) 0 (λ z. omega (arith, z, a')))
+    long_both : 1 ≤ length_size (drop d r) → length_size (drop d r ++ t) ≡ length_size (drop d r) → length_value (drop d r ++ t) ≡ length_value (drop d r)
+        → PartGrows m (long_part (b ∷ r)) (long_part w)
+    unfolding long_part
+    long_both one' same' value' =
+        let a : length_size (drop (1 + d) (b ∷ r)) ≡ length_size (drop d r) = ap length_size at in
+        let a' : length_size (drop (1 + length_size (r ++ t)) w) ≡ length_size (drop d r) = ap length_size at' ∙ same' in
+        part_skip m _ _ _ _ _ _ first_there first_there'
+        (part_skip m _ _ _ _ _ _ (ne_eqb (length_size (drop (1 + d) (b ∷ r))) 0 (λ z. omega (arith, z, a))) (ne_eqb (length_size (drop (1 + length_size (r ++ t)) w)) 0 (λ z. omega (arith, z, a')))
         (rw (at, at', same, same', value, value')))
 
-  long_rest : Number r (r ++ t) → PartGrows m (longPart (b ∷ r)) (longPart w)
-  long_rest (cut e h) = long-first e h
-  long_rest (settled one there same value) = go (number-front (drop (lengthSize r) r) t)
+  long_rest : Number r (r ++ t) → PartGrows m (long_part (b ∷ r)) (long_part w)
+  long_rest (cut e h) = long_first e h
+  long_rest (settled one there same value) = go (number_front (drop (length_size r) r) t)
     where
-      go : Number (drop (lengthSize r) r) (drop (lengthSize r) r ++ t) → PartGrows m (longPart (b ∷ r)) (longPart w)
-      go (cut e h) = long-second one there same value e h
-      go (settled one' there' same' value') = long-both one there same value one' same' value'
+      go : Number (drop (length_size r) r) (drop (length_size r) r ++ t) → PartGrows m (long_part (b ∷ r)) (long_part w)
+      go (cut e h) = long_second one there same value e h
+      go (settled one' there' same' value') = long_both one there same value one' same' value'
 
-  long-part : PartGrows m (longPart (b ∷ r)) (longPart w)
-  long-part = long_rest (number-front r t)
+  long_part_lem : PartGrows m (long_part (b ∷ r)) (long_part w)
+  long_part_lem = long_rest (number_front r t)
 
-new_none : (t : List ℕ) → PartLonger 0 (newPart t)
-unfolding newPart longPart
+new_none : (t : List ℕ) → PartLonger 0 (new_part t)
+unfolding new_part long_part
 new_none t =
     let P = PartLonger 0 in
-    pick-case P _ _ _ (λ e. tt) λ e.
-    pick-case P _ _ _ (λ e. pick-case P _ _ _ (λ e. tt) λ e. pick-case P _ _ _ (λ e. tt) (λ e. omega arith)) (λ e. omega arith)
+    pick_case P _ _ _ (λ e. tt) λ e.
+    pick_case P _ _ _ (λ e. pick_case P _ _ _ (λ e. tt) λ e. pick_case P _ _ _ (λ e. tt) (λ e. omega arith)) (λ e. omega arith)
 
-new-part : (u t : List ℕ) → PartGrows (length u) (newPart u) (newPart (u ++ t))
-unfolding newPart
-new-part [] t = part-open 0 _ _ _ refl (new_none t)
-new-part (b ∷ r) t =
+new_part_lem : (u t : List ℕ) → PartGrows (length u) (new_part u) (new_part (u ++ t))
+unfolding new_part
+new_part_lem [] t = part_open 0 _ _ _ refl (new_none t)
+new_part_lem (b ∷ r) t =
     let m = length (b ∷ r) in
-    part-skip m _ _ _ _ _ _ (some b r) (some b (r ++ t)) (part-pick m (eqb b 0x00) _ _ _ _ (long-part b r t) refl)
+    part_skip m _ _ _ _ _ _ (some b r) (some b (r ++ t)) (part_pick m (eqb b 0x00) _ _ _ _ (long_part_lem b r t) refl)
 
 -- ---- the tables
 
@@ -368,93 +368,93 @@ module _ (u t : List ℕ) where
   abbrev G : Decoded → Decoded → Type 0
   G = Grows (length u)
 
-  grow-old-middle : (version code : ℕ) → G (oldMiddleItem version code u) (oldMiddleItem version code (u ++ t))
-  unfolding oldMiddleItem oldDateItem v7DateItem
-  grow-old-middle version code =
+  grow_old_middle : (version code : ℕ) → G (old_middle_item version code u) (old_middle_item version code (u ++ t))
+  unfolding old_middle_item old_date_item v7_date_item
+  grow_old_middle version code =
       let m = length u in
-      grow-pick m (eqb code 0x22) _ _ _ _ (grow-pick m (ltb version 6) _ _ _ _ tt (grow-error u t))
-      (grow-pick m (ltb version 4) _ _ _ _ tt
-      (grow-pick m (ltb version 7) _ _ _ _
-      (grow-pick m (eqb code 0x20) _ _ _ _ (grow-seconds u t) (grow-pick m (eqb code 0x21) _ _ _ _ (grow-two-seconds u t) tt))
-      (grow-pick m (eqb code 0x20) _ _ _ _ (grow-day u t)
-      (grow-pick m (eqb code 0x21) _ _ _ _ (grow-span u t)
-      (grow-pick m (eqb code 0x23) _ _ _ _ (grow-days u t)
-      (grow-pick m (eqb code 0x24) _ _ _ _ refl tt))))))
+      grow_pick m (eqb code 0x22) _ _ _ _ (grow_pick m (ltb version 6) _ _ _ _ tt (grow_error u t))
+      (grow_pick m (ltb version 4) _ _ _ _ tt
+      (grow_pick m (ltb version 7) _ _ _ _
+      (grow_pick m (eqb code 0x20) _ _ _ _ (grow_seconds u t) (grow_pick m (eqb code 0x21) _ _ _ _ (grow_two_seconds u t) tt))
+      (grow_pick m (eqb code 0x20) _ _ _ _ (grow_day u t)
+      (grow_pick m (eqb code 0x21) _ _ _ _ (grow_span u t)
+      (grow_pick m (eqb code 0x23) _ _ _ _ (grow_days u t)
+      (grow_pick m (eqb code 0x24) _ _ _ _ refl tt))))))
 
-  grow-old-low : (code : ℕ) → G (oldLowItem code u) (oldLowItem code (u ++ t))
-  unfolding oldLowItem
-  grow-old-low code =
+  grow_old_low : (code : ℕ) → G (old_low_item code u) (old_low_item code (u ++ t))
+  unfolding old_low_item
+  grow_old_low code =
       let m = length u in
-      grow-pick m (eqb code 0x00) _ _ _ _ refl (grow-pick m (ltb code 0x0f) _ _ _ _ refl (grow-pick m (eqb code 0x0f) _ _ _ _ (grow-move u t) refl))
+      grow_pick m (eqb code 0x00) _ _ _ _ refl (grow_pick m (ltb code 0x0f) _ _ _ _ refl (grow_pick m (eqb code 0x0f) _ _ _ _ (grow_move u t) refl))
 
-  grow-new-low : (code : ℕ) → G (newLowItem code u) (newLowItem code (u ++ t))
-  unfolding newLowItem newDateItem
-  grow-new-low code =
+  grow_new_low : (code : ℕ) → G (new_low_item code u) (new_low_item code (u ++ t))
+  unfolding new_low_item new_date_item
+  grow_new_low code =
       let m = length u in
-      grow-pick m (ltb code 0x05) _ _ _ _ refl
-      (grow-pick m (ltb code 0x0f) _ _ _ _ tt
-      (grow-pick m (eqb code 0x0f) _ _ _ _ (grow-move u t)
-      (grow-pick m (ltb code 0x14) _ _ _ _
-      (grow-pick m (eqb code 0x10) _ _ _ _ refl (grow-pick m (eqb code 0x11) _ _ _ _ (grow-day u t) (grow-pick m (eqb code 0x12) _ _ _ _ (grow-span u t) (grow-days u t))))
-      (grow-pick m (eqb code 0x1f) _ _ _ _ (grow-error u t) tt))))
+      grow_pick m (ltb code 0x05) _ _ _ _ refl
+      (grow_pick m (ltb code 0x0f) _ _ _ _ tt
+      (grow_pick m (eqb code 0x0f) _ _ _ _ (grow_move u t)
+      (grow_pick m (ltb code 0x14) _ _ _ _
+      (grow_pick m (eqb code 0x10) _ _ _ _ refl (grow_pick m (eqb code 0x11) _ _ _ _ (grow_day u t) (grow_pick m (eqb code 0x12) _ _ _ _ (grow_span u t) (grow_days u t))))
+      (grow_pick m (eqb code 0x1f) _ _ _ _ (grow_error u t) tt))))
 
   -- u is what stands behind the code
   abbrev H : Decoded → Decoded → Type 0
   H = Grows (1 + length u)
 
-  grow-old-high : (version code : ℕ) → H (oldHighItem version code u) (oldHighItem version code (u ++ t))
-  unfolding oldHighItem
-  grow-old-high version code =
+  grow_old_high : (version code : ℕ) → H (old_high_item version code u) (old_high_item version code (u ++ t))
+  unfolding old_high_item
+  grow_old_high version code =
       let m = 1 + length u in
-      let p = old-part u t in
-      grow-pick m (ltb code 0x34) _ _ _ _ (grow-pick m (ltb version 5) _ _ _ _ tt (grow-section u t _ _ p code))
-      (grow-pick m (ltb code 0x40) _ _ _ _ tt
-      (grow-pick m (ltb code 0x60) _ _ _ _ (grow-station u t _ _ p (code - 0x40))
-      (grow-pick m (ltb code 0x80) _ _ _ _ tt
-      (grow-pick m (ltb code 0x88) _ _ _ _ (grow-line u t _ _ p (code - 0x80)) tt))))
+      let p = old_part_lem u t in
+      grow_pick m (ltb code 0x34) _ _ _ _ (grow_pick m (ltb version 5) _ _ _ _ tt (grow_section u t _ _ p code))
+      (grow_pick m (ltb code 0x40) _ _ _ _ tt
+      (grow_pick m (ltb code 0x60) _ _ _ _ (grow_station u t _ _ p (code - 0x40))
+      (grow_pick m (ltb code 0x80) _ _ _ _ tt
+      (grow_pick m (ltb code 0x88) _ _ _ _ (grow_line u t _ _ p (code - 0x80)) tt))))
 
-  grow-new-high : (code : ℕ) → H (newHighItem code u) (newHighItem code (u ++ t))
-  unfolding newHighItem
-  grow-new-high code =
+  grow_new_high : (code : ℕ) → H (new_high_item code u) (new_high_item code (u ++ t))
+  unfolding new_high_item
+  grow_new_high code =
       let m = 1 + length u in
-      let p = new-part u t in
-      grow-pick m (ltb code 0x34) _ _ _ _ (grow-section u t _ _ p code)
-      (grow-pick m (ltb code 0x40) _ _ _ _ tt
-      (grow-pick m (ltb code 0x48) _ _ _ _ (grow-line u t _ _ p (code - 0x40))
-      (grow-pick m (ltb code 0x60) _ _ _ _ tt
-      (grow-pick m (ltb code 0x68) _ _ _ _ (grow-line u t (Numbers 0 0 0) (Numbers 0 0 0) refl (code - 0x60))
-      (grow-pick m (ltb code 0x80) _ _ _ _ tt
-      (grow-station u t _ _ p (code - 0x80)))))))
+      let p = new_part_lem u t in
+      grow_pick m (ltb code 0x34) _ _ _ _ (grow_section u t _ _ p code)
+      (grow_pick m (ltb code 0x40) _ _ _ _ tt
+      (grow_pick m (ltb code 0x48) _ _ _ _ (grow_line u t _ _ p (code - 0x40))
+      (grow_pick m (ltb code 0x60) _ _ _ _ tt
+      (grow_pick m (ltb code 0x68) _ _ _ _ (grow_line u t (Numbers 0 0 0) (Numbers 0 0 0) refl (code - 0x60))
+      (grow_pick m (ltb code 0x80) _ _ _ _ tt
+      (grow_station u t _ _ p (code - 0x80)))))))
 
 -- no bytes at all
-none-longer : (x : Decoded) (m : ℕ) → SizedItem m x → Longer 0 x
-none-longer (faulty k) m h = tt
-none-longer (whole n it) m h = omega (arith, h.0)
+none_longer : (x : Decoded) (m : ℕ) → SizedItem m x → Longer 0 x
+none_longer (faulty k) m h = tt
+none_longer (whole n it) m h = omega (arith, h.0)
 
 -- THE law: whatever stands behind it, an item that is whole stays what it is, and bytes that were too few for one say nothing of a shorter one
-pub item-grows : (version : ℕ) (u t : List ℕ) → Grows (length u) (item_of version u) (item_of version (u ++ t))
+pub item_grows : (version : ℕ) (u t : List ℕ) → Grows (length u) (item_of version u) (item_of version (u ++ t))
 unfolding item_of
-item-grows version [] t = grow-open 0 5 _ _ _ refl (none-longer (item_of version t) (length t) (progress version t))
-item-grows version (b ∷ r) t =
+item_grows version [] t = grow_open 0 5 _ _ _ refl (none_longer (item_of version t) (length t) (progress version t))
+item_grows version (b ∷ r) t =
     let s = b ∷ r in
     let m = length s in
     let e : 1 + length r ≡ length (b ∷ r) = omega arith in
-    grow-skip m _ _ _ _ _ _ (some b r) (some b (r ++ t))
-    (grow-pick m (ltb version 8) _ _ _ _
-    (grow-pick m (ltb b 0x20) _ _ _ _ (grow-old-low s t b)
-    (grow-pick m (ltb b 0x30) _ _ _ _ (grow-old-middle s t version b) (rw e at (grow-old-high r t version b))))
-    (grow-pick m (ltb b 0x30) _ _ _ _ (grow-new-low s t b) (rw e at (grow-new-high r t b))))
+    grow_skip m _ _ _ _ _ _ (some b r) (some b (r ++ t))
+    (grow_pick m (ltb version 8) _ _ _ _
+    (grow_pick m (ltb b 0x20) _ _ _ _ (grow_old_low s t b)
+    (grow_pick m (ltb b 0x30) _ _ _ _ (grow_old_middle s t version b) (rw e at (grow_old_high r t version b))))
+    (grow_pick m (ltb b 0x30) _ _ _ _ (grow_new_low s t b) (rw e at (grow_new_high r t b))))
 
 -- an item is settled by its own bytes: other bytes behind those change nothing
-whole-front : (n : ℕ) (it : Item) (x y : Decoded) → Grows n x (whole n it) → Grows n x y → y ≡ whole n it
-whole-front n it (faulty k) y g h = absurd (omega arith)
-whole-front n it (whole k jt) y g h = h ∙ sym g
+whole_front : (n : ℕ) (it : Item) (x y : Decoded) → Grows n x (whole n it) → Grows n x y → y ≡ whole n it
+whole_front n it (faulty k) y g h = absurd (omega arith)
+whole_front n it (whole k jt) y g h = h ∙ sym g
 
-pub item-settled : (version : ℕ) (s s' : List ℕ) (n : ℕ) (it : Item) → item_of version s ≡ whole n it → take n s ≡ take n s' → item_of version s' ≡ whole n it
-item-settled version s s' n it e same =
+pub item_settled : (version : ℕ) (s s' : List ℕ) (n : ℕ) (it : Item) → item_of version s ≡ whole n it → take n s ≡ take n s' → item_of version s' ≡ whole n it
+item_settled version s s' n it e same =
     let z = rw e at (progress version s) in
     let l : length (take n s) ≡ n = length-take-le n s z.1 in
-    let g = rw (l, take-append-drop n s, e) at (item-grows version (take n s) (drop n s)) in
+    let g = rw (l, take-append-drop n s, e) at (item_grows version (take n s) (drop n s)) in
     let q : take n s ++ drop n s' ≡ s' = ap (λ (v : List ℕ). v ++ drop n s') same ∙ take-append-drop n s' in
-    let h = rw (l, q) at (item-grows version (take n s) (drop n s')) in
-    whole-front n it (item_of version (take n s)) (item_of version s') g h
+    let h = rw (l, q) at (item_grows version (take n s) (drop n s')) in
+    whole_front n it (item_of version (take n s)) (item_of version s') g h

@@ -6,27 +6,27 @@ use native.Mathlib.Omega.{arith}
 use lib.ListN.{length, take, drop, length-drop, length-append}
 use lib.Seq.{length-take-le, take_all, drop-length}
 use Rattle.format.specs.Bytes.{over}
-use Rattle.format.specs.State.{State, startSetting, start, Record, Next}
-use Rattle.format.specs.Sheet.{sheetVersion, layout, layoutAll, headerLayout, sheetOf}
+use Rattle.format.specs.State.{State, start_setting, start, Record, Next}
+use Rattle.format.specs.Sheet.{sheet_version, layout, layout_all, header_layout, sheet_of}
 use Rattle.format.specs.Refusals.{Result, stop}
 use Rattle.format.specs.declared.Verdict.TheVariants.{Good, Refusal}
 use Rattle.format.specs.declared.Verdict.{Verdict}
-use Rattle.format.specs.Reading.{next, ended, run, items_of, readOutcome, readBuffer}
-use Rattle.format.specs.Fields.{recordOf, state_of, recordSize}
+use Rattle.format.specs.Reading.{next, ended, run, items_of, read_outcome, read_buffer}
+use Rattle.format.specs.Fields.{record_of, state_of, record_size}
 use Rattle.format.specs.declared.Fields.{Fields}
-use Rattle.format.proofs.ReadingLaws.{Within, there-within, left-bad, left-on, left-made}
+use Rattle.format.proofs.ReadingLaws.{Within, there_within, left_bad, left_on, left_made}
 use Rattle.wire.specs.Laid.{laid}
-use Rattle.wire.proofs.Laws.{laid-within, length_over, laid-zero, laid_next}
+use Rattle.wire.proofs.Laws.{laid_within, length_over, laid_zero, laid_next}
 use Rattle.layout.specs.Freely.{LaidFreely}
 use Rattle.label.specs.declared.Label.{Label}
 use Rattle.item.specs.Seen.{seen, Tells}
 use Rattle.format.specs.declared.Setting.{Setting}
 use Rattle.item.specs.declared.Step.{Step}
 use Rattle.item.specs.declared.Step.TheVariants.{Bad, End, On, Made}
-use Rattle.format.proofs.SheetLaws.{layout-size}
-use Rattle.measure.specs.Totals.{passed_by, passOf}
+use Rattle.format.proofs.SheetLaws.{layout_size}
+use Rattle.measure.specs.Totals.{passed_by, pass_of}
 use Rattle.measure.specs.declared.Passed.{Passed}
-use Rattle.measure.proofs.Sums.{pass-also, pass-stop}
+use Rattle.measure.proofs.Sums.{pass_also, pass_stop}
 use Rattle.measure.proofs.Turn.{left_end}
 use Rattle.read.specs.Pass.{ReadsTo}
 use Rattle.read.specs.Turning.{LaidBy}
@@ -36,9 +36,9 @@ use Rattle.format.specs.declared.Answer.TheVariants.{Done as AnswerDone, Refused
 -- ---- a record is laid in just where one is made
 
 -- what a step tells, laid in
-pub told-laid : (n m : ℕ) (st : Setting) (f : Fields) (kept : ℕ) (b d d' : List ℕ) (k : ℕ) (x : Next) → Tells (Made n m st f kept) b x
-    → LaidFreely d d' k (layout sheetVersion (recordOf f (take m b))) → LaidBy x d d' k
-told-laid n m st f kept b d d' k x T L = rw (← T.same) L
+pub told_laid : (n m : ℕ) (st : Setting) (f : Fields) (kept : ℕ) (b d d' : List ℕ) (k : ℕ) (x : Next) → Tells (Made n m st f kept) b x
+    → LaidFreely d d' k (layout sheet_version (record_of f (take m b))) → LaidBy x d d' k
+told_laid n m st f kept b d d' k x T L = rw (← T.same) L
 
 -- ---- where a pass stands
 
@@ -65,30 +65,30 @@ pub record Going (version : ℕ) (file : List ℕ) (place : ℕ) (sheet₀ : Lis
     (label : Label) : Type 0 where
   pub stands : Stands file at label
   pub kept : length sheet ≡ length sheet₀
-  pub out-few : out ≤ front + 4130 * at
-  pub records-few : records ≤ at
-  pub answer : passOf out records (left version file at setting label) ≡ passOf front 0 (items_of version place file)
-  pub sheet-is : front + length (layoutAll sheetVersion (items_of version place file).records) ≤ length sheet₀
-      → take out sheet ++ layoutAll sheetVersion (left version file at setting label).records
-      ≡ take front sheet₀ ++ layoutAll sheetVersion (items_of version place file).records
+  pub out_few : out ≤ front + 4130 * at
+  pub records_few : records ≤ at
+  pub answer : pass_of out records (left version file at setting label) ≡ pass_of front 0 (items_of version place file)
+  pub sheet_is : front + length (layout_all sheet_version (items_of version place file).records) ≤ length sheet₀
+      → take out sheet ++ layout_all sheet_version (left version file at setting label).records
+      ≡ take front sheet₀ ++ layout_all sheet_version (items_of version place file).records
 
 -- the state at the start
-fresh-state : (setting : Setting) (label : Label) → setting ≡ startSetting → label.len ≡ 0 → state_of setting (text label) ≡ start
-fresh-state setting label f e = rw (f, e)
+fresh_state : (setting : Setting) (label : Label) → setting ≡ start_setting → label.len ≡ 0 → state_of setting (text label) ≡ start
+fresh_state setting label f e = rw (f, e)
 
-pub going-first : (version : ℕ) (file : List ℕ) (place : ℕ) (sheet : List ℕ) (front : ℕ) (setting : Setting) (label : Label)
-    → setting ≡ startSetting → label.len ≡ 0
+pub going_first : (version : ℕ) (file : List ℕ) (place : ℕ) (sheet : List ℕ) (front : ℕ) (setting : Setting) (label : Label)
+    → setting ≡ start_setting → label.len ≡ 0
     → place ≤ length file → length label.bytes ≡ 4096 → Going version file place sheet front sheet place front 0 setting label
 unfolding items_of
-going-first version file place sheet front setting label f z h w =
-    let e = fresh-state setting label f z in
+going_first version file place sheet front setting label f z h w =
+    let e = fresh_state setting label f z in
     record {
       stands = record { inside = h; short = omega arith; whole = w };
       kept = refl;
-      out-few = omega arith;
-      records-few = omega arith;
-      answer = ap (λ (st : State). passOf front 0 (run version place (drop place file) st)) e;
-      sheet-is = λ h. ap (λ (st : State). take front sheet ++ layoutAll sheetVersion (run version place (drop place file) st).records) e;
+      out_few = omega arith;
+      records_few = omega arith;
+      answer = ap (λ (st : State). pass_of front 0 (run version place (drop place file) st)) e;
+      sheet_is = λ h. ap (λ (st : State). take front sheet ++ layout_all sheet_version (run version place (drop place file) st).records) e;
     }
 
 module _ (version : ℕ) (file : List ℕ) (place : ℕ) (sheet₀ : List ℕ) (front : ℕ) (sheet : List ℕ) (at out records : ℕ)
@@ -101,104 +101,104 @@ module _ (version : ℕ) (file : List ℕ) (place : ℕ) (sheet₀ : List ℕ) (
   Laid s = LaidBy (next version (take (length file - at) (drop at file)) state) sheet s out
 
   abbrev all : List ℕ
-  all = layoutAll sheetVersion (items_of version place file).records
+  all = layout_all sheet_version (items_of version place file).records
 
   -- the records that are left end where the whole sheet does
-  bytes_left : out + length (layoutAll sheetVersion (left version file at setting label).records) ≡ front + length all
-  unfolding passOf
-  bytes_left = ap (λ (q : Passed). q.bytes) G.answer
+  bytes_left_lem : out + length (layout_all sheet_version (left version file at setting label).records) ≡ front + length all
+  unfolding pass_of
+  bytes_left_lem = ap (λ (q : Passed). q.bytes) G.answer
 
   -- the pass ends here
   abbrev pub Ends : Passed → List ℕ → Type 0
-  Ends a s = (a ≡ passOf front 0 (items_of version place file)) × LaidFreely sheet₀ s front all
+  Ends a s = (a ≡ pass_of front 0 (items_of version place file)) × LaidFreely sheet₀ s front all
 
   ends : {v : Verdict} {s : List ℕ} → left version file at setting label ≡ stop v → s ≡ sheet → Ends (passed_by v out records) s
-  unfolding layoutAll
+  unfolding layout_all
   ends {v} {s} e q =
-      let n : out ≡ front + length all = let z = rw e at bytes_left in omega arith in (
-        sym (pass-stop out records v) ∙ rw e at G.answer,
+      let n : out ≡ front + length all = let z = rw e at bytes_left_lem in omega arith in (
+        sym (pass_stop out records v) ∙ rw e at G.answer,
         record {
           kept = ap length q ∙ G.kept;
-          front = λ h. rw (← n, q) (sym (append-nil (take out sheet)) ∙ rw e at (G.sheet-is h));
+          front = λ h. rw (← n, q) (sym (append-nil (take out sheet)) ∙ rw e at (G.sheet_is h));
         },
       )
 
-  pub ends-bad : (k : ℕ) (b s : List ℕ) → Found version file at setting label (Bad k) b → s ≡ sheet → Ends (passed_by (Refusal k at) out records) s
-  ends-bad k b s T e = ends (left-bad version file at state T.same) e
+  pub ends_bad : (k : ℕ) (b s : List ℕ) → Found version file at setting label (Bad k) b → s ≡ sheet → Ends (passed_by (Refusal k at) out records) s
+  ends_bad k b s T e = ends (left_bad version file at state T.same) e
 
-  pub ends-end : (b s : List ℕ) → Found version file at setting label End b → s ≡ sheet
+  pub ends_end : (b s : List ℕ) → Found version file at setting label End b → s ≡ sheet
       → Ends (passed_by (ended at (take (length file - at) (drop at file))) out records) s
-  ends-end b s T e = ends (left_end version file at state T.same) e
+  ends_end b s T e = ends (left_end version file at state T.same) e
 
   -- the item's bytes are there; which buffer they are seen by is all one
-  pub item-within : (it : Step) (b : List ℕ) → Found version file at setting label it b → Within (length file) at (seen it [])
-  item-within (Bad k) b T = tt
-  item-within End b T = tt
-  item-within (On n m st) b T = there-within version file at state G.stands.inside T.same
-  item-within (Made n m st f kept) b T = there-within version file at state G.stands.inside T.same
+  pub item_within : (it : Step) (b : List ℕ) → Found version file at setting label it b → Within (length file) at (seen it [])
+  item_within (Bad k) b T = tt
+  item_within End b T = tt
+  item_within (On n m st) b T = there_within version file at state G.stands.inside T.same
+  item_within (Made n m st f kept) b T = there_within version file at state G.stands.inside T.same
 
   pub going_on : (n m : ℕ) (st : Setting) (b s : List ℕ) → Found version file at setting label (On n m st) b → Laid s
       → Going version file place sheet₀ front s (at + n) out records st (record { bytes = b; len = m })
   going_on n m st b s T e =
-      let z = item-within (On n m st) b T in
+      let z = item_within (On n m st) b T in
       let q : s ≡ sheet = rw (← T.same) at e in
-      let l = left-on version file at state T.same in
+      let l = left_on version file at state T.same in
       record {
         stands = record { inside = z.1; short = T.short; whole = T.whole };
         kept = ap length q ∙ G.kept;
-        out-few = omega (arith, G.out-few);
-        records-few = omega (arith, G.records-few);
+        out_few = omega (arith, G.out_few);
+        records_few = omega (arith, G.records_few);
         answer = rw l at G.answer;
-        sheet-is = λ h. rw q (rw l at (G.sheet-is h));
+        sheet_is = λ h. rw q (rw l at (G.sheet_is h));
       }
 
-  pub going-made : (n m size : ℕ) (st : Setting) (f : Fields) (own : ℕ) (b s : List ℕ)
+  pub going_made : (n m size : ℕ) (st : Setting) (f : Fields) (own : ℕ) (b s : List ℕ)
       → Found version file at setting label (Made n m st f own) b → Laid s
-      → (size ≡ recordSize f m) × (size ≤ 4130) → Going version file place sheet₀ front s (at + n) (out + size) (records + 1) st (record { bytes = b; len = m })
-  unfolding layoutAll
-  going-made n m size st f own b s T e q =
-      let z = item-within (Made n m st f own) b T in
-      let r = recordOf f (take m b) in
+      → (size ≡ record_size f m) × (size ≤ 4130) → Going version file place sheet₀ front s (at + n) (out + size) (records + 1) st (record { bytes = b; len = m })
+  unfolding layout_all
+  going_made n m size st f own b s T e q =
+      let z = item_within (Made n m st f own) b T in
+      let r = record_of f (take m b) in
       let t : length (take m b) ≡ m = length-take-le m b (omega (arith, T.short, T.whole)) in
-      let k : size ≡ length (layout sheetVersion r) = q.0 ∙ sym (layout-size f (take m b) ∙ rw t) in
-      let R = layout sheetVersion r in
+      let k : size ≡ length (layout sheet_version r) = q.0 ∙ sym (layout_size f (take m b) ∙ rw t) in
+      let R = layout sheet_version r in
       let y : LaidFreely sheet s out R = rw (← T.same) at e in
-      let l = left-made version file at state T.same in
+      let l = left_made version file at state T.same in
       record {
         stands = record { inside = z.1; short = T.short; whole = T.whole };
         kept = y.kept ∙ G.kept;
-        out-few = omega (arith, G.out-few, q.1);
-        records-few = omega (arith, G.records-few);
-        answer = rw k (sym (pass-also out records r _) ∙ rw l at G.answer);
-        sheet-is = λ h.
-            let w = rw l at bytes_left in
-            let rest = layoutAll sheetVersion (left version file (at + n) st (record { bytes = b; len = m })).records in
+        out_few = omega (arith, G.out_few, q.1);
+        records_few = omega (arith, G.records_few);
+        answer = rw k (sym (pass_also out records r _) ∙ rw l at G.answer);
+        sheet_is = λ h.
+            let w = rw l at bytes_left_lem in
+            let rest = layout_all sheet_version (left version file (at + n) st (record { bytes = b; len = m })).records in
             let c = length-append R rest in
             let fits : out + length R ≤ length sheet = omega (arith, h, G.kept, w, c) in
             rw k (ap (λ (x : List ℕ). x ++ rest) (y.front fits)
             ∙ append_assoc (take out sheet) R rest
-            ∙ rw l at (G.sheet-is h));
+            ∙ rw l at (G.sheet_is h));
       }
 
 -- ---- what is laid behind the front of a sheet, just to its end
 
 -- no byte stands behind what is laid
-whole-laid : (d d' s : List ℕ) (k : ℕ) → k + length s ≡ length d → LaidFreely d d' k s → d' ≡ laid d k s
+whole_laid : (d d' s : List ℕ) (k : ℕ) → k + length s ≡ length d → LaidFreely d d' k s → d' ≡ laid d k s
 unfolding laid
-whole-laid d d' s k e L =
+whole_laid d d' s k e L =
     let n : length d' ≡ k + length s = L.kept ∙ sym e in
     let z : drop (k + length s) d ≡ [] = rw e (drop-length d) in
     sym (take_all (k + length s) d' (omega arith)) ∙ L.front (omega arith) ∙ rw (z, append-nil s)
 
-pub filled-behind : (front rest old y s : List ℕ) (k b : ℕ) → length front ≡ k → b ≡ k + length rest → b ≤ length old → s ≡ over front old
+pub filled_behind : (front rest old y s : List ℕ) (k b : ℕ) → length front ≡ k → b ≡ k + length rest → b ≤ length old → s ≡ over front old
     → LaidFreely (take b s) y k rest → y ++ drop b s ≡ over (front ++ rest) old
-filled-behind front rest old y s k b f e h p L =
+filled_behind front rest old y s k b f e h p L =
     let m : length s ≡ length old = ap length p ∙ length_over front old (omega arith) in
     let n : length (take b s) ≡ b = length-take-le b s (omega arith) in
     let z : k ≡ 0 + length front = omega arith in
-    ap (λ (x : List ℕ). x ++ drop b s) (whole-laid (take b s) y rest k (omega arith) L)
-    ∙ laid-within s rest k b (omega arith) (omega arith)
-    ∙ ap (λ (d : List ℕ). laid d k rest) (p ∙ sym (laid-zero old front))
+    ap (λ (x : List ℕ). x ++ drop b s) (whole_laid (take b s) y rest k (omega arith) L)
+    ∙ laid_within s rest k b (omega arith) (omega arith)
+    ∙ ap (λ (d : List ℕ). laid d k rest) (p ∙ sym (laid_zero old front))
     ∙ ap (λ (i : ℕ). laid (laid old 0 front) i rest) z
     ∙ laid_next old front rest 0 (omega arith)
-    ∙ laid-zero old (front ++ rest)
+    ∙ laid_zero old (front ++ rest)

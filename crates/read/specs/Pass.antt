@@ -1,7 +1,7 @@
 -- The two passes over the items of a file that was opened. Assumes nothing.
 use Rattle.std.specs.Prelude.{ℕ, ◌+◌, ◌≤◌, List, length, ◌≡◌}
-use Rattle.format.specs.Sheet.{sheetVersion, sheetOf}
-use Rattle.format.specs.Reading.{items_of, readOutcome, readBuffer}
+use Rattle.format.specs.Sheet.{sheet_version, sheet_of}
+use Rattle.format.specs.Reading.{items_of, read_outcome, read_buffer}
 use Rattle.format.specs.Refusals.{Result}
 use Rattle.header.specs.Head.{saying, Opens}
 use Rattle.measure.specs.declared.Passed.{Passed}
@@ -17,35 +17,35 @@ abbrev pub Headed : List ℕ → Heading → Type 0
 Headed file h = Opens file h.version h.place h.extended h.title h.time
 
 -- where the first record goes, and which items a pass goes over
-abbrev pub frontOf : Heading → ℕ
-frontOf h = 7 + h.title + h.time
+abbrev pub front_of : Heading → ℕ
+front_of h = 7 + h.title + h.time
 
-abbrev pub courseOf : Heading → Course
-courseOf h = record { version = h.version; place = h.place; front = frontOf h }
+abbrev pub course_of : Heading → Course
+course_of h = record { version = h.version; place = h.place; front = front_of h }
 
 -- the records of a file's items, and why reading them stops
 abbrev pub result_of : List ℕ → Heading → Result
 result_of file h = items_of h.version h.place file
 
 -- their sheet
-abbrev pub sheetOfHead : List ℕ → Heading → List ℕ
-sheetOfHead file h = sheetOf sheetVersion (saying h.extended h.title h.time file) (result_of file h).records
+abbrev pub sheet_of_head : List ℕ → Heading → List ℕ
+sheet_of_head file h = sheet_of sheet_version (saying h.extended h.title h.time file) (result_of file h).records
 
 -- `judged`: why reading stops, and the bytes and records of the sheet before that
 pub record Judges (file : List ℕ) (h : Heading) (r : Passed) : Type 0 where
-  pub verdict-is : r.verdict ≡ (result_of file h).verdict
-  pub bytes-are : r.bytes ≡ length (sheetOfHead file h)
-  pub records-are : r.records ≡ length (result_of file h).records
+  pub verdict_is : r.verdict ≡ (result_of file h).verdict
+  pub bytes_are : r.bytes ≡ length (sheet_of_head file h)
+  pub records_are : r.records ≡ length (result_of file h).records
 
 -- `fill`: the sheet has so many bytes, and they are there
 pub record Fills (file : List ℕ) (h : Heading) (bytes : ℕ) (sheet : List ℕ) : Type 0 where
-  pub bytes-are : bytes ≡ length (sheetOfHead file h)
+  pub bytes_are : bytes ≡ length (sheet_of_head file h)
   pub fits : bytes ≤ length sheet
 
 -- an answer and the sheet after it are what reading the file gives
 pub record ReadsTo (file old : List ℕ) (a : Answer) (sheet : List ℕ) : Type 0 where
-  pub answer : answer_of a ≡ readOutcome file (length old)
-  pub buffer : sheet ≡ readBuffer file old
+  pub answer : answer_of a ≡ read_outcome file (length old)
+  pub buffer : sheet ≡ read_buffer file old
 
 -- `settle`: the same where the first pass found nothing to refuse, and its refusal where it did
 pub record SettlesTo (file : List ℕ) (total : Passed) (old : List ℕ) (a : Answer) (sheet : List ℕ) : Type 0 where

@@ -1,11 +1,11 @@
 -- A pass that judges names, or none (#108): what it is lent, what it needs and what it comes to. Assumes nothing.
 use Rattle.std.specs.Prelude.{ℕ, ◌+◌, ◌≤◌, ◌<◌, ◌≡◌, Bool, true, false, List, [], length, take}
-use Rattle.format.specs.Header.{fileLimit}
-use Rattle.format.specs.Label.{labelLimit}
+use Rattle.format.specs.Header.{file_limit}
+use Rattle.format.specs.Label.{label_limit}
 use Rattle.format.specs.Refusals.{Result}
 use Rattle.format.specs.Reading.{next, items_of}
 use Rattle.format.specs.State.{State, Record, Next, bad, end, on, made}
-use Rattle.format.specs.Sheet.{sheetVersion, layout, layoutAll, recordLimit, frontLimit}
+use Rattle.format.specs.Sheet.{sheet_version, layout, layout_all, record_limit, front_limit}
 use Rattle.format.specs.Fields.{state_of}
 use Rattle.format.specs.declared.Setting.{Setting}
 use Rattle.layout.specs.Freely.{LaidFreely}
@@ -13,8 +13,8 @@ use Rattle.item.specs.Seen.{Tells}
 use Rattle.item.specs.declared.Step.{Step}
 use Rattle.table.specs.Told.{Holds}
 use Rattle.table.specs.declared.Index.{Index}
-use Rattle.strict.specs.Strict.{strictItems}
-use Rattle.strict.specs.Indexed.{Knows, strictNext, behind}
+use Rattle.strict.specs.Strict.{strict_items}
+use Rattle.strict.specs.Indexed.{Knows, strict_next, behind}
 use Rattle.read.specs.declared.Before.{Before}
 use Rattle.read.specs.declared.Course.{Course}
 use Rattle.read.specs.declared.Moved.{Moved}
@@ -27,16 +27,16 @@ use Rattle.read.specs.declared.Turned.{Turned}
 use Rattle.read.specs.declared.Turned.TheVariants.{Bad, End, Went}
 use Rattle.read.specs.Turning.{Turns, Shortly}
 
-abbrev pub isOn : Rule → Bool
-isOn Off = false
-isOn (On i) = true
+abbrev pub is_on : Rule → Bool
+is_on Off = false
+is_on (On i) = true
 
 -- ---- before a pass
 
 pub record Begins (file : List ℕ) (c : Course) : Type 0 where
-  pub fits : length file ≤ fileLimit
+  pub fits : length file ≤ file_limit
   pub inside : c.place ≤ length file
-  pub front-few : c.front ≤ frontLimit
+  pub front_few : c.front ≤ front_limit
 
 -- one that judges has an index of no names in the room that it is lent; a file's first item stands behind its identifier
 abbrev pub BeginsBy : Rule → ℕ → List ℕ → Type 0
@@ -45,13 +45,13 @@ BeginsBy (On i) place d = Knows d i [] × (2 ≤ place)
 
 -- ---- what it comes to
 
-abbrev pub itemsBy : Rule → ℕ → Course → List ℕ → Result
-itemsBy Off room c file = items_of c.version c.place file
-itemsBy (On i) room c file = strictItems c.version room c.place file
+abbrev pub items_by : Rule → ℕ → Course → List ℕ → Result
+items_by Off room c file = items_of c.version c.place file
+items_by (On i) room c file = strict_items c.version room c.place file
 
 -- what it was lent: the sheet holds the records then, where they all fit; of the room for names nothing is said
 abbrev pub LentBy : Rule → List ℕ → List ℕ → Course → List ℕ → Type 0
-LentBy Off d d' c file = LaidFreely d d' c.front (layoutAll sheetVersion (items_of c.version c.place file).records)
+LentBy Off d d' c file = LaidFreely d d' c.front (layout_all sheet_version (items_of c.version c.place file).records)
 LentBy (On i) d d' c file = length d' ≡ length d
 
 -- ---- an item
@@ -65,13 +65,13 @@ abbrev pub GoesBy : Next → Moved → State → Type 0
 GoesBy (bad k) by st = ⊥
 GoesBy end by st = ⊥
 GoesBy (on n s) by st = (by.size ≡ n) × (by.bytes ≡ 0) × (by.records ≡ 0) × (s ≡ st)
-GoesBy (made n r s) by st = (by.size ≡ n) × (by.bytes ≡ length (layout sheetVersion r)) × (by.records ≡ 1) × (s ≡ st)
+GoesBy (made n r s) by st = (by.size ≡ n) × (by.bytes ≡ length (layout sheet_version r)) × (by.records ≡ 1) × (s ≡ st)
 
 -- the index after it: b is the label's buffer
 abbrev pub RuledOn : Rule → Moved → Setting → List ℕ → List ℕ → List Record → Next → Type 0
 RuledOn Off by after room b earlier x = ⊥
 RuledOn (On i) by after room b earlier x =
-    GoesBy x by (state_of after (take by.len b)) × (by.len ≤ labelLimit) × (by.bytes ≤ recordLimit) × Knows room i (behind x earlier)
+    GoesBy x by (state_of after (take by.len b)) × (by.len ≤ label_limit) × (by.bytes ≤ record_limit) × Knows room i (behind x earlier)
 
 abbrev pub RuledAs : Turned → List ℕ → List ℕ → List Record → Next → Type 0
 RuledAs (Bad k) room b earlier x = x ≡ bad k
@@ -80,7 +80,7 @@ RuledAs (Went by after rule) room b earlier x = RuledOn rule by after room b ear
 
 -- `judge_step`: whatever came earlier, where the index knows it
 abbrev pub RulesIn : Turned → Index → List ℕ → Next → List ℕ → List ℕ → Type 0
-RulesIn r i b x d d' = (earlier : List Record) → Knows d i earlier → RuledAs r d' b earlier (strictNext (length d) earlier x)
+RulesIn r i b x d d' = (earlier : List Record) → Knows d i earlier → RuledAs r d' b earlier (strict_next (length d) earlier x)
 
 pub record Rules (r : Turned) (i : Index) (x : Next) (b d d' : List ℕ) : Type 0 where
   pub step : Step

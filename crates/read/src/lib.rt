@@ -1,24 +1,24 @@
 // Reading a whole file into a sheet: a first pass judges every item and measures the
 // sheet, a second lays the records in.
 ghost use Rattle.std.specs.Prelude.{◌≡◌, List, [], ℕ, ◌+◌, ◌^◌, ◌≤◌, ◌<◌, length, replicate};
-ghost use Rattle.format.specs.State.{startSetting};
-ghost use Rattle.format.specs.Reading.{items_of, readOutcome, readBuffer};
+ghost use Rattle.format.specs.State.{start_setting};
+ghost use Rattle.format.specs.Reading.{items_of, read_outcome, read_buffer};
 ghost use Rattle.format.specs.Answers.{answer_of};
-ghost use Rattle.measure.specs.Totals.{passOf, passed_by};
-ghost use Rattle.read.specs.Pass.{Headed, Judges, Fills, sheetOfHead, ReadsTo, SettlesTo, frontOf, courseOf};
-ghost use Rattle.read.specs.Ruling.{isOn, ReadyTo, RulesIn, AnyItem, ShortTurn, Begins, BeginsAs, itemsBy, LentBy};
-ghost use Rattle.strict.specs.Strict.{strictItems, strictOutcome, strictBuffer};
+ghost use Rattle.measure.specs.Totals.{pass_of, passed_by};
+ghost use Rattle.read.specs.Pass.{Headed, Judges, Fills, sheet_of_head, ReadsTo, SettlesTo, front_of, course_of};
+ghost use Rattle.read.specs.Ruling.{is_on, ReadyTo, RulesIn, AnyItem, ShortTurn, Begins, BeginsAs, items_by, LentBy};
+ghost use Rattle.strict.specs.Strict.{strict_items, strict_outcome, strict_buffer};
 ghost use Rattle.table.specs.Told.{Holds};
 ghost use Rattle.item.specs.Seen.{seen, Short as ShortStep};
-ghost use Rattle.read.specs.Turning.{Few, Ready, ReadyFor, SmallJoint, ahead_of, passedOf, recordBy, sameJoint, TurnsLine, Shortly, Turns};
+ghost use Rattle.read.specs.Turning.{Few, Ready, ReadyFor, SmallJoint, ahead_of, passed_of, record_by, same_joint, TurnsLine, Shortly, Turns};
 ghost use Rattle.item.specs.Commonest.{moved_to, extended};
 ghost use Rattle.laying.specs.Quickly.{Joined};
 ghost use Rattle.layout.specs.Freely.{LaidFreely};
-ghost use Rattle.read.specs.Salvage.{reportNumber, reportPlace, salvageOutcome, salvageBuffer, salvagedOf, SalvagesTo};
+ghost use Rattle.read.specs.Salvage.{report_number, report_place, salvage_outcome, salvage_buffer, salvaged_of, SalvagesTo};
 ghost use Rattle.format.specs.Bytes.{over};
-ghost use Rattle.format.specs.Header.{titleLimit, timeLimit};
-ghost use Rattle.format.specs.Label.{labelLimit};
-ghost use Rattle.short.specs.Brief.{Finds, placeAt};
+ghost use Rattle.format.specs.Header.{title_limit, time_limit};
+ghost use Rattle.format.specs.Label.{label_limit};
+ghost use Rattle.short.specs.Brief.{Finds, place_at};
 
 use decode::get_point;
 use format::{Answer, LABEL_LIMIT, Point, Position, Setting, Verdict};
@@ -101,7 +101,7 @@ enum Common {
 // The item at the front of s, after a label of len bytes, where it is one of the commonest.
 // (`short_item` has other callers, and so is not joined to the loop.)
 fn find_short(version: u8, s: &[u8], len: usize) -> Short
-    requires { len ≤ labelLimit }
+    requires { len ≤ label_limit }
     ensures { Finds result version s.now len }
 {
     if version < 8 {
@@ -125,7 +125,7 @@ fn moved_by(size: usize, len: usize, bytes: usize, records: usize) -> Moved
 
 // At the first item of a file.
 fn outset(place: usize, front: usize) -> Stand
-    ensures { result ≡ record { here = record { at = place; out = front; records = 0; len = 0 }; setting = startSetting } }
+    ensures { result ≡ record { here = record { at = place; out = front; records = 0; len = 0 }; setting = start_setting } }
 {
     let here = Progress {
         at: place,
@@ -153,7 +153,7 @@ fn ahead(here: Progress, by: Moved) -> Progress
 // Behind one that makes no record.
 fn passed(here: Progress, size: usize, len: usize) -> Progress
     requires { here.at + size < 2 ^ 62 }
-    ensures { result ≡ passedOf here size len }
+    ensures { result ≡ passed_of here size len }
 {
     Progress {
         at: here.at + size,
@@ -166,7 +166,7 @@ fn passed(here: Progress, size: usize, len: usize) -> Progress
 // Behind one that makes a record with so many bytes beside its label.
 fn behind(here: Progress, joint: Joint, head: usize) -> Progress
     requires { Few here × SmallJoint joint × (head ≤ 34) }
-    ensures { result ≡ ahead_of here (recordBy joint head) }
+    ensures { result ≡ ahead_of here (record_by joint head) }
 {
     let len = joint.keep + joint.add;
     Progress {
@@ -225,8 +225,8 @@ fn turn_again(
     flags: u8,
     sheet: &mut [u8],
 ) -> Common
-    requires { (33 ≤ length s.now) × Ready stand.here bytes.old × (stand.here.len + 16 ≤ labelLimit) }
-    ensures { TurnsLine result stand (sameJoint stand.here) 1 flags s.now bytes.old bytes.old bytes.new sheet.old sheet.new }
+    requires { (33 ≤ length s.now) × Ready stand.here bytes.old × (stand.here.len + 16 ≤ label_limit) }
+    ensures { TurnsLine result stand (same_joint stand.here) 1 flags s.now bytes.old bytes.old bytes.new sheet.old sheet.new }
 {
     let setting = stand.setting;
     let position = setting.position;
@@ -244,7 +244,7 @@ fn turn_again(
 // A MOVE.
 fn turn_move(s: &[u8], here: Progress, setting: Setting) -> Common
     requires { (13 ≤ length s.now) × Few here }
-    ensures { result ≡ Common.Went (record { here = passedOf here 13 here.len; setting = moved_to setting (placeAt s.now 1) }) }
+    ensures { result ≡ Common.Went (record { here = passed_of here 13 here.len; setting = moved_to setting (place_at s.now 1) }) }
 {
     let to = get_point(&s[1..]);
     let next = passed(here, 13, here.len);
@@ -361,7 +361,7 @@ fn judged_on(by: Moved, setting: Setting, index: Index) -> Turned
 // What an item's step comes to once the record that it makes is judged, with the label in the
 // first bytes of a buffer.
 fn judge_step(room: &mut [u8], index: Index, step: Step, bytes: &[u8; LABEL_LIMIT]) -> Turned
-    requires { Holds room.old index × ShortStep step × (length bytes.now ≡ labelLimit) × (index.count < 16777215) }
+    requires { Holds room.old index × ShortStep step × (length bytes.now ≡ label_limit) × (index.count < 16777215) }
     ensures { RulesIn result index bytes.now (seen step bytes.now) room.old room.new }
 {
     match step {
@@ -413,7 +413,7 @@ fn any_item(
 }
 
 fn is_on(rule: Rule) -> bool
-    ensures { result ≡ isOn rule }
+    ensures { result ≡ is_on rule }
 {
     match rule {
         Rule::Off => false,
@@ -463,7 +463,7 @@ struct Course {
 // it judges stations and cross-sections.
 fn pass(file: &[u8], course: Course, lent: &mut [u8], first: Rule) -> Passed
     requires { Begins file.now course × BeginsAs first course.place lent.old }
-    ensures answer { result ≡ passOf course.front 0 (itemsBy first (length lent.old) course file.now) }
+    ensures answer { result ≡ pass_of course.front 0 (items_by first (length lent.old) course file.now) }
     ensures lent { LentBy first lent.old lent.new course file.now }
 {
     let mut label = label::blank();
@@ -505,7 +505,7 @@ fn pass(file: &[u8], course: Course, lent: &mut [u8], first: Rule) -> Passed
 // The first pass: the answer for a sheet with room enough. The sheet stays as it was.
 fn measured(file: &[u8], sheet: &mut [u8], course: Course) -> Passed
     requires { Begins file.now course × (course.version ≤ 8) }
-    ensures answer { result ≡ passOf course.front 0 (items_of course.version course.place file.now) }
+    ensures answer { result ≡ pass_of course.front 0 (items_of course.version course.place file.now) }
     ensures sheet { sheet.new ≡ sheet.old }
 {
     if course.version < 8 {
@@ -526,8 +526,8 @@ struct Heading {
 }
 
 fn course_of(head: Heading) -> Course
-    requires { (head.title ≤ titleLimit) × (head.time ≤ timeLimit) }
-    ensures { result ≡ courseOf head }
+    requires { (head.title ≤ title_limit) × (head.time ≤ time_limit) }
+    ensures { result ≡ course_of head }
 {
     Course {
         version: head.version,
@@ -548,7 +548,7 @@ fn judged(file: &[u8], sheet: &mut [u8], head: Heading) -> Passed
 // The second pass: the sheet of the records before the first refused item, of so many bytes.
 fn fill(file: &[u8], sheet: &mut [u8], head: Heading, bytes: usize)
     requires { Headed file.now head × Fills file.now head bytes sheet.old }
-    ensures { sheet.new ≡ over (sheetOfHead file.now head) sheet.old }
+    ensures { sheet.new ≡ over (sheet_of_head file.now head) sheet.old }
 {
     let ends = 24 + head.title;
     let from = ends + 1;
@@ -595,8 +595,8 @@ fn read_items(file: &[u8], sheet: &mut [u8], head: Heading) -> Answer
 
 // Reads a file into the lent sheet.
 pub fn read(file: &[u8], sheet: &mut [u8]) -> Answer
-    ensures answer { answer_of result ≡ readOutcome file.now (length sheet.old) }
-    ensures sheet { sheet.new ≡ readBuffer file.now sheet.old }
+    ensures answer { answer_of result ≡ read_outcome file.now (length sheet.old) }
+    ensures sheet { sheet.new ≡ read_buffer file.now sheet.old }
 {
     let head = header::opening(file);
     match head {
@@ -648,7 +648,7 @@ struct Report {
 }
 
 fn reported(verdict: Verdict, size: usize) -> Report
-    ensures { (result.number ≡ reportNumber verdict) × (result.place ≡ reportPlace verdict size) }
+    ensures { (result.number ≡ report_number verdict) × (result.place ≡ report_place verdict size) }
 {
     match verdict {
         Verdict::Good => Report {
@@ -688,8 +688,8 @@ fn salvage_items(file: &[u8], sheet: &mut [u8], head: Heading) -> Salvaged
 // Writes the records that the items of a file make before the first refused one to the lent
 // sheet.
 pub fn salvage(file: &[u8], sheet: &mut [u8]) -> Salvaged
-    ensures answer { salvagedOf result ≡ salvageOutcome file.now (length sheet.old) }
-    ensures sheet { sheet.new ≡ salvageBuffer file.now sheet.old }
+    ensures answer { salvaged_of result ≡ salvage_outcome file.now (length sheet.old) }
+    ensures sheet { sheet.new ≡ salvage_buffer file.now sheet.old }
 {
     let head = header::opening(file);
     match head {
@@ -726,7 +726,7 @@ fn cleared(_names: usize, room: usize) -> usize
 // The first pass with the names judged in lent room, which then holds zeros.
 fn judge_names(file: &[u8], head: Heading, room: &mut [u8], seed: u64) -> Passed
     requires { Headed file.now head }
-    ensures total { result ≡ passOf (frontOf head) 0 (strictItems head.version (length room.old) head.place file.now) }
+    ensures total { result ≡ pass_of (front_of head) 0 (strict_items head.version (length room.old) head.place file.now) }
     ensures room { room.new ≡ replicate (length room.old) 0 }
 {
     let index = table::empty(room, seed);
@@ -740,8 +740,8 @@ fn judge_names(file: &[u8], head: Heading, room: &mut [u8], seed: u64) -> Passed
 // Reads a file into the lent sheet and refuses unknown and moved stations, with lent room
 // for an index of names and a seed for its hash. The room then holds zeros.
 pub fn read_strict(file: &[u8], sheet: &mut [u8], room: &mut [u8], seed: u64) -> Answer
-    ensures answer { answer_of result ≡ strictOutcome file.now (length room.old) (length sheet.old) }
-    ensures sheet { sheet.new ≡ strictBuffer file.now (length room.old) sheet.old }
+    ensures answer { answer_of result ≡ strict_outcome file.now (length room.old) (length sheet.old) }
+    ensures sheet { sheet.new ≡ strict_buffer file.now (length room.old) sheet.old }
     ensures room { room.new ≡ replicate (length room.old) 0 }
 {
     let opening = header::opening(file);

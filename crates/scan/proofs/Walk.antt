@@ -13,58 +13,58 @@ use Rattle.format.specs.Fields.{state_of}
 use Rattle.format.specs.declared.Fields.{Fields}
 use Rattle.format.specs.declared.Setting.{Setting}
 use Rattle.format.specs.declared.Verdict.TheVariants.{Good, Refusal}
-use Rattle.format.proofs.Basics.{pick_true, pick-false, less-or-not}
-use Rattle.format.proofs.IterateLaws.{iter-eq}
-use Rattle.format.proofs.ReadingLaws.{SizedNext, next-sized, Within, next-there, there-within, left-bad, left_after, left-done, left-on, left-made}
+use Rattle.format.proofs.Basics.{pick_true, pick_false, less_or_not}
+use Rattle.format.proofs.IterateLaws.{iter_eq}
+use Rattle.format.proofs.ReadingLaws.{SizedNext, next_sized, Within, next_there_lem, there_within, left_bad, left_after, left_done, left_on, left_made}
 use Rattle.item.specs.Seen.{seen, Tells}
 use Rattle.item.specs.declared.Step.{Step}
 use Rattle.item.specs.declared.Step.TheVariants.{Bad, End, On, Made}
-use Rattle.scan.specs.Places.{stateAt, left_at, Coming, stops, makes, comingItem, comingStep, coming, endedAt, Finds}
+use Rattle.scan.specs.Places.{state_at, left_at, Coming, stops, makes, coming_item, coming_step, coming, ended_at, Finds}
 use Rattle.scan.specs.declared.Place.{Place}
 use Rattle.scan.specs.declared.Found.{Found}
 use Rattle.scan.specs.declared.Found.TheVariants.{Refused as FoundRefused, End as FoundEnd, Record as FoundRecord}
 
 -- ---- the equation of `coming`
 
-item-cong : (m : ℕ) (x : Next) (at : ℕ) (s : List ℕ) (f g : ℕ → State → Coming) → SizedNext m x
-    → ((k : ℕ) (st : State) → 0 < k → k ≤ m → f k st ≡ g k st) → comingItem x at s f ≡ comingItem x at s g
-item-cong m (bad k) at s f g z e = refl
-item-cong m end at s f g z e = refl
-item-cong m (on n st) at s f g z e = e n st z.0 z.1
-item-cong m (made n r st) at s f g z e = refl
+item_cong : (m : ℕ) (x : Next) (at : ℕ) (s : List ℕ) (f g : ℕ → State → Coming) → SizedNext m x
+    → ((k : ℕ) (st : State) → 0 < k → k ≤ m → f k st ≡ g k st) → coming_item x at s f ≡ coming_item x at s g
+item_cong m (bad k) at s f g z e = refl
+item_cong m end at s f g z e = refl
+item_cong m (on n st) at s f g z e = e n st z.0 z.1
+item_cong m (made n r st) at s f g z e = refl
 
-coming-cong : (version at : ℕ) (s : List ℕ) (st : State) (f g : ℕ → State → Coming)
-    → ((k : ℕ) (st' : State) → 0 < k → k ≤ length s → f k st' ≡ g k st') → comingStep version at s st f ≡ comingStep version at s st g
-unfolding comingStep
-coming-cong version at s st f g e = item-cong (length s) (next version s st) at s f g (next-sized version s st) e
+coming_cong : (version at : ℕ) (s : List ℕ) (st : State) (f g : ℕ → State → Coming)
+    → ((k : ℕ) (st' : State) → 0 < k → k ≤ length s → f k st' ≡ g k st') → coming_step version at s st f ≡ coming_step version at s st g
+unfolding coming_step
+coming_cong version at s st f g e = item_cong (length s) (next version s st) at s f g (next_sized version s st) e
 
-pub coming-eq : (version at : ℕ) (s : List ℕ) (st : State)
-    → coming version at s st ≡ comingItem (next version s st) at s (λ n st'. coming version (at + n) (drop n s) st')
-unfolding coming comingStep
-coming-eq version at s st = iter-eq (comingStep version) (λ p. stops (Refusal 5 p)) (coming-cong version) at s st
+pub coming_eq : (version at : ℕ) (s : List ℕ) (st : State)
+    → coming version at s st ≡ coming_item (next version s st) at s (λ n st'. coming version (at + n) (drop n s) st')
+unfolding coming coming_step
+coming_eq version at s st = iter_eq (coming_step version) (λ p. stops (Refusal 5 p)) (coming_cong version) at s st
 
 -- at a place of a file, by what the item there comes to
 module _ (version : ℕ) (file : List ℕ) (at : ℕ) (st : State) where
   abbrev there : Coming
   there = coming version at (drop at file) st
 
-  coming-by : {x : Next} → x ≡ next version (take (length file - at) (drop at file)) st
-      → there ≡ comingItem x at (drop at file) (λ n st'. coming version (at + n) (drop (at + n) file) st')
-  coming-by {x} e =
-      coming-eq version at (drop at file) st ∙ rw (next-there version file at st e) (item-same x)
+  coming_by : {x : Next} → x ≡ next version (take (length file - at) (drop at file)) st
+      → there ≡ coming_item x at (drop at file) (λ n st'. coming version (at + n) (drop (at + n) file) st')
+  coming_by {x} e =
+      coming_eq version at (drop at file) st ∙ rw (next_there_lem version file at st e) (item_same x)
     where
-      item-same : (y : Next)
-          → comingItem y at (drop at file) (λ n st'. coming version (at + n) (drop n (drop at file)) st')
-          ≡ comingItem y at (drop at file) (λ n st'. coming version (at + n) (drop (at + n) file) st')
-      item-same (bad k) = refl
-      item-same end = refl
-      item-same (on n st') = ap (λ (s : List ℕ). coming version (at + n) s st') (drop-drop n at file)
-      item-same (made n r st') = refl
+      item_same : (y : Next)
+          → coming_item y at (drop at file) (λ n st'. coming version (at + n) (drop n (drop at file)) st')
+          ≡ coming_item y at (drop at file) (λ n st'. coming version (at + n) (drop (at + n) file) st')
+      item_same (bad k) = refl
+      item_same end = refl
+      item_same (on n st') = ap (λ (s : List ℕ). coming version (at + n) s st') (drop-drop n at file)
+      item_same (made n r st') = refl
 
 -- ---- the loop
 
-abbrev stateIn : Setting → ℕ → List ℕ → State
-stateIn setting len b = state_of setting (take len b)
+abbrev state_in : Setting → ℕ → List ℕ → State
+state_in setting len b = state_of setting (take len b)
 
 -- the loop has come from `was` to an item at `at`
 pub record Going (version : ℕ) (file : List ℕ) (was : Place) (b₀ : List ℕ) (at len : ℕ) (setting : Setting) (b : List ℕ) : Type 0 where
@@ -72,67 +72,67 @@ pub record Going (version : ℕ) (file : List ℕ) (was : Place) (b₀ : List �
   pub short : len ≤ 4096
   pub whole : length b ≡ 4096
   pub on : was.at ≤ at
-  pub same : left_at version file was b₀ ≡ run version at (drop at file) (stateIn setting len b)
-  pub next-is : coming version was.at (drop was.at file) (stateAt was b₀) ≡ coming version at (drop at file) (stateIn setting len b)
+  pub same : left_at version file was b₀ ≡ run version at (drop at file) (state_in setting len b)
+  pub next_is : coming version was.at (drop was.at file) (state_at was b₀) ≡ coming version at (drop at file) (state_in setting len b)
 
-pub going-first : (version : ℕ) (file : List ℕ) (was : Place) (b : List ℕ) → was.at ≤ length file → was.len ≤ 4096 → length b ≡ 4096
+pub going_first : (version : ℕ) (file : List ℕ) (was : Place) (b : List ℕ) → was.at ≤ length file → was.len ≤ 4096 → length b ≡ 4096
     → Going version file was b was.at was.len was.setting b
-going-first version file was b h s w = record { inside = h; short = s; whole = w; on = omega arith; same = refl; next-is = refl }
+going_first version file was b h s w = record { inside = h; short = s; whole = w; on = omega arith; same = refl; next_is = refl }
 
 module _ (version : ℕ) (file : List ℕ) (was : Place) (b₀ : List ℕ) (at len : ℕ) (setting : Setting) (b : List ℕ)
     (G : Going version file was b₀ at len setting b) where
   abbrev st : State
-  st = stateIn setting len b
+  st = state_in setting len b
 
   abbrev pub Tell : Step → List ℕ → Type 0
   Tell it b' = Tells it b' (next version (take (length file - at) (drop at file)) st)
 
   came : (it : Step) (b' : List ℕ) → Tell it b'
-      → coming version was.at (drop was.at file) (stateAt was b₀)
-      ≡ comingItem (seen it b') at (drop at file) (λ n st'. coming version (at + n) (drop (at + n) file) st')
-  came it b' T = G.next-is ∙ coming-by version file at st T.same
+      → coming version was.at (drop was.at file) (state_at was b₀)
+      ≡ coming_item (seen it b') at (drop at file) (λ n st'. coming version (at + n) (drop (at + n) file) st')
+  came it b' T = G.next_is ∙ coming_by version file at st T.same
 
-  pub finds-bad : (k : ℕ) (b' : List ℕ) → Tell (Bad k) b' → Finds version file was b₀ (FoundRefused k at) b'
-  finds-bad k b' T = record { next-is = sym (came (Bad k) b' T); same = G.same ∙ left-bad version file at st T.same; further = T.whole }
+  pub finds_bad : (k : ℕ) (b' : List ℕ) → Tell (Bad k) b' → Finds version file was b₀ (FoundRefused k at) b'
+  finds_bad k b' T = record { next_is = sym (came (Bad k) b' T); same = G.same ∙ left_bad version file at st T.same; further = T.whole }
 
-  pub finds-ended : (b' : List ℕ) → Tell End b' → {r : Found} → r ≡ endedAt at (length (drop at file)) → Finds version file was b₀ r b'
-  unfolding endedAt ended
-  finds-ended b' T e =
-      less-or-not 1 (length (drop at file))
+  pub finds_ended : (b' : List ℕ) → Tell End b' → {r : Found} → r ≡ ended_at at (length (drop at file)) → Finds version file was b₀ r b'
+  unfolding ended_at ended
+  finds_ended b' T e =
+      less_or_not 1 (length (drop at file))
       (λ h.
       let t = lt-ltb 1 (length (drop at file)) h in
       rw (e ∙ pick_true _ _ t)
-      (record { next-is = sym (came End b' T ∙ ap stops (pick_true _ _ t)); same = G.same ∙ left_after version file at st T.same h; further = T.whole }))
+      (record { next_is = sym (came End b' T ∙ ap stops (pick_true _ _ t)); same = G.same ∙ left_after version file at st T.same h; further = T.whole }))
       λ h.
       let t = le-ltb 1 (length (drop at file)) h in
-      rw (e ∙ pick-false _ _ t)
-      (record { next-is = sym (came End b' T ∙ ap stops (pick-false _ _ t)); same = G.same ∙ left-done version file at st T.same h; further = T.whole })
+      rw (e ∙ pick_false _ _ t)
+      (record { next_is = sym (came End b' T ∙ ap stops (pick_false _ _ t)); same = G.same ∙ left_done version file at st T.same h; further = T.whole })
 
   -- the item's bytes are there; which buffer they are seen by is all one
-  pub item-within : (it : Step) (b : List ℕ) → Tell it b → Within (length file) at (seen it [])
-  item-within (Bad k) b T = tt
-  item-within End b T = tt
-  item-within (On n m to) b T = there-within version file at st G.inside T.same
-  item-within (Made n m to f kept) b T = there-within version file at st G.inside T.same
+  pub item_within : (it : Step) (b : List ℕ) → Tell it b → Within (length file) at (seen it [])
+  item_within (Bad k) b T = tt
+  item_within End b T = tt
+  item_within (On n m to) b T = there_within version file at st G.inside T.same
+  item_within (Made n m to f kept) b T = there_within version file at st G.inside T.same
 
   pub going_on : (n m : ℕ) (st' : Setting) (b' : List ℕ) → Tell (On n m st') b' → Going version file was b₀ (at + n) m st' b'
   going_on n m st' b' T =
-      let z = item-within (On n m st') b' T in
+      let z = item_within (On n m st') b' T in
       record {
         inside = z.1;
         short = T.short;
         whole = T.whole;
         on = omega (arith, G.on);
-        same = G.same ∙ left-on version file at st T.same;
-        next-is = came (On n m st') b' T;
+        same = G.same ∙ left_on version file at st T.same;
+        next_is = came (On n m st') b' T;
       }
 
-  pub finds-record : (n m : ℕ) (st' : Setting) (f : Fields) (kept : ℕ) (b' : List ℕ) → Tell (Made n m st' f kept) b'
+  pub finds_record : (n m : ℕ) (st' : Setting) (f : Fields) (kept : ℕ) (b' : List ℕ) → Tell (Made n m st' f kept) b'
       → Finds version file was b₀ (FoundRecord (record { at = at + n; len = m; setting = st' }) f) b'
-  finds-record n m st' f kept b' T =
-      let z = item-within (Made n m st' f kept) b' T in
+  finds_record n m st' f kept b' T =
+      let z = item_within (Made n m st' f kept) b' T in
       record {
-        next-is = sym (came (Made n m st' f kept) b' T);
-        same = G.same ∙ left-made version file at st T.same;
-        further = (omega (arith, G.on), record { place_inside = z.1; label-short = T.short; label-whole = T.whole });
+        next_is = sym (came (Made n m st' f kept) b' T);
+        same = G.same ∙ left_made version file at st T.same;
+        further = (omega (arith, G.on), record { place_inside = z.1; label_short = T.short; label_whole = T.whole });
       }

@@ -2,41 +2,41 @@
 use Rattle.std.specs.Prelude.{ℕ, ◌+◌, ◌≤◌, ◌<◌, ◌≡◌, List, length, take, drop, ltb}
 use Rattle.format.specs.Bytes.{pick}
 use Rattle.format.specs.Iterate.{iter}
-use Rattle.format.specs.Label.{labelLimit}
-use Rattle.format.specs.State.{State, startSetting, Record, Next, bad, end, on, made}
+use Rattle.format.specs.Label.{label_limit}
+use Rattle.format.specs.State.{State, start_setting, Record, Next, bad, end, on, made}
 use Rattle.format.specs.Refusals.{Result, stop, also}
 use Rattle.format.specs.declared.Verdict.{Verdict}
 use Rattle.format.specs.declared.Verdict.TheVariants.{Good, Refusal}
 use Rattle.format.specs.Reading.{next, ended, run}
-use Rattle.format.specs.Fields.{recordOf, state_of}
+use Rattle.format.specs.Fields.{record_of, state_of}
 use Rattle.scan.specs.declared.Place.{Place}
 use Rattle.scan.specs.declared.Found.{Found}
 use Rattle.scan.specs.declared.Found.TheVariants.{Refused, End, Record as Recorded}
 
 -- ---- where reading stands; b is the label's buffer
 
-abbrev pub labelIn : Place → List ℕ → List ℕ
-labelIn p b = take p.len b
+abbrev pub label_in : Place → List ℕ → List ℕ
+label_in p b = take p.len b
 
 -- the state there
-abbrev pub stateAt : Place → List ℕ → State
-stateAt p b = state_of p.setting (labelIn p b)
+abbrev pub state_at : Place → List ℕ → State
+state_at p b = state_of p.setting (label_in p b)
 
 -- what the file comes to from there on
 abbrev pub left_at : ℕ → List ℕ → Place → List ℕ → Result
-left_at version file p b = run version p.at (drop p.at file) (stateAt p b)
+left_at version file p b = run version p.at (drop p.at file) (state_at p b)
 
 -- a place that reading of the file can have
 pub record Inside (file : List ℕ) (p : Place) (b : List ℕ) : Type 0 where
   pub place_inside : p.at ≤ length file
-  pub label-short : p.len ≤ labelLimit
-  pub label-whole : length b ≡ 4096
+  pub label_short : p.len ≤ label_limit
+  pub label_whole : length b ≡ 4096
 
 -- "At the start the label is empty, the date none, the style "not said" (5 ..), the position unset"
 pub record Starts (p : Place) (at : ℕ) : Type 0 where
   pub place_is : p.at ≡ at
-  pub label-empty : p.len ≡ 0
-  pub setting-is : p.setting ≡ startSetting
+  pub label_empty : p.len ≡ 0
+  pub setting_is : p.setting ≡ start_setting
 
 -- ---- the next record
 
@@ -46,34 +46,34 @@ pub data Coming : Type 0 where
   makes : Record → ℕ → State → Coming
 
 -- by what the item at a place comes to
-abbrev pub comingItem : Next → ℕ → List ℕ → (ℕ → State → Coming) → Coming
-comingItem (bad k) at s go = stops (Refusal k at)
-comingItem end at s go = stops (ended at s)
-comingItem (on n st) at s go = go n st
-comingItem (made n r st) at s go = makes r (at + n) st
+abbrev pub coming_item : Next → ℕ → List ℕ → (ℕ → State → Coming) → Coming
+coming_item (bad k) at s go = stops (Refusal k at)
+coming_item end at s go = stops (ended at s)
+coming_item (on n st) at s go = go n st
+coming_item (made n r st) at s go = makes r (at + n) st
 
-unfoldable pub comingStep : ℕ → ℕ → List ℕ → State → (ℕ → State → Coming) → Coming
-comingStep version at s st go = comingItem (next version s st) at s go
+unfoldable pub coming_step : ℕ → ℕ → List ℕ → State → (ℕ → State → Coming) → Coming
+coming_step version at s st go = coming_item (next version s st) at s go
 
--- what the items of s come to up to the first that makes a record, with `at` bytes before s: the law `coming-eq` is its equation
+-- what the items of s come to up to the first that makes a record, with `at` bytes before s: the law `coming_eq` is its equation
 unfoldable pub coming : ℕ → ℕ → List ℕ → State → Coming
-coming version at s st = iter (comingStep version) (λ p. stops (Refusal 5 p)) at s st
+coming version at s st = iter (coming_step version) (λ p. stops (Refusal 5 p)) at s st
 
 -- the end item with `left` bytes from it on, as `ended` has it
-unfoldable pub endedAt : ℕ → ℕ → Found
-endedAt at left = pick (ltb 1 left) (Refused 10 (at + 1)) End
+unfoldable pub ended_at : ℕ → ℕ → Found
+ended_at at left = pick (ltb 1 left) (Refused 10 (at + 1)) End
 
 -- an answer and the label's buffer after it, as the definition's value
-abbrev pub foundComing : Found → List ℕ → Coming
-foundComing (Refused n p) b = stops (Refusal n p)
-foundComing End b = stops Good
-foundComing (Recorded p f) b = makes (recordOf f (labelIn p b)) p.at (stateAt p b)
+abbrev pub found_coming : Found → List ℕ → Coming
+found_coming (Refused n p) b = stops (Refusal n p)
+found_coming End b = stops Good
+found_coming (Recorded p f) b = makes (record_of f (label_in p b)) p.at (state_at p b)
 
 -- what the file comes to, by an answer and the label's buffer after it
-abbrev pub foundResult : ℕ → List ℕ → Found → List ℕ → Result
-foundResult version file (Refused n p) b = stop (Refusal n p)
-foundResult version file End b = stop Good
-foundResult version file (Recorded p f) b = also (recordOf f (labelIn p b)) (left_at version file p b)
+abbrev pub found_result : ℕ → List ℕ → Found → List ℕ → Result
+found_result version file (Refused n p) b = stop (Refusal n p)
+found_result version file End b = stop Good
+found_result version file (Recorded p f) b = also (record_of f (label_in p b)) (left_at version file p b)
 
 -- reading has gone on, and stands in the file
 abbrev pub Further : List ℕ → Place → Found → List ℕ → Type 0
@@ -82,6 +82,6 @@ Further file was End b = length b ≡ 4096
 Further file was (Recorded p f) b = (was.at < p.at) × Inside file p b
 
 pub record Finds (version : ℕ) (file : List ℕ) (was : Place) (b : List ℕ) (r : Found) (b' : List ℕ) : Type 0 where
-  pub next-is : foundComing r b' ≡ coming version was.at (drop was.at file) (stateAt was b)
-  pub same : left_at version file was b ≡ foundResult version file r b'
+  pub next_is : found_coming r b' ≡ coming version was.at (drop was.at file) (state_at was b)
+  pub same : left_at version file was b ≡ found_result version file r b'
   pub further : Further file was r b'

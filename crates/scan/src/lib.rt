@@ -1,9 +1,9 @@
 // The records of a file, one at a time: the items are read where they lie, up to the
 // next one that makes a record.
 ghost use Rattle.std.specs.Prelude.{◌≡◌, ◌++◌, ◌+◌, ◌-◌, ◌≤◌, ◌<◌, length, take};
-ghost use Rattle.scan.specs.Places.{Starts, endedAt, Finds};
+ghost use Rattle.scan.specs.Places.{Starts, ended_at, Finds};
 ghost use Rattle.scan.specs.Keeping.{Swaps, Keeps};
-ghost use Rattle.format.specs.Label.{labelLimit};
+ghost use Rattle.format.specs.Label.{label_limit};
 
 use format::{Cut, Fields, LABEL_LIMIT, Setting};
 use item::Step;
@@ -41,7 +41,7 @@ pub fn first_place(at: usize) -> Place
 // The end item at `at`, with so many bytes from it on: 10 where bytes follow it.
 fn ended(at: usize, left: usize) -> Found
     requires { at < 18446744073709551615 }
-    ensures { result ≡ endedAt at left }
+    ensures { result ≡ ended_at at left }
 {
     if 1 < left {
         return Found::Refused {
@@ -54,7 +54,7 @@ fn ended(at: usize, left: usize) -> Found
 
 // The next record of the file.
 pub fn next_record(file: &[u8], version: u8, from: Place, bytes: &mut [u8; LABEL_LIMIT]) -> Found
-    requires { (from.at ≤ length file.now) × (from.len ≤ labelLimit) × (length bytes.old ≡ labelLimit) }
+    requires { (from.at ≤ length file.now) × (from.len ≤ label_limit) × (length bytes.old ≡ label_limit) }
     ensures { Finds version file.now from bytes.old result bytes.new }
 {
     let mut at = from.at;
@@ -96,7 +96,7 @@ pub fn next_record(file: &[u8], version: u8, from: Place, bytes: &mut [u8; LABEL
 // The label of len bytes in a buffer, of which `off` are dropped, with the bytes that
 // come: answers its length.
 pub fn relabel(bytes: &mut [u8; LABEL_LIMIT], len: usize, off: usize, added: &[u8]) -> usize
-    requires { (len ≤ labelLimit) × (length bytes.old ≡ labelLimit) × (off ≤ len) × (len - off + length added.now ≤ labelLimit) }
+    requires { (len ≤ label_limit) × (length bytes.old ≡ label_limit) × (off ≤ len) × (len - off + length added.now ≤ label_limit) }
     ensures { Swaps bytes.new (take (len - off) bytes.old ++ added.now) result }
 {
     let after = label::label_step(bytes, len, Cut::Back { bytes: off }, added);
@@ -109,7 +109,7 @@ pub fn relabel(bytes: &mut [u8; LABEL_LIMIT], len: usize, off: usize, added: &[u
 
 // A label in a buffer that held another, of len bytes: answers its length.
 pub fn swap_label(bytes: &mut [u8; LABEL_LIMIT], len: usize, name: &[u8]) -> usize
-    requires { (len ≤ labelLimit) × (length bytes.old ≡ labelLimit) × (length name.now ≤ labelLimit) }
+    requires { (len ≤ label_limit) × (length bytes.old ≡ label_limit) × (length name.now ≤ label_limit) }
     ensures { Swaps bytes.new name.now result }
 {
     relabel(bytes, len, len, name)
@@ -118,7 +118,7 @@ pub fn swap_label(bytes: &mut [u8; LABEL_LIMIT], len: usize, name: &[u8]) -> usi
 // The label after a record of this name, in a buffer that held the one before, of len
 // bytes: answers its length. A traverse error leaves the label as it was.
 pub fn keep_label(bytes: &mut [u8; LABEL_LIMIT], len: usize, name: &[u8], fields: Fields) -> usize
-    requires { (len ≤ labelLimit) × (length bytes.old ≡ labelLimit) × (length name.now ≤ labelLimit) }
+    requires { (len ≤ label_limit) × (length bytes.old ≡ label_limit) × (length name.now ≤ label_limit) }
     ensures { Keeps bytes.old bytes.new len name.now fields result }
 {
     match fields {

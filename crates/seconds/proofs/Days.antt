@@ -9,8 +9,8 @@ use lib.ListN.{get_or}
 use lib.Dec.{eqb, ltb, leb}
 use borrow.Author.Tests.{eqb-true, eqb-false, leb-true, lt-ltb, le-ltb}
 use Rattle.format.specs.Bytes.{pick}
-use Rattle.format.specs.Times.{leap, monthLengths, monthLength, monthDays, yearDays, dayNumber, realDate}
-use Rattle.format.proofs.Basics.{both, pick-case}
+use Rattle.format.specs.Times.{leap, month_lengths, month_length, month_days, year_days, day_number, real_date}
+use Rattle.format.proofs.Basics.{both, pick_case}
 
 -- ---- a rule at every number below a bound, by one test that is computed
 
@@ -34,63 +34,63 @@ abbrev rule : ℕ → ℕ → ℕ
 rule row month = pick (ltb month 3) (31 * (month - 1)) (59 + row + (153 * (month - 3) + 2) / 5)
 
 abbrev ruled : ℕ → ℕ → Bool
-ruled row month = eqb (rule row month) (monthDays row (month - 1))
+ruled row month = eqb (rule row month) (month_days row (month - 1))
 
-rule-all : all 2 (λ row. all 14 (ruled row)) ≡ true
-unfolding monthLengths monthDays pick
-rule-all = refl
+rule_all : all 2 (λ row. all 14 (ruled row)) ≡ true
+unfolding month_lengths month_days pick
+rule_all = refl
 
 module _ (row month : ℕ) (hr : row < 2) (hm : month ≤ 13) where
-  rule-at : rule row month ≡ monthDays row (month - 1)
-  rule-at = eqb-true (rule row month) (monthDays row (month - 1)) (at 14 (ruled row) (at 2 (λ k. all 14 (ruled k)) rule-all row hr) month (omega arith))
+  rule_at : rule row month ≡ month_days row (month - 1)
+  rule_at = eqb-true (rule row month) (month_days row (month - 1)) (at 14 (ruled row) (at 2 (λ k. all 14 (ruled k)) rule_all row hr) month (omega arith))
 
-  pub before-march : month < 3 → 31 * (month - 1) ≡ monthDays row (month - 1)
+  pub before_march : month < 3 → 31 * (month - 1) ≡ month_days row (month - 1)
   unfolding pick
-  before-march h = rw (lt-ltb month 3 h) at rule-at
+  before_march h = rw (lt-ltb month 3 h) at rule_at
 
-  pub from-march : 3 ≤ month → 59 + row + (153 * (month - 3) + 2) / 5 ≡ monthDays row (month - 1)
+  pub from_march : 3 ≤ month → 59 + row + (153 * (month - 3) + 2) / 5 ≡ month_days row (month - 1)
   unfolding pick
-  from-march h = rw (le-ltb month 3 h) at rule-at
+  from_march h = rw (le-ltb month 3 h) at rule_at
 
 -- no month has more than 31 days, and no month has more than 335 before it
 abbrev small : ℕ → ℕ → Bool
-small row m = leb (get_or (monthLengths row) m 0) 31 && leb (monthDays row m) 335
+small row m = leb (get_or (month_lengths row) m 0) 31 && leb (month_days row m) 335
 
 small_all : all 2 (λ row. all 12 (small row)) ≡ true
-unfolding monthLengths monthDays
+unfolding month_lengths month_days
 small_all = refl
 
 module _ (row m : ℕ) (hr : row < 2) (h1 : 1 ≤ m) (hm : m ≤ 12) where
   small_at : small row (m - 1) ≡ true
   small_at = at 12 (small row) (at 2 (λ k. all 12 (small k)) small_all row hr) (m - 1) (omega arith)
 
-  pub month-short : monthLength row m ≤ 31
-  unfolding monthLength
-  month-short = leb-true (get_or (monthLengths row) (m - 1) 0) 31
-      (both (leb (get_or (monthLengths row) (m - 1) 0) 31) (leb (monthDays row (m - 1)) 335) small_at).0
+  pub month_short : month_length row m ≤ 31
+  unfolding month_length
+  month_short = leb-true (get_or (month_lengths row) (m - 1) 0) 31
+      (both (leb (get_or (month_lengths row) (m - 1) 0) 31) (leb (month_days row (m - 1)) 335) small_at).0
 
-  pub months-short : monthDays row (m - 1) ≤ 335
-  months-short = leb-true (monthDays row (m - 1)) 335 (both (leb (get_or (monthLengths row) (m - 1) 0) 31) (leb (monthDays row (m - 1)) 335) small_at).1
+  pub months_short : month_days row (m - 1) ≤ 335
+  months_short = leb-true (month_days row (m - 1)) 335 (both (leb (get_or (month_lengths row) (m - 1) 0) 31) (leb (month_days row (m - 1)) 335) small_at).1
 
 -- one month more
-pub months-next : (row m : ℕ) → 1 ≤ m → monthDays row m ≡ monthDays row (m - 1) + monthLength row m
-unfolding monthDays monthLength
-months-next row zero h = absurd (omega arith)
-months-next row (suc m) h = let e : suc m - 1 ≡ m = omega arith in rw e
+pub months_next : (row m : ℕ) → 1 ≤ m → month_days row m ≡ month_days row (m - 1) + month_length row m
+unfolding month_days month_length
+months_next row zero h = absurd (omega arith)
+months_next row (suc m) h = let e : suc m - 1 ≡ m = omega arith in rw e
 
 -- ---- years
 
-pub leap-row : (year : ℕ) → leap year < 2
+pub leap_row : (year : ℕ) → leap year < 2
 unfolding leap
-leap-row year = pick-case (λ (n : ℕ). n < 2) _ _ _ (λ e. omega arith) λ e. omega arith
+leap_row year = pick_case (λ (n : ℕ). n < 2) _ _ _ (λ e. omega arith) λ e. omega arith
 
 -- every fourth year from 1972 on has a day more
-pub years : (n : ℕ) → 365 * n + (n + 1) / 4 ≡ yearDays n
-unfolding yearDays leap
+pub years : (n : ℕ) → 365 * n + (n + 1) / 4 ≡ year_days n
+unfolding year_days leap
 years zero = refl
 years (suc n) =
     let h = years n in
-    pick-case (λ (x : ℕ). 365 * suc n + (suc n + 1) / 4 ≡ yearDays n + (365 + x)) (eqb ((1970 + n) % 4) 0) 1 0
+    pick_case (λ (x : ℕ). 365 * suc n + (suc n + 1) / 4 ≡ year_days n + (365 + x)) (eqb ((1970 + n) % 4) 0) 1 0
     (λ e. let z = eqb-true ((1970 + n) % 4) 0 e in omega arith) λ e. let z = eqb-false ((1970 + n) % 4) 0 e in omega arith
 
 -- ---- a real date
@@ -103,18 +103,18 @@ pub record Real (year month day : ℕ) : Type 0 where
   pub least : 1 ≤ day
   pub most : day ≤ 31
 
-pub real : (year month day : ℕ) → realDate year month day ≡ true → Real year month day
-unfolding realDate
+pub real : (year month day : ℕ) → real_date year month day ≡ true → Real year month day
+unfolding real_date
 real year month day e =
     let p = both (leb 1970 year && leb year 2099) _ e in
     let q = both (leb 1970 year) (leb year 2099) p.0 in
     let r = both (leb 1 month && leb month 12) _ p.1 in
     let s = both (leb 1 month) (leb month 12) r.0 in
-    let t = both (leb 1 day) (leb day (monthLength (leap year) month)) r.1 in
+    let t = both (leb 1 day) (leb day (month_length (leap year) month)) r.1 in
     let h1 : 1 ≤ month = leb-true 1 month s.0 in
     let h12 : month ≤ 12 = leb-true month 12 s.1 in
-    let d : day ≤ monthLength (leap year) month = leb-true day (monthLength (leap year) month) t.1 in
-    let z = month-short (leap year) month (leap-row year) h1 h12 in
+    let d : day ≤ month_length (leap year) month = leb-true day (month_length (leap year) month) t.1 in
+    let z = month_short (leap year) month (leap_row year) h1 h12 in
     record {
       from = leb-true 1970 year q.0;
       to = leb-true year 2099 q.1;
@@ -124,7 +124,7 @@ real year month day e =
       most = omega arith;
     }
 
-pub day-small : (year month day : ℕ) → Real year month day → dayNumber year month day ≤ 47482
-unfolding dayNumber
-day-small year month day d =
-    omega (arith, years (year - 1970), months-short (leap year) month (leap-row year) d.first d.last)
+pub day_small : (year month day : ℕ) → Real year month day → day_number year month day ≤ 47482
+unfolding day_number
+day_small year month day d =
+    omega (arith, years (year - 1970), months_short (leap year) month (leap_row year) d.first d.last)

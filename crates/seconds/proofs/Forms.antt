@@ -9,41 +9,41 @@ use lib.Seq.{drop-cons, drop-length}
 use lib.Dec.{eqb, leb}
 use borrow.Author.Tests.{leb-true, eq-eqb}
 use Rattle.format.specs.Bytes.{pick, same}
-use Rattle.format.specs.Times.{allDigits, decimal, field, dayNumber, atForm, textMarks, textDigits, textDay, textClock, textZone, textForm}
-use Rattle.format.specs.Times.{textSeconds, secondsOf}
+use Rattle.format.specs.Times.{all_digits, decimal, field, day_number, at_form, text_marks, text_digits, text_day, text_clock, text_zone, text_form}
+use Rattle.format.specs.Times.{text_seconds, seconds_of}
 use Rattle.format.specs.declared.Spelled.TheVariants.{Unreadable, Number}
-use Rattle.format.proofs.Basics.{both, and-true, pick_true, pick-false, same_true}
+use Rattle.format.proofs.Basics.{both, and_true, pick_true, pick_false, same_true}
 use Rattle.format.specs.declared.Spelled.{Spelled}
-use Rattle.seconds.specs.Reading.{spelled, dateOf, clockOf}
+use Rattle.seconds.specs.Reading.{spelled, date_of, clock_of}
 use Rattle.seconds.proofs.Digits.{told, untold, and_no}
-use Rattle.seconds.proofs.Days.{real, day-small}
+use Rattle.seconds.proofs.Days.{real, day_small}
 
 -- ---- the text form: digits and rules of the date, and of the clock
 
 -- the tests of the date, a and c, and those of the clock, b and d, as document 01's form has them
-no-left : (a b c d : Bool) → (a && c) ≡ false → ((a && b) && (c && d)) ≡ false
-no-left true b true d e = absurd (let z : ◌≡◌ {A = ℕ} 0 1 = cc in omega arith)
-no-left true b false d e = and_no b
-no-left false b c d e = refl
+no_left : (a b c d : Bool) → (a && c) ≡ false → ((a && b) && (c && d)) ≡ false
+no_left true b true d e = absurd (let z : ◌≡◌ {A = ℕ} 0 1 = cc in omega arith)
+no_left true b false d e = and_no b
+no_left false b c d e = refl
 
-no-right : (a b c d : Bool) → (b && d) ≡ false → ((a && b) && (c && d)) ≡ false
-no-right true true c true e = absurd (let z : ◌≡◌ {A = ℕ} 0 1 = cc in omega arith)
-no-right true true c false e = and_no c
-no-right true false c d e = refl
-no-right false b c d e = refl
+no_right : (a b c d : Bool) → (b && d) ≡ false → ((a && b) && (c && d)) ≡ false
+no_right true true c true e = absurd (let z : ◌≡◌ {A = ℕ} 0 1 = cc in omega arith)
+no_right true true c false e = and_no c
+no_right true false c d e = refl
+no_right false b c d e = refl
 
 -- where the marks are right but for the last, that one decides
-pub last-mark : (line : List ℕ) → get_or line 3 0 ≡ 44 → get_or line 8 0 ≡ 46 → get_or line 11 0 ≡ 46 → get_or line 14 0 ≡ 32 → get_or line 17 0 ≡ 58
+pub last_mark : (line : List ℕ) → get_or line 3 0 ≡ 44 → get_or line 8 0 ≡ 46 → get_or line 11 0 ≡ 46 → get_or line 14 0 ≡ 32 → get_or line 17 0 ≡ 58
     → get_or line 20 0 ≡ 58
-    → eqb (get_or line 23 0) 32 ≡ textMarks line
-unfolding textMarks
-last-mark line a b c d e f = rw (a, b, c, d, e, f)
+    → eqb (get_or line 23 0) 32 ≡ text_marks line
+unfolding text_marks
+last_mark line a b c d e f = rw (a, b, c, d, e, f)
 
 -- ---- the zone: the last three of 27 bytes
 
-pub zone-length : (line : List ℕ) → textZone line ≡ true → length line ≡ 27
-unfolding textZone
-zone-length line e = go (same (drop 24 line) (71 ∷ 77 ∷ 84 ∷ [])) refl e
+pub zone_length : (line : List ℕ) → text_zone line ≡ true → length line ≡ 27
+unfolding text_zone
+zone_length line e = go (same (drop 24 line) (71 ∷ 77 ∷ 84 ∷ [])) refl e
   where
     long : (s : List ℕ) → length s ≡ 3 → drop 24 line ≡ s → length line ≡ 27
     long s l q =
@@ -55,19 +55,19 @@ zone-length line e = go (same (drop 24 line) (71 ∷ 77 ∷ 84 ∷ [])) refl e
     go true p f = long _ refl (same_true _ _ p)
     go false p f = long _ refl (same_true _ _ f)
 
-pub other_length : (line : List ℕ) → (length line ≡ 27 → ⊥) → false ≡ textZone line
-other_length line h = go (textZone line) refl
+pub other_length : (line : List ℕ) → (length line ≡ 27 → ⊥) → false ≡ text_zone line
+other_length line h = go (text_zone line) refl
   where
-    go : (b : Bool) → textZone line ≡ b → false ≡ b
-    go true e = absurd (h (zone-length line e))
+    go : (b : Bool) → text_zone line ≡ b → false ≡ b
+    go true e = absurd (h (zone_length line e))
     go false e = refl
 
-abbrev pub lastThree : List ℕ → List ℕ
-lastThree line = get_or line 24 0 ∷ get_or line 25 0 ∷ get_or line 26 0 ∷ []
+abbrev pub last_three : List ℕ → List ℕ
+last_three line = get_or line 24 0 ∷ get_or line 25 0 ∷ get_or line 26 0 ∷ []
 
-pub zone-is : (line : List ℕ) → length line ≡ 27 → textZone line ≡ (same (lastThree line) (71 ∷ 77 ∷ 84 ∷ []) || same (lastThree line) (85 ∷ 84 ∷ 67 ∷ []))
-unfolding textZone
-zone-is line e =
+pub zone_is : (line : List ℕ) → length line ≡ 27 → text_zone line ≡ (same (last_three line) (71 ∷ 77 ∷ 84 ∷ []) || same (last_three line) (85 ∷ 84 ∷ 67 ∷ []))
+unfolding text_zone
+zone_is line e =
     let x : drop 24 line ≡ get_or line 24 0 ∷ drop 25 line = drop-cons line 24 0 (omega arith) in
     let y : drop 25 line ≡ get_or line 25 0 ∷ drop 26 line = drop-cons line 25 0 (omega arith) in
     let z : drop 26 line ≡ get_or line 26 0 ∷ drop 27 line = drop-cons line 26 0 (omega arith) in
@@ -82,10 +82,10 @@ three (a ∷ b ∷ []) e = absurd (omega arith)
 three (a ∷ b ∷ c ∷ []) e = refl
 three (a ∷ b ∷ c ∷ d ∷ s) e = absurd (omega arith)
 
-pub same-three : (s t : List ℕ) → length s ≡ 3 → length t ≡ 3
+pub same_three : (s t : List ℕ) → length s ≡ 3 → length t ≡ 3
     → same s t ≡ pick (eqb (get_or s 0 0) (get_or t 0 0)) (pick (eqb (get_or s 1 0) (get_or t 1 0)) (eqb (get_or s 2 0) (get_or t 2 0)) false) false
 unfolding same pick
-same-three s t m n = ap₂ same (three s m) (three t n) ∙ last (eqb (get_or s 2 0) (get_or t 2 0))
+same_three s t m n = ap₂ same (three s m) (three t n) ∙ last (eqb (get_or s 2 0) (get_or t 2 0))
   where
     last : (b : Bool)
         → pick (eqb (get_or s 0 0) (get_or t 0 0)) (pick (eqb (get_or s 1 0) (get_or t 1 0)) (pick b true false) false) false
@@ -94,36 +94,36 @@ same-three s t m n = ap₂ same (three s m) (three t n) ∙ last (eqb (get_or s 
     last false = refl
 
 -- where the first two agree, the third decides
-pub third-decides : (s t : List ℕ) → length s ≡ 3 → length t ≡ 3 → get_or s 0 0 ≡ get_or t 0 0 → get_or s 1 0 ≡ get_or t 1 0 → eqb (get_or s 2 0) (get_or t 2 0) ≡ same s t
+pub third_decides : (s t : List ℕ) → length s ≡ 3 → length t ≡ 3 → get_or s 0 0 ≡ get_or t 0 0 → get_or s 1 0 ≡ get_or t 1 0 → eqb (get_or s 2 0) (get_or t 2 0) ≡ same s t
 unfolding pick
-third-decides s t m n e f = sym (same-three s t m n ∙ simp (eq-eqb _ _ e, eq-eqb _ _ f))
+third_decides s t m n e f = sym (same_three s t m n ∙ simp (eq-eqb _ _ e, eq-eqb _ _ f))
 
 -- the numbers of a time line in the text form
 pub record Whole (line : List ℕ) (days time : ℕ) : Type 0 where
-  pub is : Number (days * 86400 + time) ≡ spelled (textForm line) (textSeconds line)
-  pub days-fit : days ≤ 47482
-  pub time-fits : time < 86400
+  pub is : Number (days * 86400 + time) ≡ spelled (text_form line) (text_seconds line)
+  pub days_fit : days ≤ 47482
+  pub time_fits : time < 86400
 
 module _ (line : List ℕ) where
-  abbrev dateDigits : Bool
-  dateDigits = allDigits (field line 4 4) && (allDigits (field line 9 2) && allDigits (field line 12 2))
+  abbrev date_digits : Bool
+  date_digits = all_digits (field line 4 4) && (all_digits (field line 9 2) && all_digits (field line 12 2))
 
-  abbrev clockDigits : Bool
-  clockDigits = allDigits (field line 15 2) && (allDigits (field line 18 2) && allDigits (field line 21 2))
+  abbrev clock_digits : Bool
+  clock_digits = all_digits (field line 15 2) && (all_digits (field line 18 2) && all_digits (field line 21 2))
 
   abbrev days : ℕ
-  days = dayNumber (decimal (field line 4 4)) (decimal (field line 9 2)) (decimal (field line 12 2))
+  days = day_number (decimal (field line 4 4)) (decimal (field line 9 2)) (decimal (field line 12 2))
 
   abbrev time : ℕ
   time = decimal (field line 15 2) * 3600 + (decimal (field line 18 2) * 60 + decimal (field line 21 2))
 
-  days-small : textDay line ≡ true → days ≤ 47482
-  unfolding textDay
-  days-small e = day-small _ _ _ (real _ _ _ e)
+  days_small : text_day line ≡ true → days ≤ 47482
+  unfolding text_day
+  days_small e = day_small _ _ _ (real _ _ _ e)
 
-  time-small : textClock line ≡ true → time < 86400
-  unfolding textClock
-  time-small e =
+  time_small : text_clock line ≡ true → time < 86400
+  unfolding text_clock
+  time_small e =
       let p = both (leb (decimal (field line 15 2)) 23) _ e in
       let q = both (leb (decimal (field line 18 2)) 59) _ p.1 in
       let h : decimal (field line 15 2) ≤ 23 = leb-true _ _ p.0 in
@@ -131,46 +131,46 @@ module _ (line : List ℕ) where
       let s : decimal (field line 21 2) ≤ 59 = leb-true _ _ q.1 in
       omega arith
 
-  module _ (z : textZone line ≡ true) (m : textMarks line ≡ true) where
-    form-is : textForm line ≡ ((dateDigits && clockDigits) && (textDay line && textClock line))
-    unfolding textForm textDigits
-    form-is = simp (z, m)
+  module _ (z : text_zone line ≡ true) (m : text_marks line ≡ true) where
+    form_is : text_form line ≡ ((date_digits && clock_digits) && (text_day line && text_clock line))
+    unfolding text_form text_digits
+    form_is = simp (z, m)
 
-    pub no-date : Unreadable ≡ dateOf line → Unreadable ≡ spelled (textForm line) (textSeconds line)
-    unfolding dateOf
-    no-date e =
-        let u = untold (dateDigits && textDay line) days e in
-        sym (pick-false _ _ (form-is ∙ no-left dateDigits clockDigits (textDay line) (textClock line) u))
+    pub no_date : Unreadable ≡ date_of line → Unreadable ≡ spelled (text_form line) (text_seconds line)
+    unfolding date_of
+    no_date e =
+        let u = untold (date_digits && text_day line) days e in
+        sym (pick_false _ _ (form_is ∙ no_left date_digits clock_digits (text_day line) (text_clock line) u))
 
-    pub no-clock : Unreadable ≡ clockOf line → Unreadable ≡ spelled (textForm line) (textSeconds line)
-    unfolding clockOf
-    no-clock e =
-        let u = untold (clockDigits && textClock line) time e in
-        sym (pick-false _ _ (form-is ∙ no-right dateDigits clockDigits (textDay line) (textClock line) u))
+    pub no_clock : Unreadable ≡ clock_of line → Unreadable ≡ spelled (text_form line) (text_seconds line)
+    unfolding clock_of
+    no_clock e =
+        let u = untold (clock_digits && text_clock line) time e in
+        sym (pick_false _ _ (form_is ∙ no_right date_digits clock_digits (text_day line) (text_clock line) u))
 
-    pub whole : (d t : ℕ) → Number d ≡ dateOf line → Number t ≡ clockOf line → Whole line d t
-    unfolding dateOf clockOf textSeconds
+    pub whole : (d t : ℕ) → Number d ≡ date_of line → Number t ≡ clock_of line → Whole line d t
+    unfolding date_of clock_of text_seconds
     whole d t e f =
-        let p = told (dateDigits && textDay line) days d e in
-        let q = told (clockDigits && textClock line) time t f in
-        let x = both dateDigits (textDay line) p.0 in
-        let y = both clockDigits (textClock line) q.0 in
-        let z : textForm line ≡ true = form-is ∙ and-true (and-true x.0 y.0) (and-true x.1 y.1) in
+        let p = told (date_digits && text_day line) days d e in
+        let q = told (clock_digits && text_clock line) time t f in
+        let x = both date_digits (text_day line) p.0 in
+        let y = both clock_digits (text_clock line) q.0 in
+        let z : text_form line ≡ true = form_is ∙ and_true (and_true x.0 y.0) (and_true x.1 y.1) in
         let v : d * 86400 + t ≡ days * 86400 + time = ap₂ (λ (a b : ℕ). a * 86400 + b) p.1 q.1 in
         record {
           is = ap Number v ∙ sym (pick_true _ _ z);
-          days-fit = omega (arith, days-small x.1, p.1);
-          time-fits = omega (arith, time-small y.1, q.1);
+          days_fit = omega (arith, days_small x.1, p.1);
+          time_fits = omega (arith, time_small y.1, q.1);
         }
 
   -- ---- either form
 
-  pub by-at : (n : ℕ) → Number n ≡ spelled (atForm line) (decimal (drop 1 line)) → Number n ≡ secondsOf line
-  unfolding secondsOf
-  by-at n e =
-      let t = told (atForm line) (decimal (drop 1 line)) n e in
+  pub by_at : (n : ℕ) → Number n ≡ spelled (at_form line) (decimal (drop 1 line)) → Number n ≡ seconds_of line
+  unfolding seconds_of
+  by_at n e =
+      let t = told (at_form line) (decimal (drop 1 line)) n e in
       ap Number t.1 ∙ sym (pick_true _ _ t.0)
 
-  pub by-text : (r : Spelled) → Unreadable ≡ spelled (atForm line) (decimal (drop 1 line)) → r ≡ spelled (textForm line) (textSeconds line) → r ≡ secondsOf line
-  unfolding secondsOf
-  by-text r e f = f ∙ sym (pick-false _ _ (untold (atForm line) (decimal (drop 1 line)) e))
+  pub by_text : (r : Spelled) → Unreadable ≡ spelled (at_form line) (decimal (drop 1 line)) → r ≡ spelled (text_form line) (text_seconds line) → r ≡ seconds_of line
+  unfolding seconds_of
+  by_text r e f = f ∙ sym (pick_false _ _ (untold (at_form line) (decimal (drop 1 line)) e))

@@ -1,8 +1,8 @@
 // The seconds since 1970 of a time line, in either of its forms.
 ghost use Rattle.std.specs.Prelude.{◌≡◌, ◌-◌, ◌≤◌, ◌<◌, length, drop};
 ghost use Rattle.format.specs.Bytes.{same};
-ghost use Rattle.format.specs.Times.{leap, monthLength, monthDays, yearDays, dayNumber, realDate, decimal, atForm, textMarks, textZone, textForm, textSeconds, secondsOf};
-ghost use Rattle.seconds.specs.Reading.{spelled, numberFrom, dateOf, clockOf};
+ghost use Rattle.format.specs.Times.{leap, month_length, month_days, year_days, day_number, real_date, decimal, at_form, text_marks, text_zone, text_form, text_seconds, seconds_of};
+ghost use Rattle.seconds.specs.Reading.{spelled, number_from, date_of, clock_of};
 
 use format::Spelled;
 
@@ -21,7 +21,7 @@ fn wide(x: u8) -> u64
 // The number that the digits of s spell, of at most 4294967295. It only grows
 // with each digit, so the first value past that bound decides.
 fn number(s: &[u8]) -> Spelled
-    ensures { result ≡ numberFrom 0 s.now }
+    ensures { result ≡ number_from 0 s.now }
 {
     let mut n: u64 = 0;
     let mut i: usize = 0;
@@ -57,7 +57,7 @@ fn leap_day(year: u64) -> u64
 // begins n * 153 / 5 days after it; the 2 rounds that so that a long month comes first.
 fn days_before(extra: u64, month: u64) -> u64
     requires { (extra < 2) × (1 ≤ month) × (month ≤ 13) }
-    ensures { result ≡ monthDays extra (month - 1) }
+    ensures { result ≡ month_days extra (month - 1) }
 {
     if month < 3 {
         return 31 * (month - 1);
@@ -68,7 +68,7 @@ fn days_before(extra: u64, month: u64) -> u64
 // The length of a month, 1 to 12: the days before the next less those before it.
 fn month_length(extra: u64, month: u64) -> u64
     requires { (extra < 2) × (1 ≤ month) × (month ≤ 12) }
-    ensures { result ≡ monthLength extra month }
+    ensures { result ≡ month_length extra month }
 {
     let next = days_before(extra, month + 1);
     next - days_before(extra, month)
@@ -77,14 +77,14 @@ fn month_length(extra: u64, month: u64) -> u64
 // The days of the first n years from 1970 on.
 fn days_of_years(n: u64) -> u64
     requires { n < 130 }
-    ensures { result ≡ yearDays n }
+    ensures { result ≡ year_days n }
 {
     365 * n + (n + 1) / 4
 }
 
 // Whether a date is real and from 1970 to 2099.
 fn real_date(year: u64, month: u64, day: u64) -> bool
-    ensures { result ≡ realDate year month day }
+    ensures { result ≡ real_date year month day }
 {
     if year < 1970 {
         return false;
@@ -108,7 +108,7 @@ fn real_date(year: u64, month: u64, day: u64) -> bool
 // The days from 1 January 1970 to a date.
 fn day_number(year: u64, month: u64, day: u64) -> u64
     requires { (1970 ≤ year) × (year ≤ 2099) × (1 ≤ month) × (month ≤ 12) × (1 ≤ day) × (day ≤ 31) }
-    ensures { result ≡ dayNumber year month day }
+    ensures { result ≡ day_number year month day }
 {
     let extra = leap_day(year);
     let years = days_of_years(year - 1970);
@@ -119,7 +119,7 @@ fn day_number(year: u64, month: u64, day: u64) -> u64
 // The date of a time line in the text form, as days since 1970.
 fn date(line: &[u8]) -> Spelled
     requires { 25 ≤ length line.now }
-    ensures { result ≡ dateOf line.now }
+    ensures { result ≡ date_of line.now }
 {
     let years = number(&line[4..8]);
     let Spelled::Number { value: year } = years else {
@@ -144,7 +144,7 @@ fn date(line: &[u8]) -> Spelled
 // The clock of a time line in the text form, as seconds of its day.
 fn clock(line: &[u8]) -> Spelled
     requires { 25 ≤ length line.now }
-    ensures { result ≡ clockOf line.now }
+    ensures { result ≡ clock_of line.now }
 {
     let hours = number(&line[15..17]);
     let Spelled::Number { value: hour } = hours else {
@@ -175,7 +175,7 @@ fn clock(line: &[u8]) -> Spelled
 // Whether the bytes between the numbers are those of the text form.
 fn marks(line: &[u8]) -> bool
     requires { 25 ≤ length line.now }
-    ensures { result ≡ textMarks line.now }
+    ensures { result ≡ text_marks line.now }
 {
     if line[3] != 44 {
         return false;
@@ -200,7 +200,7 @@ fn marks(line: &[u8]) -> bool
 
 // The seconds of a time line `@` and digits.
 fn at_form(line: &[u8]) -> Spelled
-    ensures { result ≡ spelled (atForm line.now) (decimal (drop 1 line.now)) }
+    ensures { result ≡ spelled (at_form line.now) (decimal (drop 1 line.now)) }
 {
     if line.len() < 2 {
         return Spelled::Unreadable;
@@ -229,7 +229,7 @@ fn same_zone(a: [u8; 3], b: [u8; 3]) -> bool
 
 // Whether the zone, all that stands behind the last space, is `GMT` or `UTC`.
 fn known_zone(line: &[u8]) -> bool
-    ensures { result ≡ textZone line.now }
+    ensures { result ≡ text_zone line.now }
 {
     if line.len() != 27 {
         return false;
@@ -243,7 +243,7 @@ fn known_zone(line: &[u8]) -> bool
 
 // The seconds of a time line `Www,YYYY.MM.DD hh:mm:ss Z`.
 fn text_form(line: &[u8]) -> Spelled
-    ensures { result ≡ spelled (textForm line.now) (textSeconds line.now) }
+    ensures { result ≡ spelled (text_form line.now) (text_seconds line.now) }
 {
     if !known_zone(line) {
         return Spelled::Unreadable;
@@ -266,7 +266,7 @@ fn text_form(line: &[u8]) -> Spelled
 
 // The seconds since 1970 of a time line, in either form.
 pub fn seconds_of(line: &[u8]) -> Spelled
-    ensures { result ≡ secondsOf line.now }
+    ensures { result ≡ seconds_of line.now }
 {
     let at = at_form(line);
     match at {

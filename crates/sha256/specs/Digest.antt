@@ -1,7 +1,7 @@
 -- SHA-256 of a list of bytes, after FIPS 180-4; bytes and words go the highest first (3.1). Assumes nothing.
 use Rattle.std.specs.Prelude.{ℕ, zero, suc, ◌+◌, ◌-◌, ◌*◌, ◌/◌, ◌%◌, ◌^◌, List, [], ◌∷◌, ◌++◌, length, take, drop, replicate, nat_lt, slice_index}
-use Rattle.format.specs.Bytes.{pick, be32, toBe32}
-use Rattle.sha256.specs.Words.{plus, choose, majority, bigSigma0, bigSigma1, smallSigma0, smallSigma1}
+use Rattle.format.specs.Bytes.{pick, be32, to_be32}
+use Rattle.sha256.specs.Words.{plus, choose, majority, big_sigma0, big_sigma1, small_sigma0, small_sigma1}
 use Rattle.sha256.specs.declared.Hash.{Hash}
 
 -- 4.2.2: the first 32 bits of the fractional parts of the cube roots of the first 64 primes
@@ -23,11 +23,11 @@ initial = record { a = 0x6a09e667; b = 0xbb67ae85; c = 0x3c6ef372; d = 0xa54ff53
 -- ---- 5.1.1: padding a message of n bytes: "the bit 1", then zeros, the fewest with which 8 bytes are left to a multiple of 64
 
 -- "the 64-bit block that is equal to the number l expressed using a binary representation", l the number of bits
-unfoldable pub bitLength : ℕ → List ℕ
-bitLength n = toBe32 ((n * 8) / 2 ^ 32 % 2 ^ 32) ++ toBe32 ((n * 8) % 2 ^ 32)
+unfoldable pub bit_length : ℕ → List ℕ
+bit_length n = to_be32 ((n * 8) / 2 ^ 32 % 2 ^ 32) ++ to_be32 ((n * 8) % 2 ^ 32)
 
 unfoldable pub padding : ℕ → List ℕ
-padding n = 0x80 ∷ (replicate ((119 - n % 64) % 64) 0 ++ bitLength n)
+padding n = 0x80 ∷ (replicate ((119 - n % 64) % 64) 0 ++ bit_length n)
 
 -- ---- 6.2.2, step 1: the message schedule of a block m
 
@@ -36,11 +36,11 @@ abbrev pub word_at : List ℕ → ℕ → ℕ
 word_at m t = be32 (drop (4 * t) m)
 
 -- the word t from 16 on, of the words w before it
-unfoldable pub nextWord : List ℕ → ℕ → ℕ
-nextWord w t = plus (plus (plus (smallSigma1 (slice_index w (t - 2))) (slice_index w (t - 7))) (smallSigma0 (slice_index w (t - 15)))) (slice_index w (t - 16))
+unfoldable pub next_word : List ℕ → ℕ → ℕ
+next_word w t = plus (plus (plus (small_sigma1 (slice_index w (t - 2))) (slice_index w (t - 7))) (small_sigma0 (slice_index w (t - 15)))) (slice_index w (t - 16))
 
 unfoldable pub grown : List ℕ → ℕ → List ℕ → List ℕ
-grown m t w = w ++ (pick (nat_lt t 16) (word_at m t) (nextWord w t) ∷ [])
+grown m t w = w ++ (pick (nat_lt t 16) (word_at m t) (next_word w t) ∷ [])
 
 -- the first t words
 unfoldable pub schedule : List ℕ → ℕ → List ℕ
@@ -54,15 +54,15 @@ stepped t1 t2 s =
     record { a = plus t1 t2; b = s.a; c = s.b; d = s.c; e = plus s.d t1; f = s.e; g = s.f; h = s.g }
 
 -- T1 and T2, and the variables after a round with the constant k and the word w
-unfoldable pub roundOf : ℕ → ℕ → Hash → Hash
-roundOf k w s =
-    stepped (plus (plus (plus (plus s.h (bigSigma1 s.e)) (choose s.e s.f s.g)) k) w)
-    (plus (bigSigma0 s.a) (majority s.a s.b s.c)) s
+unfoldable pub round_of : ℕ → ℕ → Hash → Hash
+round_of k w s =
+    stepped (plus (plus (plus (plus s.h (big_sigma1 s.e)) (choose s.e s.f s.g)) k) w)
+    (plus (big_sigma0 s.a) (majority s.a s.b s.c)) s
 
 unfoldable pub rounds : List ℕ → List ℕ → Hash → Hash
 rounds [] ws s = s
 rounds (k ∷ ks) [] s = s
-rounds (k ∷ ks) (w ∷ ws) s = rounds ks ws (roundOf k w s)
+rounds (k ∷ ks) (w ∷ ws) s = rounds ks ws (round_of k w s)
 
 -- step 4: the next hash value
 unfoldable pub sum_of : Hash → Hash → Hash
@@ -93,11 +93,11 @@ unfoldable pub hashed : Hash → List ℕ → ℕ → Hash
 hashed h s n = blocks (length (s ++ padding n) / 64) (s ++ padding n) h
 
 -- "the resulting 256-bit message digest of the message": the words of a hash value in bytes
-abbrev pub halfDigest : ℕ → ℕ → ℕ → ℕ → List ℕ
-halfDigest a b c d = toBe32 a ++ (toBe32 b ++ (toBe32 c ++ toBe32 d))
+abbrev pub half_digest : ℕ → ℕ → ℕ → ℕ → List ℕ
+half_digest a b c d = to_be32 a ++ (to_be32 b ++ (to_be32 c ++ to_be32 d))
 
 unfoldable pub digest : Hash → List ℕ
-digest s = halfDigest s.a s.b s.c s.d ++ halfDigest s.e s.f s.g s.h
+digest s = half_digest s.a s.b s.c s.d ++ half_digest s.e s.f s.g s.h
 
-unfoldable pub sha256Of : List ℕ → List ℕ
-sha256Of m = digest (hashed initial m (length m))
+unfoldable pub sha256_of : List ℕ → List ℕ
+sha256_of m = digest (hashed initial m (length m))

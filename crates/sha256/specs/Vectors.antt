@@ -1,8 +1,8 @@
 -- Vectors that NIST publishes, computed: `abc` (one block, FIPS 180-4's example) and the message of no bytes. Assumes nothing.
 use Rattle.std.specs.Prelude.{◌≡◌, ℕ, List, [], ◌∷◌, refl}
-use Rattle.format.specs.Bytes.{pick, be32, toBe32}
-use Rattle.sha256.specs.Words.{plus, rotateRight, choose, majority, bigSigma0, bigSigma1, smallSigma0, smallSigma1}
-use Rattle.sha256.specs.Digest.{constants, initial, bitLength, padding, nextWord, grown, schedule, roundOf, rounds, sum_of, compressed, blocks, digest, hashed, sha256Of}
+use Rattle.format.specs.Bytes.{pick, be32, to_be32}
+use Rattle.sha256.specs.Words.{plus, rotate_right, choose, majority, big_sigma0, big_sigma1, small_sigma0, small_sigma1}
+use Rattle.sha256.specs.Digest.{constants, initial, bit_length, padding, next_word, grown, schedule, round_of, rounds, sum_of, compressed, blocks, digest, hashed, sha256_of}
 
 pub record Vector : Type 0 where
   pub message : List ℕ
@@ -25,8 +25,8 @@ nothing = record {
 }
 
 abbrev Holds : Vector → Type 0
-Holds v = sha256Of v.message ≡ v.answer
+Holds v = sha256_of v.message ≡ v.answer
 
 pub vectors : Holds abc × Holds nothing
-unfolding be32 toBe32 plus rotateRight choose majority bigSigma0 bigSigma1 smallSigma0 smallSigma1 pick constants initial bitLength padding nextWord grown schedule roundOf rounds sum_of compressed blocks digest hashed sha256Of
+unfolding be32 to_be32 plus rotate_right choose majority big_sigma0 big_sigma1 small_sigma0 small_sigma1 pick constants initial bit_length padding next_word grown schedule round_of rounds sum_of compressed blocks digest hashed sha256_of
 vectors = (refl, refl)

@@ -6,12 +6,12 @@ unfoldable pub plus : ℕ → ℕ → ℕ
 plus a b = (a + b) % 2 ^ 32
 
 -- 3.2: SHR n (x) = x >> n
-abbrev pub shiftRight : ℕ → ℕ → ℕ
-shiftRight n x = x / 2 ^ n
+abbrev pub shift_right : ℕ → ℕ → ℕ
+shift_right n x = x / 2 ^ n
 
 -- 3.2: ROTR n (x) = (x >> n) ∨ (x << w - n)
-unfoldable pub rotateRight : ℕ → ℕ → ℕ
-rotateRight n x = bit_or (shiftRight n x) ((x * 2 ^ (32 - n)) % 2 ^ 32)
+unfoldable pub rotate_right : ℕ → ℕ → ℕ
+rotate_right n x = bit_or (shift_right n x) ((x * 2 ^ (32 - n)) % 2 ^ 32)
 
 -- 2.2.2: "¬ Bitwise complement operation"
 abbrev pub complement : ℕ → ℕ
@@ -24,14 +24,14 @@ choose x y z = bit_xor (bit_and x y) (bit_and (complement x) z)
 unfoldable pub majority : ℕ → ℕ → ℕ → ℕ
 majority x y z = bit_xor (bit_xor (bit_and x y) (bit_and x z)) (bit_and y z)
 
-unfoldable pub bigSigma0 : ℕ → ℕ
-bigSigma0 x = bit_xor (bit_xor (rotateRight 2 x) (rotateRight 13 x)) (rotateRight 22 x)
+unfoldable pub big_sigma0 : ℕ → ℕ
+big_sigma0 x = bit_xor (bit_xor (rotate_right 2 x) (rotate_right 13 x)) (rotate_right 22 x)
 
-unfoldable pub bigSigma1 : ℕ → ℕ
-bigSigma1 x = bit_xor (bit_xor (rotateRight 6 x) (rotateRight 11 x)) (rotateRight 25 x)
+unfoldable pub big_sigma1 : ℕ → ℕ
+big_sigma1 x = bit_xor (bit_xor (rotate_right 6 x) (rotate_right 11 x)) (rotate_right 25 x)
 
-unfoldable pub smallSigma0 : ℕ → ℕ
-smallSigma0 x = bit_xor (bit_xor (rotateRight 7 x) (rotateRight 18 x)) (shiftRight 3 x)
+unfoldable pub small_sigma0 : ℕ → ℕ
+small_sigma0 x = bit_xor (bit_xor (rotate_right 7 x) (rotate_right 18 x)) (shift_right 3 x)
 
-unfoldable pub smallSigma1 : ℕ → ℕ
-smallSigma1 x = bit_xor (bit_xor (rotateRight 17 x) (rotateRight 19 x)) (shiftRight 10 x)
+unfoldable pub small_sigma1 : ℕ → ℕ
+small_sigma1 x = bit_xor (bit_xor (rotate_right 17 x) (rotate_right 19 x)) (shift_right 10 x)

@@ -1,10 +1,10 @@
 // SHA-256 (FIPS 180-4): of bytes in one slice, and of bytes that come in parts.
 ghost use Rattle.std.specs.Prelude.{◌≡◌, ◌+◌, ◌-◌, ◌*◌, ◌/◌, ◌%◌, ◌^◌, ◌<◌, ◌≤◌, ◌∷◌, ◌++◌, length, take, replicate, slice_index, slice_set};
-ghost use Rattle.format.specs.Bytes.{toBe32};
+ghost use Rattle.format.specs.Bytes.{to_be32};
 ghost use Rattle.wire.specs.Laid.{laid};
-ghost use Rattle.sha256.specs.Words.{plus, rotateRight, choose, majority, bigSigma0, bigSigma1, smallSigma0, smallSigma1};
-ghost use Rattle.sha256.specs.Digest.{constants, initial, bitLength, schedule, nextWord, roundOf, rounds, sum_of, compressed, blocks, digest, halfDigest, hashed, sha256Of};
-ghost use Rattle.sha256.specs.Streams.{TakenIn, updated, finished, streamOf, begun, runningOf};
+ghost use Rattle.sha256.specs.Words.{plus, rotate_right, choose, majority, big_sigma0, big_sigma1, small_sigma0, small_sigma1};
+ghost use Rattle.sha256.specs.Digest.{constants, initial, bit_length, schedule, next_word, round_of, rounds, sum_of, compressed, blocks, digest, half_digest, hashed, sha256_of};
+ghost use Rattle.sha256.specs.Streams.{TakenIn, updated, finished, stream_of, begun, running_of};
 
 // The bytes of a block and of a digest.
 pub const BLOCK: usize = 64;
@@ -71,7 +71,7 @@ fn add(a: u32, b: u32) -> u32
 
 fn rotr(x: u32, n: u32) -> u32
     requires { (0 < n) × (n < 32) }
-    ensures { result ≡ rotateRight n x }
+    ensures { result ≡ rotate_right n x }
 {
     (x >> n) | (x << (32 - n))
 }
@@ -89,25 +89,25 @@ fn maj(x: u32, y: u32, z: u32) -> u32
 }
 
 fn big0(x: u32) -> u32
-    ensures { result ≡ bigSigma0 x }
+    ensures { result ≡ big_sigma0 x }
 {
     rotr(x, 2) ^ rotr(x, 13) ^ rotr(x, 22)
 }
 
 fn big1(x: u32) -> u32
-    ensures { result ≡ bigSigma1 x }
+    ensures { result ≡ big_sigma1 x }
 {
     rotr(x, 6) ^ rotr(x, 11) ^ rotr(x, 25)
 }
 
 fn small0(x: u32) -> u32
-    ensures { result ≡ smallSigma0 x }
+    ensures { result ≡ small_sigma0 x }
 {
     rotr(x, 7) ^ rotr(x, 18) ^ (x >> 3)
 }
 
 fn small1(x: u32) -> u32
-    ensures { result ≡ smallSigma1 x }
+    ensures { result ≡ small_sigma1 x }
 {
     rotr(x, 17) ^ rotr(x, 19) ^ (x >> 10)
 }
@@ -129,7 +129,7 @@ fn spread(b: &[u8]) -> [u32; 64]
 }
 
 fn mixed(w2: u32, w7: u32, w15: u32, w16: u32) -> u32
-    ensures { result ≡ plus (plus (plus (smallSigma1 w2) w7) (smallSigma0 w15)) w16 }
+    ensures { result ≡ plus (plus (plus (small_sigma1 w2) w7) (small_sigma0 w15)) w16 }
 {
     add(add(add(small1(w2), w7), small0(w15)), w16)
 }
@@ -137,7 +137,7 @@ fn mixed(w2: u32, w7: u32, w15: u32, w16: u32) -> u32
 // The word t, of those before it.
 fn next_word(w: &[u32; 64], t: usize) -> u32
     requires { (16 ≤ t) × (t < 64) }
-    ensures { result ≡ nextWord w.now t }
+    ensures { result ≡ next_word w.now t }
 {
     mixed(w[t - 2], w[t - 7], w[t - 15], w[t - 16])
 }
@@ -153,13 +153,13 @@ fn table() -> [u32; 64]
 }
 
 fn first_sum(s: Hash, k: u32, w: u32) -> u32
-    ensures { result ≡ plus (plus (plus (plus s.h (bigSigma1 s.e)) (choose s.e s.f s.g)) k) w }
+    ensures { result ≡ plus (plus (plus (plus s.h (big_sigma1 s.e)) (choose s.e s.f s.g)) k) w }
 {
     add(add(add(add(s.h, big1(s.e)), ch(s.e, s.f, s.g)), k), w)
 }
 
 fn round(s: Hash, k: u32, w: u32) -> Hash
-    ensures { result ≡ roundOf k w s }
+    ensures { result ≡ round_of k w s }
 {
     let t1 = first_sum(s, k, w);
     let t2 = add(big0(s.a), maj(s.a, s.b, s.c));
@@ -180,7 +180,7 @@ fn round(s: Hash, k: u32, w: u32) -> Hash
 // A round whose word is there.
 fn early_round(k: &[u32; 64], w: &[u32; 64], t: usize, s: Hash) -> Hash
     requires { t < 64 }
-    ensures { result ≡ roundOf (slice_index k.now t) (slice_index w.now t) s }
+    ensures { result ≡ round_of (slice_index k.now t) (slice_index w.now t) s }
 {
     round(s, k[t], w[t])
 }
@@ -205,8 +205,8 @@ fn early_rounds(k: &[u32; 64], w: &[u32; 64], h: Hash) -> Hash
 // A later round, which makes its word.
 fn late_round(k: &[u32; 64], w: &mut [u32; 64], t: usize, s: Hash) -> Hash
     requires { (16 ≤ t) × (t < 64) }
-    ensures word { w.new ≡ slice_set w.old t (nextWord w.old t) }
-    ensures round { result ≡ roundOf (slice_index k.now t) (nextWord w.old t) s }
+    ensures word { w.new ≡ slice_set w.old t (next_word w.old t) }
+    ensures round { result ≡ round_of (slice_index k.now t) (next_word w.old t) s }
 {
     let x = next_word(w, t);
     w[t] = x;
@@ -284,7 +284,7 @@ fn low_bits(n: u64) -> u32
 // A word's bytes from `at` on.
 fn lay_word(out: &mut [u8], at: usize, n: u32)
     requires { at + 4 ≤ length out.old }
-    ensures { out.new ≡ laid out.old at (toBe32 n) }
+    ensures { out.new ≡ laid out.old at (to_be32 n) }
 {
     number::put_be32(&mut out[at..], n);
 }
@@ -292,7 +292,7 @@ fn lay_word(out: &mut [u8], at: usize, n: u32)
 // The number of bits of n bytes in the last eight places of a block.
 fn lay_length(b: &mut [u8], n: u64)
     requires { length b.old ≡ 64 }
-    ensures { b.new ≡ take 56 b.old ++ bitLength n }
+    ensures { b.new ≡ take 56 b.old ++ bit_length n }
 {
     lay_word(b, 56, high_bits(n));
     lay_word(b, 60, low_bits(n));
@@ -335,7 +335,7 @@ fn close(k: &[u32; 64], h: Hash, s: &[u8], n: u64) -> Hash
 
 fn lay_half(out: &mut [u8], at: usize, a: u32, b: u32, c: u32, d: u32)
     requires { at + 16 ≤ length out.old }
-    ensures { out.new ≡ laid out.old at (halfDigest a b c d) }
+    ensures { out.new ≡ laid out.old at (half_digest a b c d) }
 {
     lay_word(out, at, a);
     lay_word(out, at + 4, b);
@@ -423,7 +423,7 @@ pub fn start() -> Running
 
 // Takes in bytes more, from whatever `run` and the block say.
 pub fn update(run: Running, block: &mut [u8; BLOCK], bytes: &[u8]) -> Running
-    ensures { streamOf result block.new ≡ updated (streamOf run block.old) bytes.now }
+    ensures { stream_of result block.new ≡ updated (stream_of run block.old) bytes.now }
 {
     full_block(block);
     let held = waiting(run.length);
@@ -435,7 +435,7 @@ pub fn update(run: Running, block: &mut [u8; BLOCK], bytes: &[u8]) -> Running
 
 // Writes the digest of the bytes that came, from whatever `run` and the block say.
 pub fn finish(run: Running, block: &[u8; BLOCK], out: &mut [u8; DIGEST])
-    ensures { out.new ≡ finished (streamOf run block.now) }
+    ensures { out.new ≡ finished (stream_of run block.now) }
 {
     full_block(block);
     full_digest(out);
@@ -449,7 +449,7 @@ pub fn finish(run: Running, block: &[u8; BLOCK], out: &mut [u8; DIGEST])
 
 // Writes the digest of bytes.
 pub fn sha256(bytes: &[u8], out: &mut [u8; DIGEST])
-    ensures { out.new ≡ sha256Of bytes.now }
+    ensures { out.new ≡ sha256_of bytes.now }
 {
     let mut block = zeros();
     let run = start();
@@ -460,7 +460,7 @@ pub fn sha256(bytes: &[u8], out: &mut [u8; DIGEST])
 // ---- what was taken in, as numbers
 
 pub fn running_of(s: &[u64; RUNNING_NUMBERS]) -> Running
-    ensures { result ≡ runningOf s.now }
+    ensures { result ≡ running_of s.now }
 {
     let hash = Hash {
         a: word(s[0]),
@@ -476,7 +476,7 @@ pub fn running_of(s: &[u64; RUNNING_NUMBERS]) -> Running
 }
 
 pub fn numbers_of(run: Running) -> [u64; RUNNING_NUMBERS]
-    ensures { runningOf result ≡ run }
+    ensures { running_of result ≡ run }
 {
     let hash = run.hash;
     [

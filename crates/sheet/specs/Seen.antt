@@ -2,9 +2,9 @@
 use Rattle.std.specs.Prelude.{ℕ, ◌+◌, ◌-◌, ◌≤◌, ◌≡◌, List, true, false, length, get_or, take, drop}
 use Rattle.format.specs.Bytes.{be32}
 use Rattle.format.specs.Items.{point_of}
-use Rattle.format.specs.Sheet.{Entry, flawed, entry, entry_of, headerFrom, goodHeader, goodFront, frontHeader, behindFront}
+use Rattle.format.specs.Sheet.{Entry, flawed, entry, entry_of, header_from, good_header, good_front, front_header, behind_front}
 use Rattle.format.specs.WellFormed.{WellFormed}
-use Rattle.format.specs.Fields.{recordOf}
+use Rattle.format.specs.Fields.{record_of}
 use Rattle.format.specs.declared.Dated.{Dated}
 use Rattle.format.specs.declared.Fields.{Fields}
 use Rattle.format.specs.declared.Fields.TheVariants.{Leg}
@@ -16,20 +16,20 @@ use Rattle.sheet.specs.declared.Front.TheVariants.{Flawed as NoFront, Whole as W
 -- ---- the record at the front of s
 
 -- the leg of a record with its length bytes
-abbrev pub legOf : List ℕ → Dated → Fields
-legOf s date = Leg (get_or s 3 0) (get_or s 4 0) date (point_of be32 (drop 10 s)) (point_of be32 (drop 22 s))
+abbrev pub leg_of : List ℕ → Dated → Fields
+leg_of s date = Leg (get_or s 3 0) (get_or s 4 0) date (point_of be32 (drop 10 s)) (point_of be32 (drop 22 s))
 
 -- its label runs to its end
 abbrev pub label_of : ℕ → ℕ → List ℕ → List ℕ
 label_of n k s = take (n - k) (drop k s)
 
-abbrev pub entrySeen : Found → List ℕ → Entry
-entrySeen Flawed s = flawed
-entrySeen (Whole n f k) s = entry n (recordOf f (label_of n k s))
+abbrev pub entry_seen : Found → List ℕ → Entry
+entry_seen Flawed s = flawed
+entry_seen (Whole n f k) s = entry n (record_of f (label_of n k s))
 
 -- its label stands in it, and it in s; "Labels have 0 to 4,096 bytes"
 pub record Inside (s : List ℕ) (n : ℕ) (f : Fields) (k : ℕ) : Type 0 where
-  pub from-within : k ≤ n
+  pub from_within : k ≤ n
   pub within : n ≤ length s
   pub short : n ≤ k + 4096
 
@@ -39,16 +39,16 @@ InsideOf (Whole n f k) s = Inside s n f k
 
 -- an answer tells that x is at the front of s
 pub record Told (r : Found) (s : List ℕ) (x : Entry) : Type 0 where
-  pub same : entrySeen r s ≡ x
+  pub same : entry_seen r s ≡ x
   pub inside : InsideOf r s
 
 abbrev pub FormedOf : Found → List ℕ → Type 0
 FormedOf Flawed s = Unit
-FormedOf (Whole n f k) s = WellFormed (recordOf f (label_of n k s))
+FormedOf (Whole n f k) s = WellFormed (record_of f (label_of n k s))
 
 -- the same of the record at the front of s, which is well-formed
 pub record EntryTold (r : Found) (version : ℕ) (s : List ℕ) : Type 0 where
-  pub same : entrySeen r s ≡ entry_of version s
+  pub same : entry_seen r s ≡ entry_of version s
   pub inside : InsideOf r s
   pub formed : FormedOf r s
 
@@ -56,27 +56,27 @@ pub record EntryTold (r : Found) (version : ℕ) (s : List ℕ) : Type 0 where
 
 -- the header record of n bytes t, with a title of k bytes and a time line of m
 pub record Headed (n : ℕ) (t : List ℕ) (extended k m : ℕ) : Type 0 where
-  pub good : goodHeader n t ≡ true
-  pub header : headerFrom n t ≡ record { extended = extended; title = take k (drop 4 t); time = take m (drop (4 + k) t) }
+  pub good : good_header n t ≡ true
+  pub header : header_from n t ≡ record { extended = extended; title = take k (drop 4 t); time = take m (drop (4 + k) t) }
   pub size : n ≡ 4 + k + m
-  pub extended-small : extended ≤ 1
-  pub title-short : k ≤ 4096
-  pub time-short : m ≤ 64
+  pub extended_small : extended ≤ 1
+  pub title_short : k ≤ 4096
+  pub time_short : m ≤ 64
 
 abbrev pub HeaderTold : Front → ℕ → List ℕ → Type 0
-HeaderTold NoFront n t = goodHeader n t ≡ false
+HeaderTold NoFront n t = good_header n t ≡ false
 HeaderTold (WholeFront extended k m) n t = Headed n t extended k m
 
 -- the front of a sheet: the title starts at 7, the time line behind it, and behind that the records
 pub record Fronted (version : ℕ) (sheet : List ℕ) (extended k m : ℕ) : Type 0 where
-  pub good : goodFront version sheet ≡ true
-  pub header : frontHeader sheet ≡ record { extended = extended; title = take k (drop 7 sheet); time = take m (drop (7 + k) sheet) }
-  pub behind : behindFront sheet ≡ drop (7 + k + m) sheet
+  pub good : good_front version sheet ≡ true
+  pub header : front_header sheet ≡ record { extended = extended; title = take k (drop 7 sheet); time = take m (drop (7 + k) sheet) }
+  pub behind : behind_front sheet ≡ drop (7 + k + m) sheet
   pub inside : 7 + k + m ≤ length sheet
-  pub extended-small : extended ≤ 1
-  pub title-short : k ≤ 4096
-  pub time-short : m ≤ 64
+  pub extended_small : extended ≤ 1
+  pub title_short : k ≤ 4096
+  pub time_short : m ≤ 64
 
 abbrev pub FrontTold : Front → ℕ → List ℕ → Type 0
-FrontTold NoFront version sheet = goodFront version sheet ≡ false
+FrontTold NoFront version sheet = good_front version sheet ≡ false
 FrontTold (WholeFront extended k m) version sheet = Fronted version sheet extended k m

@@ -2,10 +2,10 @@
 // follow one another behind it. Labels and texts stay where they stand.
 ghost use Rattle.std.specs.Prelude.{◌≡◌, ℕ, ◌+◌, ◌≤◌, length, drop};
 ghost use Rattle.format.specs.Bytes.{be32};
-ghost use Rattle.format.specs.Header.{endsInReturn};
-ghost use Rattle.format.specs.Items.{point_of, dimensionsOf, traverseOf};
-ghost use Rattle.format.specs.Sheet.{labelFits, goodDate, dateFrom, legEntry, stationEntry, sectionEntry, undatedSectionEntry, sectionIn, errorEntry, framed, goodText, versionOf};
-ghost use Rattle.sheet.specs.Seen.{legOf, Told, EntryTold, HeaderTold, FrontTold};
+ghost use Rattle.format.specs.Header.{ends_in_return};
+ghost use Rattle.format.specs.Items.{point_of, dimensions_of, traverse_of};
+ghost use Rattle.format.specs.Sheet.{label_fits, good_date, date_from, leg_entry, station_entry, section_entry, undated_section_entry, section_in, error_entry, framed, good_text, version_of};
+ghost use Rattle.sheet.specs.Seen.{leg_of, Told, EntryTold, HeaderTold, FrontTold};
 
 use format::{LABEL_LIMIT, SHEET_VERSION, TIME_LIMIT, TITLE_LIMIT, UNDATED_VERSION};
 
@@ -63,7 +63,7 @@ pub fn point(s: &[u8]) -> format::Point
 // The dimensions at the front of s.
 pub fn dimensions(s: &[u8]) -> format::Dimensions
     requires { 16 ≤ length s.now }
-    ensures { result ≡ dimensionsOf 4 be32 s.now }
+    ensures { result ≡ dimensions_of 4 be32 s.now }
 {
     format::Dimensions {
         left: number::get_be32(s),
@@ -76,7 +76,7 @@ pub fn dimensions(s: &[u8]) -> format::Dimensions
 // The traverse error at the front of s.
 fn traverse(s: &[u8]) -> format::Traverse
     requires { 20 ≤ length s.now }
-    ensures { result ≡ traverseOf be32 s.now }
+    ensures { result ≡ traverse_of be32 s.now }
 {
     format::Traverse {
         legs: number::get_be32(s),
@@ -90,7 +90,7 @@ fn traverse(s: &[u8]) -> format::Traverse
 // Whether a body of n bytes has a label of at most 4,096 from its byte k on.
 pub fn label_fits(n: usize, k: usize) -> bool
     requires { k ≤ 32 }
-    ensures { result ≡ labelFits n k }
+    ensures { result ≡ label_fits n k }
 {
     k <= n && n <= k + LABEL_LIMIT
 }
@@ -98,7 +98,7 @@ pub fn label_fits(n: usize, k: usize) -> bool
 // Whether the days are those of a date of this kind: unused days are 0, and a range
 // has its first day before its last.
 pub fn good_date(kind: u8, first: u16, last: u16) -> bool
-    ensures { result ≡ goodDate kind first last }
+    ensures { result ≡ good_date kind first last }
 {
     if kind == 0 {
         return first == 0 && last == 0;
@@ -111,7 +111,7 @@ pub fn good_date(kind: u8, first: u16, last: u16) -> bool
 
 // The date of this kind and these days.
 fn date_from(kind: u8, first: u16, last: u16) -> format::Dated
-    ensures { result ≡ dateFrom kind first last }
+    ensures { result ≡ date_from kind first last }
 {
     if kind == 0 {
         return format::Dated::Undated;
@@ -125,7 +125,7 @@ fn date_from(kind: u8, first: u16, last: u16) -> format::Dated
 // The leg of a record s whose flags, style and date are good.
 fn leg(s: &[u8], date: format::Dated) -> format::Fields
     requires { 34 ≤ length s.now }
-    ensures { result ≡ legOf s.now date }
+    ensures { result ≡ leg_of s.now date }
 {
     format::Fields::Leg {
         flags: s[3],
@@ -139,7 +139,7 @@ fn leg(s: &[u8], date: format::Dated) -> format::Fields
 // The leg of the record s, whose body has n bytes.
 fn leg_entry(s: &[u8], n: usize) -> Entry
     requires { 2 + n ≤ length s.now }
-    ensures { Told result s.now (legEntry n (drop 2 s.now)) }
+    ensures { Told result s.now (leg_entry n (drop 2 s.now)) }
 {
     if !label_fits(n, 32) {
         return Entry::Flawed;
@@ -166,7 +166,7 @@ fn leg_entry(s: &[u8], n: usize) -> Entry
 // The station of the record s, whose body has n bytes.
 fn station_entry(s: &[u8], n: usize) -> Entry
     requires { 2 + n ≤ length s.now }
-    ensures { Told result s.now (stationEntry n (drop 2 s.now)) }
+    ensures { Told result s.now (station_entry n (drop 2 s.now)) }
 {
     if !label_fits(n, 14) {
         return Entry::Flawed;
@@ -187,7 +187,7 @@ fn station_entry(s: &[u8], n: usize) -> Entry
 // The cross-section of the record s of a version 2 sheet, whose body has n bytes.
 fn dated_entry(s: &[u8], n: usize) -> Entry
     requires { 2 + n ≤ length s.now }
-    ensures { Told result s.now (sectionEntry n (drop 2 s.now)) }
+    ensures { Told result s.now (section_entry n (drop 2 s.now)) }
 {
     if !label_fits(n, 23) {
         return Entry::Flawed;
@@ -218,7 +218,7 @@ fn dated_entry(s: &[u8], n: usize) -> Entry
 // The same of a version 1 sheet, where it has no date.
 fn undated_entry(s: &[u8], n: usize) -> Entry
     requires { 2 + n ≤ length s.now }
-    ensures { Told result s.now (undatedSectionEntry n (drop 2 s.now)) }
+    ensures { Told result s.now (undated_section_entry n (drop 2 s.now)) }
 {
     if !label_fits(n, 18) {
         return Entry::Flawed;
@@ -244,7 +244,7 @@ fn undated_entry(s: &[u8], n: usize) -> Entry
 // The cross-section of the record s, by the sheet's version.
 fn section_entry(s: &[u8], n: usize, version: u8) -> Entry
     requires { 2 + n ≤ length s.now }
-    ensures { Told result s.now (sectionIn version n (drop 2 s.now)) }
+    ensures { Told result s.now (section_in version n (drop 2 s.now)) }
 {
     if version == UNDATED_VERSION {
         return undated_entry(s, n);
@@ -255,7 +255,7 @@ fn section_entry(s: &[u8], n: usize, version: u8) -> Entry
 // The traverse error of the record s, whose body has n bytes. It has no label.
 fn error_entry(s: &[u8], n: usize) -> Entry
     requires { 2 + n ≤ length s.now }
-    ensures { Told result s.now (errorEntry n (drop 2 s.now)) }
+    ensures { Told result s.now (error_entry n (drop 2 s.now)) }
 {
     if n != 21 {
         return Entry::Flawed;
@@ -306,7 +306,7 @@ pub fn read_entry(s: &[u8], version: u8) -> Entry
 
 // Whether a text's last byte is a carriage return.
 fn ends_in_return(l: &[u8]) -> bool
-    ensures { result ≡ endsInReturn l.now }
+    ensures { result ≡ ends_in_return l.now }
 {
     if l.len() == 0 {
         return false;
@@ -316,7 +316,7 @@ fn ends_in_return(l: &[u8]) -> bool
 
 // Whether a title or a time line keeps the header's rules.
 fn text_ok(l: &[u8], limit: usize) -> bool
-    ensures { result ≡ goodText limit l.now }
+    ensures { result ≡ good_text limit l.now }
 {
     if wire::line_end(l) != l.len() {
         return false;
@@ -359,7 +359,7 @@ fn header(t: &[u8], n: usize) -> Front
 
 // The version by whose layout a sheet is judged: 1 where its first byte says so, else 2.
 pub fn version_of(sheet: &[u8]) -> u8
-    ensures { result ≡ versionOf sheet.now }
+    ensures { result ≡ version_of sheet.now }
 {
     if sheet.len() == 0 {
         return SHEET_VERSION;

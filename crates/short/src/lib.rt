@@ -2,8 +2,8 @@
 // with the same label and a MOVE, with bytes enough behind them; and the code of v3 to v7 that
 // drops some bytes of the label. Anything unusual is another item's: nothing is refused here.
 ghost use Rattle.std.specs.Prelude.{◌≡◌, ℕ, ◌≤◌, length};
-ghost use Rattle.format.specs.Label.{labelLimit};
-ghost use Rattle.short.specs.Brief.{NewPart, OldPart, Repeats, Trims, sidesOf, Finds, FindsNew, FindsOld};
+ghost use Rattle.format.specs.Label.{label_limit};
+ghost use Rattle.short.specs.Brief.{NewPart, OldPart, Repeats, Trims, sides_of, Finds, FindsNew, FindsOld};
 
 use format::LABEL_LIMIT;
 use number::index;
@@ -120,7 +120,7 @@ pub fn new_item(s: &[u8], len: usize) -> Short
 // A code of v3 to v7 below 0x30: 10-1f drop 1 to 16 bytes of the label, and leave some; or a
 // MOVE.
 fn trim(code: u8, len: usize) -> Short
-    requires { len ≤ labelLimit }
+    requires { len ≤ label_limit }
     ensures { Trims result code len }
 {
     let n = index(code);
@@ -142,7 +142,7 @@ fn trim(code: u8, len: usize) -> Short
 
 // The item of v3 to v7 at the front of s, after a label of len bytes.
 pub fn old_item(version: u8, s: &[u8], len: usize) -> Short
-    requires { len ≤ labelLimit }
+    requires { len ≤ label_limit }
     ensures { FindsOld result version s.now len }
 {
     if s.len() < 33 {
@@ -181,7 +181,7 @@ pub fn old_item(version: u8, s: &[u8], len: usize) -> Short
 
 // The item at the front of s, after a label of len bytes.
 pub fn short_item(version: u8, s: &[u8], len: usize) -> Short
-    requires { len ≤ labelLimit }
+    requires { len ≤ label_limit }
     ensures { Finds result version s.now len }
 {
     if version < 8 {
@@ -192,7 +192,7 @@ pub fn short_item(version: u8, s: &[u8], len: usize) -> Short
 
 // How many bytes follow the label of an XSECT: its sides as i16, or as i32.
 pub fn sides(code: u8) -> usize
-    ensures { (result ≡ sidesOf code) × (result ≤ 16) }
+    ensures { (result ≡ sides_of code) × (result ≤ 16) }
 {
     if code < 0x32 {
         return 8;

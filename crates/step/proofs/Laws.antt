@@ -12,17 +12,17 @@ use lib.Dec.{ltb}
 use borrow.Author.Tests.{ltb-true, ltb-false, lt-ltb, le-ltb}
 use Rattle.format.specs.Bytes.{pick, over}
 use Rattle.format.specs.Header.{Opening, shut, opened}
-use Rattle.format.specs.Label.{Labelled, tooShort, tooLong, labelled, keptOf, appended, labelStep}
-use Rattle.format.specs.State.{State, Record, Next, bad, end, on, made, onLabel, apply, next_of}
-use Rattle.format.specs.Sheet.{sheetVersion, layout}
+use Rattle.format.specs.Label.{Labelled, too_short, too_long, labelled, kept_of, appended, label_step}
+use Rattle.format.specs.State.{State, Record, Next, bad, end, on, made, on_label, apply, next_of}
+use Rattle.format.specs.Sheet.{sheet_version, layout}
 use Rattle.format.specs.Reading.{next, ended}
-use Rattle.format.specs.Items.{Item, Stop as stopItem, Style as styleItem, Move as moveItem, NoDate as noDateItem, Date as dateItem, Shorten as shortenItem, Error as errorItem, Xsect as xsectItem, Label as labelItem, Line as lineItem, Decoded, faulty, whole, item_of}
-use Rattle.format.specs.Outline.{dropLeaves}
-use Rattle.format.specs.Fields.{recordOf, state_of, recordSize}
-use Rattle.format.specs.Stepping.{standOf, stepNext, recorded, step_of, stepBuffer}
-use Rattle.format.specs.Answers.{begun, unopened, openOutcome}
-use Rattle.format.proofs.Basics.{pick-case}
-use Rattle.format.proofs.ReadingLaws.{SizedNext, next-sized}
+use Rattle.format.specs.Items.{Item, Stop as stop_item, Style as style_item, Move as move_item, NoDate as no_date_item, Date as date_item, Shorten as shorten_item, Error as error_item, Xsect as xsect_item, Label as label_item, Line as line_item, Decoded, faulty, whole, item_of}
+use Rattle.format.specs.Outline.{drop_leaves}
+use Rattle.format.specs.Fields.{record_of, state_of, record_size}
+use Rattle.format.specs.Stepping.{stand_of, step_next, recorded, step_of, step_buffer}
+use Rattle.format.specs.Answers.{begun, unopened, open_outcome}
+use Rattle.format.proofs.Basics.{pick_case}
+use Rattle.format.proofs.ReadingLaws.{SizedNext, next_sized}
 use Rattle.format.specs.declared.Cut.{Cut}
 use Rattle.format.specs.declared.Cut.TheVariants.{Empty, Back}
 use Rattle.format.specs.declared.Kept.{Kept}
@@ -31,11 +31,11 @@ use Rattle.format.specs.declared.Point.{Point}
 use Rattle.format.specs.declared.Setting.{Setting}
 use Rattle.format.specs.declared.Fields.{Fields}
 use Rattle.format.specs.declared.Fields.TheVariants.{Leg as FieldsLeg, Station as FieldsStation, Section as FieldsSection, Error as FieldsError}
-use Rattle.format.proofs.ApplyLaws.{label-case, leg-case}
+use Rattle.format.proofs.ApplyLaws.{label_case, leg_case}
 use Rattle.format.specs.declared.Stepped.TheVariants.{Record as RecordStep, Nothing, End as EndStep, Refused as StepRefused}
-use Rattle.wire.specs.Laid.{laidIf}
-use Rattle.wire.proofs.Laws.{length_over, laid-zero, laid-some}
-use Rattle.decode.specs.Seen.{itemSeen, Reads}
+use Rattle.wire.specs.Laid.{laid_if}
+use Rattle.wire.proofs.Laws.{length_over, laid_zero, laid_some}
+use Rattle.decode.specs.Seen.{item_seen, Reads}
 use Rattle.decode.specs.declared.Body.{Body}
 use Rattle.decode.specs.declared.Item.{Item as Told}
 use Rattle.decode.specs.declared.Item.TheVariants.{Faulty, Stop, Style, Move, NoDate, Date, Error as ErrorTold, Relabel}
@@ -48,9 +48,9 @@ use Rattle.item.specs.declared.Step.TheVariants.{Bad, End, On, Made}
 use Rattle.item.specs.contracts.Step as Steps'
 use types.Run.{OneOf, miss}
 use denote.Enum.Declared.{tag_of}
-use Rattle.item.proofs.Steps.{label-short, label-long, label-fits, comes-relabelled}
-use Rattle.format.proofs.SheetLaws.{layout-size}
-use Rattle.step.specs.Standing.{standSeen, lesser, Fresh, Opens, EndStepped, behindItem, roomOf, room_for, stepRoom, Peeks, Recorded, Within, After, Steps}
+use Rattle.item.proofs.Steps.{label_short, label_long, label_fits_lem, comes_relabelled}
+use Rattle.format.proofs.SheetLaws.{layout_size}
+use Rattle.step.specs.Standing.{stand_seen, lesser, Fresh, Opens, EndStepped, behind_item, room_of, room_for, step_room, Peeks, Recorded, Within, After, Steps}
 use Rattle.step.specs.declared.Phase.TheVariants.{Going, Ended, Refused}
 use Rattle.step.specs.declared.Room.{Room}
 use Rattle.step.specs.declared.Room.TheVariants.{Enough, Lacks}
@@ -59,104 +59,104 @@ use Rattle.step.specs.declared.Taken.{Taken}
 
 -- ---- opening
 
-pub opens-shut : (n p : ℕ) (o : Opening) (h : Held) (v q : ℕ) → unopened n p ≡ openOutcome o → Fresh h (Refused n p) v q → Opens h (standOf o)
-opens-shut n p (shut m r) h v q e F = record { same = λ label. rw F.phase-is (let a : n ≡ m = cc in let b : p ≡ r = cc in rw (a, b)) }
-opens-shut n p (opened w r k) h v q e F = absurd (let z : ◌≡◌ {A = ℕ} 0 1 = cc in omega arith)
+pub opens_shut : (n p : ℕ) (o : Opening) (h : Held) (v q : ℕ) → unopened n p ≡ open_outcome o → Fresh h (Refused n p) v q → Opens h (stand_of o)
+opens_shut n p (shut m r) h v q e F = record { same = λ label. rw F.phase_is (let a : n ≡ m = cc in let b : p ≡ r = cc in rw (a, b)) }
+opens_shut n p (opened w r k) h v q e F = absurd (let z : ◌≡◌ {A = ℕ} 0 1 = cc in omega arith)
 
-pub opens_at : (v p : ℕ) (o : Opening) (h : Held) → begun v p ≡ openOutcome o → Fresh h Going v p → Opens h (standOf o)
+pub opens_at : (v p : ℕ) (o : Opening) (h : Held) → begun v p ≡ open_outcome o → Fresh h Going v p → Opens h (stand_of o)
 opens_at v p (shut m r) h e F = absurd (let z : ◌≡◌ {A = ℕ} 0 1 = cc in omega arith)
 opens_at v p (opened w r k) h e F =
-    record { same = λ label. rw (F.phase-is, F.version-is, F.place_is, F.label-empty, F.setting-is) (let a : v ≡ w = cc in let b : p ≡ r = cc in rw (a, b)) }
+    record { same = λ label. rw (F.phase_is, F.version_is, F.place_is, F.label_empty, F.setting_is) (let a : v ≡ w = cc in let b : p ≡ r = cc in rw (a, b)) }
 
 -- ---- the lesser of two numbers
 
-pub lesser-most : (a b : ℕ) → lesser a b ≤ b
+pub lesser_most : (a b : ℕ) → lesser a b ≤ b
 unfolding lesser
-lesser-most a b = pick-case (λ (n : ℕ). n ≤ b) _ _ _ (λ e. omega arith) (λ e. ltb-false b a e)
+lesser_most a b = pick_case (λ (n : ℕ). n ≤ b) _ _ _ (λ e. omega arith) (λ e. ltb-false b a e)
 
 -- a place past a list finds nothing of it
-drop-lesser : (p : ℕ) (s : List ℕ) → drop (lesser p (length s)) s ≡ drop p s
+drop_lesser : (p : ℕ) (s : List ℕ) → drop (lesser p (length s)) s ≡ drop p s
 unfolding lesser
-drop-lesser p s =
-    pick-case (λ (n : ℕ). drop n s ≡ drop p s) _ _ _
+drop_lesser p s =
+    pick_case (λ (n : ℕ). drop n s ≡ drop p s) _ _ _
     (λ e. let l = ltb-true (length s) p e in drop_of_length-le s {i = length s} (omega arith) ∙ sym (drop_of_length-le s {i = p} (omega arith)))
     (λ e. refl)
 
 -- a length past a list is all of it
-take-lesser : (k : ℕ) (s : List ℕ) → take (lesser k (length s)) s ≡ take k s
+take_lesser : (k : ℕ) (s : List ℕ) → take (lesser k (length s)) s ≡ take k s
 unfolding lesser
-take-lesser k s =
-    pick-case (λ (n : ℕ). take n s ≡ take k s) _ _ _
+take_lesser k s =
+    pick_case (λ (n : ℕ). take n s ≡ take k s) _ _ _
     (λ e. let l = ltb-true (length s) k e in take-length s ∙ sym (take_all k s (omega arith)))
     (λ e. refl)
 
 -- ---- a stand that does not go on
 
-pub stands-still : (h : Held) (label file old : List ℕ) → h.phase ≡ Ended → Steps h label file old (record { answer = EndStep; stand = h }) label old
-unfolding stepBuffer over
-stands-still h label file old e = record { answer = rw e; stand = rw e; buffer = rw e }
+pub stands_still : (h : Held) (label file old : List ℕ) → h.phase ≡ Ended → Steps h label file old (record { answer = EndStep; stand = h }) label old
+unfolding step_buffer over
+stands_still h label file old e = record { answer = rw e; stand = rw e; buffer = rw e }
 
-pub stands-refused : (h : Held) (label file old : List ℕ) (n p : ℕ) → h.phase ≡ Refused n p → Steps h label file old (record { answer = StepRefused n p; stand = h }) label old
-unfolding stepBuffer over
-stands-refused h label file old n p e = record { answer = rw e; stand = rw e; buffer = rw e }
+pub stands_refused : (h : Held) (label file old : List ℕ) (n p : ℕ) → h.phase ≡ Refused n p → Steps h label file old (record { answer = StepRefused n p; stand = h }) label old
+unfolding step_buffer over
+stands_refused h label file old n p e = record { answer = rw e; stand = rw e; buffer = rw e }
 
 -- ---- room for the record of an item
 
 -- the code's record takes as many bytes as the definition's
-made-size : (m : ℕ) (f : Fields) (b : List ℕ) → length b ≡ 4096 → m ≤ 4096 → length (layout sheetVersion (recordOf f (take m b))) ≡ recordSize f m
-made-size m f b w l =
+made_size : (m : ℕ) (f : Fields) (b : List ℕ) → length b ≡ 4096 → m ≤ 4096 → length (layout sheet_version (record_of f (take m b))) ≡ record_size f m
+made_size m f b w l =
     let e : length (take m b) ≡ m = length-take-le m b (omega arith) in
-    layout-size f (take m b) ∙ rw e
+    layout_size f (take m b) ∙ rw e
 
 -- what tells an item tells its room
-pub tells-room : (r : ItemStep) (b : List ℕ) (x : Next) → Tells r b x → Peeks r x
-tells-room (Bad k) b x T = record { same = λ room. rw (← T.same); short = tt }
-tells-room End b x T = record { same = λ room. rw (← T.same); short = tt }
-tells-room (On n m st) b x T = record { same = λ room. rw (← T.same); short = T.short }
-tells-room (Made n m st f kept) b x T = record { same = λ room. rw (← T.same, made-size m f b T.whole T.short); short = T.short }
+pub tells_room : (r : ItemStep) (b : List ℕ) (x : Next) → Tells r b x → Peeks r x
+tells_room (Bad k) b x T = record { same = λ room. rw (← T.same); short = tt }
+tells_room End b x T = record { same = λ room. rw (← T.same); short = tt }
+tells_room (On n m st) b x T = record { same = λ room. rw (← T.same); short = T.short }
+tells_room (Made n m st f kept) b x T = record { same = λ room. rw (← T.same, made_size m f b T.whole T.short); short = T.short }
 
 -- an item that can make no record
-on_room : (x : Labelled) (n : ℕ) (go : List ℕ → State) (room : ℕ) → Enough ≡ room_for (onLabel x (λ l. on n (go l))) room
-on_room tooShort n go room = refl
-on_room tooLong n go room = refl
+on_room : (x : Labelled) (n : ℕ) (go : List ℕ → State) (room : ℕ) → Enough ≡ room_for (on_label x (λ l. on n (go l))) room
+on_room too_short n go room = refl
+on_room too_long n go room = refl
 on_room (labelled l) n go room = refl
 
 module _ (version : ℕ) (s : List ℕ) (st : State) where
-  none : (it : Told) → Reads it s (item_of version s) → ((room : ℕ) → Enough ≡ room_for (next_of st (itemSeen it s)) room) → Peeks End (next version s st)
+  none : (it : Told) → Reads it s (item_of version s) → ((room : ℕ) → Enough ≡ room_for (next_of st (item_seen it s)) room) → Peeks End (next version s st)
   unfolding next
   none it R e = record { same = λ room. e room ∙ ap (λ x. room_for (next_of st x) room) R.same; short = tt }
 
-  none-faulty : (k : ℕ) → Reads (Faulty k) s (item_of version s) → Peeks End (next version s st)
-  none-faulty k R = none (Faulty k) R (λ room. refl)
+  none_faulty : (k : ℕ) → Reads (Faulty k) s (item_of version s) → Peeks End (next version s st)
+  none_faulty k R = none (Faulty k) R (λ room. refl)
 
-  none-stop : Reads Stop s (item_of version s) → Peeks End (next version s st)
-  none-stop R = none Stop R (λ room. pick-case (λ (x : Next). Enough ≡ room_for x room) _ _ _ (λ e. refl) (λ e. on_room (labelStep st.label Empty []) 1 _ room))
+  none_stop : Reads Stop s (item_of version s) → Peeks End (next version s st)
+  none_stop R = none Stop R (λ room. pick_case (λ (x : Next). Enough ≡ room_for x room) _ _ _ (λ e. refl) (λ e. on_room (label_step st.label Empty []) 1 _ room))
 
-  none-style : (k : ℕ) → Reads (Style k) s (item_of version s) → Peeks End (next version s st)
-  none-style k R = none (Style k) R (λ room. pick-case (λ (x : Next). Enough ≡ room_for x room) _ _ _ (λ e. refl) (λ e. refl))
+  none_style : (k : ℕ) → Reads (Style k) s (item_of version s) → Peeks End (next version s st)
+  none_style k R = none (Style k) R (λ room. pick_case (λ (x : Next). Enough ≡ room_for x room) _ _ _ (λ e. refl) (λ e. refl))
 
-  none-move : (p : Point) → Reads (Move p) s (item_of version s) → Peeks End (next version s st)
-  none-move p R = none (Move p) R (λ room. refl)
+  none_move : (p : Point) → Reads (Move p) s (item_of version s) → Peeks End (next version s st)
+  none_move p R = none (Move p) R (λ room. refl)
 
-  none-undated : Reads NoDate s (item_of version s) → Peeks End (next version s st)
-  none-undated R = none NoDate R (λ room. refl)
+  none_undated : Reads NoDate s (item_of version s) → Peeks End (next version s st)
+  none_undated R = none NoDate R (λ room. refl)
 
-  none-date : (n first last : ℕ) → Reads (Date n first last) s (item_of version s) → Peeks End (next version s st)
-  none-date n first last R = none (Date n first last) R (λ room. pick-case (λ (x : Next). Enough ≡ room_for x room) _ _ _ (λ e. refl) (λ e. refl))
+  none_date : (n first last : ℕ) → Reads (Date n first last) s (item_of version s) → Peeks End (next version s st)
+  none_date n first last R = none (Date n first last) R (λ room. pick_case (λ (x : Next). Enough ≡ room_for x room) _ _ _ (λ e. refl) (λ e. refl))
 
   -- every item but the two that can
   pub none_of : (it : Told) → OneOf (0 ∷ 1 ∷ 2 ∷ 3 ∷ 4 ∷ 5 ∷ []) (tag_of Items.the_type it) → Reads it s (item_of version s) → Peeks End (next version s st)
-  none_of (Faulty k) o R = none-faulty k R
-  none_of Stop o R = none-stop R
-  none_of (Style k) o R = none-style k R
-  none_of (Move p) o R = none-move p R
-  none_of NoDate o R = none-undated R
-  none_of (Date n first last) o R = none-date n first last R
+  none_of (Faulty k) o R = none_faulty k R
+  none_of Stop o R = none_stop R
+  none_of (Style k) o R = none_style k R
+  none_of (Move p) o R = none_move p R
+  none_of NoDate o R = none_undated R
+  none_of (Date n first last) o R = none_date n first last R
   none_of (ErrorTold t) o R = absurd (miss (0 ∷ 1 ∷ 2 ∷ 3 ∷ 4 ∷ 5 ∷ []) 6 tt o)
   none_of (Relabel n cut from count body) o R = absurd (miss (0 ∷ 1 ∷ 2 ∷ 3 ∷ 4 ∷ 5 ∷ []) 7 tt o)
 
 -- what makes no record wants no room
-pub no_room : (r : ItemStep) (room : ℕ) → OneOf (0 ∷ 1 ∷ 2 ∷ []) (tag_of Steps'.the_type r) → Enough ≡ stepRoom r room
+pub no_room : (r : ItemStep) (room : ℕ) → OneOf (0 ∷ 1 ∷ 2 ∷ []) (tag_of Steps'.the_type r) → Enough ≡ step_room r room
 no_room (Bad k) room o = refl
 no_room End room o = refl
 no_room (On n m st) room o = refl
@@ -167,49 +167,49 @@ module _ (room : ℕ) (ample : 4130 ≤ room) where
   abbrev Ample : Next → Type 0
   Ample x = Enough ≡ room_for x room
 
-  ample-size : (size : ℕ) → size ≤ 4130 → Enough ≡ roomOf size room
-  unfolding roomOf pick
-  ample-size size l = rw (le-ltb room size (omega arith))
+  ample_size : (size : ℕ) → size ≤ 4130 → Enough ≡ room_of size room
+  unfolding room_of pick
+  ample_size size l = rw (le-ltb room size (omega arith))
 
-  ample-made : (f : Fields) (l : List ℕ) → length l ≤ 4096 → Enough ≡ roomOf (length (layout sheetVersion (recordOf f l))) room
-  ample-made f l h = ample-size _ (rw (layout-size f l) (most f))
+  ample_made : (f : Fields) (l : List ℕ) → length l ≤ 4096 → Enough ≡ room_of (length (layout sheet_version (record_of f l))) room
+  ample_made f l h = ample_size _ (rw (layout_size f l) (most f))
     where
-      most : (f : Fields) → recordSize f (length l) ≤ 4130
+      most : (f : Fields) → record_size f (length l) ≤ 4130
       most (FieldsLeg flags style date from to) = omega arith
       most (FieldsStation s) = omega arith
       most (FieldsSection last unused date size) = omega arith
       most (FieldsError t) = omega arith
 
-  ample-apply : (st : State) (n : ℕ) (it : Item) → Ample (apply st n it)
-  ample-apply st n stopItem = pick-case Ample _ _ _ (λ e. refl) (λ e. on_room (labelStep st.label Empty []) n _ room)
-  ample-apply st n (shortenItem cut) = on_room (labelStep st.label cut []) n _ room
-  ample-apply st n (styleItem k) = pick-case Ample _ _ _ (λ e. refl) (λ e. refl)
-  ample-apply st n (moveItem p) = refl
-  ample-apply st n noDateItem = refl
-  ample-apply st n (dateItem first last) = pick-case Ample _ _ _ (λ e. refl) (λ e. refl)
-  ample-apply st n (errorItem t) = ample-made (FieldsError t) [] (omega arith)
-  ample-apply st n (xsectItem last dims d added) = label-case Ample st.label (Back d) added _ refl refl (λ l h. ample-made (FieldsSection last 0 st.setting.date dims) l h)
-  ample-apply st n (labelItem flags p d added) = label-case Ample st.label (Back d) added _ refl refl (λ l h. ample-made (FieldsStation (record { flags = flags; place = p })) l h)
-  ample-apply st n (lineItem flags p d added) =
-      label-case Ample st.label (Back d) added _ refl refl
-      (λ l h. leg-case Ample st.setting.position n st flags p l refl (λ from. ample-made (FieldsLeg flags st.setting.style st.setting.date from p) l h))
+  ample_apply : (st : State) (n : ℕ) (it : Item) → Ample (apply st n it)
+  ample_apply st n stop_item = pick_case Ample _ _ _ (λ e. refl) (λ e. on_room (label_step st.label Empty []) n _ room)
+  ample_apply st n (shorten_item cut) = on_room (label_step st.label cut []) n _ room
+  ample_apply st n (style_item k) = pick_case Ample _ _ _ (λ e. refl) (λ e. refl)
+  ample_apply st n (move_item p) = refl
+  ample_apply st n no_date_item = refl
+  ample_apply st n (date_item first last) = pick_case Ample _ _ _ (λ e. refl) (λ e. refl)
+  ample_apply st n (error_item t) = ample_made (FieldsError t) [] (omega arith)
+  ample_apply st n (xsect_item last dims d added) = label_case Ample st.label (Back d) added _ refl refl (λ l h. ample_made (FieldsSection last 0 st.setting.date dims) l h)
+  ample_apply st n (label_item flags p d added) = label_case Ample st.label (Back d) added _ refl refl (λ l h. ample_made (FieldsStation (record { flags = flags; place = p })) l h)
+  ample_apply st n (line_item flags p d added) =
+      label_case Ample st.label (Back d) added _ refl refl
+      (λ l h. leg_case Ample st.setting.position n st flags p l refl (λ from. ample_made (FieldsLeg flags st.setting.style st.setting.date from p) l h))
 
-  ample-of : (st : State) (x : Decoded) → Ample (next_of st x)
-  ample-of st (faulty k) = refl
-  ample-of st (whole n it) = ample-apply st n it
+  ample_of : (st : State) (x : Decoded) → Ample (next_of st x)
+  ample_of st (faulty k) = refl
+  ample_of st (whole n it) = ample_apply st n it
 
-  pub ample-room : (version : ℕ) (s : List ℕ) (st : State) → Enough ≡ room_for (next version s st) room
+  pub ample_room : (version : ℕ) (s : List ℕ) (st : State) → Enough ≡ room_for (next version s st) room
   unfolding next
-  ample-room version s st = ample-of st (item_of version s)
+  ample_room version s st = ample_of st (item_of version s)
 
 -- the test of room
-pub room-lacks : (size room : ℕ) → room < size → Lacks size ≡ roomOf size room
-unfolding roomOf pick
-room-lacks size room l = rw (lt-ltb room size l)
+pub room_lacks : (size room : ℕ) → room < size → Lacks size ≡ room_of size room
+unfolding room_of pick
+room_lacks size room l = rw (lt-ltb room size l)
 
-pub room-enough : (size room : ℕ) → size ≤ room → Enough ≡ roomOf size room
-unfolding roomOf pick
-room-enough size room l = rw (le-ltb room size l)
+pub room_enough : (size room : ℕ) → size ≤ room → Enough ≡ room_of size room
+unfolding room_of pick
+room_enough size room l = rw (le-ltb room size l)
 
 -- an item with a label: the buffer as it will be is not there, so it is said
 module _ (version : ℕ) (s : List ℕ) (st : Setting) (len : ℕ) (b : List ℕ) (w : length b ≡ 4096) (h : len ≤ 4096) (n : ℕ) (cut : Cut) (from count : ℕ) (body : Body)
@@ -223,40 +223,40 @@ module _ (version : ℕ) (s : List ℕ) (st : Setting) (len : ℕ) (b : List ℕ
   abbrev x : Next
   x = next version s (state_of st l)
 
-  added-count : length added ≡ count
-  added-count = length-take-le count (drop from s) (rw (length-drop from s) (omega (arith, R.sound.0)))
+  added_count : length added ≡ count
+  added_count = length-take-le count (drop from s) (rw (length-drop from s) (omega (arith, R.sound.0)))
 
-  added-size : (k : ℕ) → k ≤ len → length (take k l ++ added) ≡ k + count
-  added-size k i =
+  added_size : (k : ℕ) → k ≤ len → length (take k l ++ added) ≡ k + count
+  added_size k i =
       let a : length l ≡ len = length-take-le len b (omega arith) in
       let d : length (take k l) ≡ k = length-take-le k l (omega arith) in
-      length-append (take k l) added ∙ rw (d, added-count)
+      length-append (take k l) added ∙ rw (d, added_count)
 
-  pub peek-short : keptOf l cut ≡ KeptLacks → Peeks (Bad 6) x
-  unfolding labelStep
-  peek-short e =
-      let T : LabelTells TooShort b (labelStep l cut added) = record { same = rw e; whole = w; short = tt } in
-      tells-room (Bad 6) b x (comes-relabelled version s st l b n cut from count body (Bad 6) R (label-short _ _ _ T))
+  pub peek_short : kept_of l cut ≡ KeptLacks → Peeks (Bad 6) x
+  unfolding label_step
+  peek_short e =
+      let T : LabelTells TooShort b (label_step l cut added) = record { same = rw e; whole = w; short = tt } in
+      tells_room (Bad 6) b x (comes_relabelled version s st l b n cut from count body (Bad 6) R (label_short _ _ _ T))
 
-  pub peek-long : (k : ℕ) → keptOf l cut ≡ Keeps k → k ≤ 4096 → 4096 - k < count → Peeks (Bad 7) x
-  unfolding labelStep pick
-  peek-long k e i j =
-      let T : LabelTells TooLong b (labelStep l cut added) = record { same = rw (e, added-count, lt-ltb 4096 (k + count) (omega arith)); whole = w; short = tt } in
-      tells-room (Bad 7) b x (comes-relabelled version s st l b n cut from count body (Bad 7) R (label-long _ _ _ T))
+  pub peek_long : (k : ℕ) → kept_of l cut ≡ Keeps k → k ≤ 4096 → 4096 - k < count → Peeks (Bad 7) x
+  unfolding label_step pick
+  peek_long k e i j =
+      let T : LabelTells TooLong b (label_step l cut added) = record { same = rw (e, added_count, lt-ltb 4096 (k + count) (omega arith)); whole = w; short = tt } in
+      tells_room (Bad 7) b x (comes_relabelled version s st l b n cut from count body (Bad 7) R (label_long _ _ _ T))
 
-  pub peek-fits : (k : ℕ) (r : ItemStep) → keptOf l cut ≡ Keeps k → k ≤ len → count ≤ 4096 - k → Does r (λ c. made_of body (state_of st []) n (take (k + count) c)) (k + count) → Peeks r x
-  unfolding labelStep pick over
-  peek-fits k r e i j D =
+  pub peek_fits : (k : ℕ) (r : ItemStep) → kept_of l cut ≡ Keeps k → k ≤ len → count ≤ 4096 - k → Does r (λ c. made_of body (state_of st []) n (take (k + count) c)) (k + count) → Peeks r x
+  unfolding label_step pick over
+  peek_fits k r e i j D =
       let new : List ℕ = take k l ++ added in
       let c : List ℕ = over new b in
-      let z : length new ≡ k + count = added-size k i in
-      let T : LabelTells (Fits (k + count) k) c (labelStep l cut added) =
+      let z : length new ≡ k + count = added_size k i in
+      let T : LabelTells (Fits (k + count) k) c (label_step l cut added) =
       record {
-        same = rw (e, added-count, le-ltb 4096 (k + count) (omega arith)) (ap labelled (take_at new (drop (length new) b) (k + count) z));
+        same = rw (e, added_count, le-ltb 4096 (k + count) (omega arith)) (ap labelled (take_at new (drop (length new) b) (k + count) z));
         whole = length_over new b (omega arith) ∙ w;
         short = omega arith;
       } in
-      tells-room r c x (comes-relabelled version s st l c n cut from count body r R (label-fits _ _ _ (k + count) k r T D))
+      tells_room r c x (comes_relabelled version s st l c n cut from count body r R (label_fits_lem _ _ _ (k + count) k r T D))
 
 -- ---- one item
 
@@ -274,107 +274,107 @@ module _ (h : Held) (label file old : List ℕ) (g : h.phase ≡ Going) (full : 
   abbrev pub there : Next
   there = next h.version (take (length file - at) (drop at file)) (state_of h.setting (take (lesser h.len 4096) label))
 
-  pub rest-is : take (length file - at) (drop at file) ≡ rest
-  rest-is = part_to_end file at ∙ drop-lesser h.place file
+  pub rest_is : take (length file - at) (drop at file) ≡ rest
+  rest_is = part_to_end file at ∙ drop_lesser h.place file
 
   label_is : take (lesser h.len 4096) label ≡ take h.len label
-  label_is = rw (← full) (take-lesser h.len label)
+  label_is = rw (← full) (take_lesser h.len label)
 
-  there-is : there ≡ next h.version rest state
-  there-is = ap₂ (λ (s : List ℕ) (l : List ℕ). next h.version s (state_of h.setting l)) rest-is label_is
+  there_is : there ≡ next h.version rest state
+  there_is = ap₂ (λ (s : List ℕ) (l : List ℕ). next h.version s (state_of h.setting l)) rest_is label_is
 
-  one : (x : Next) → x ≡ there → step_of (standSeen h label) file (length old) ≡ stepNext x h.version h.place state rest (length old)
-  one x e = rw g (ap (λ (y : Next). stepNext y h.version h.place state rest (length old)) (sym (e ∙ there-is)))
+  one : (x : Next) → x ≡ there → step_of (stand_seen h label) file (length old) ≡ step_next x h.version h.place state rest (length old)
+  one x e = rw g (ap (λ (y : Next). step_next y h.version h.place state rest (length old)) (sym (e ∙ there_is)))
 
   -- 11, before anything is touched
-  lack-made : (n : ℕ) (r : Record) (st : State) → made n r st ≡ there → (k : ℕ) → Lacks k ≡ roomOf (length (layout sheetVersion r)) (length old)
+  lack_made : (n : ℕ) (r : Record) (st : State) → made n r st ≡ there → (k : ℕ) → Lacks k ≡ room_of (length (layout sheet_version r)) (length old)
       → Steps h label file old (record { answer = StepRefused 11 k; stand = h }) label old
-  unfolding stepBuffer over recorded roomOf pick
-  lack-made n r st e k q = go (ltb (length old) (length (layout sheetVersion r))) refl
+  unfolding step_buffer over recorded room_of pick
+  lack_made n r st e k q = go (ltb (length old) (length (layout sheet_version r))) refl
     where
       S : Bool → Type 0
       S x = Steps h label file old (record { answer = StepRefused 11 k; stand = h }) label old
 
-      go : (x : Bool) → ltb (length old) (length (layout sheetVersion r)) ≡ x → S x
+      go : (x : Bool) → ltb (length old) (length (layout sheet_version r)) ≡ x → S x
       go true f =
           let p = rw f at q in
-          let z : k ≡ length (layout sheetVersion r) = cc in
+          let z : k ≡ length (layout sheet_version r) = cc in
           record { answer = rw (one _ e, f, z); stand = rw (one _ e, f) (rw g); buffer = rw (one _ e, f) }
       go false f = absurd (let p = rw f at q in let z : ◌≡◌ {A = ℕ} 0 1 = cc in omega arith)
 
-  pub step-lacks : (k : ℕ) → Lacks k ≡ room_for there (length old) → Steps h label file old (record { answer = StepRefused 11 k; stand = h }) label old
-  step-lacks k q = go there refl
+  pub step_lacks : (k : ℕ) → Lacks k ≡ room_for there (length old) → Steps h label file old (record { answer = StepRefused 11 k; stand = h }) label old
+  step_lacks k q = go there refl
     where
       go : (x : Next) → x ≡ there → Steps h label file old (record { answer = StepRefused 11 k; stand = h }) label old
       go (bad j) e = absurd (let p = rw (← e) at q in let z : ◌≡◌ {A = ℕ} 0 1 = cc in omega arith)
       go end e = absurd (let p = rw (← e) at q in let z : ◌≡◌ {A = ℕ} 0 1 = cc in omega arith)
       go (on n st) e = absurd (let p = rw (← e) at q in let z : ◌≡◌ {A = ℕ} 0 1 = cc in omega arith)
-      go (made n r st) e = lack-made n r st e k (rw (← e) at q)
+      go (made n r st) e = lack_made n r st e k (rw (← e) at q)
 
   module _ (b : List ℕ) where
     abbrev pub Found : ItemStep → Type 0
     Found it = Tells it b there
 
     size : (it : ItemStep) → Found it → SizedNext (length file - h.place) (seen it b)
-    size it T = rw (T.same ∙ there-is, ← length-drop h.place file) (next-sized h.version rest state)
+    size it T = rw (T.same ∙ there_is, ← length-drop h.place file) (next_sized h.version rest state)
 
-    pub step-within : (it : ItemStep) → Found it → length file ≤ 9223372036854775807 → Within h it
-    step-within (Bad k) T i = tt
-    step-within End T i = omega (arith, size End T)
-    step-within (On n m st) T i = let z = size (On n m st) T in omega (arith, z.0, z.1)
-    step-within (Made n m st f kept) T i = let z = size (Made n m st f kept) T in (omega (arith, z.0, z.1), T.short)
+    pub step_within : (it : ItemStep) → Found it → length file ≤ 9223372036854775807 → Within h it
+    step_within (Bad k) T i = tt
+    step_within End T i = omega (arith, size End T)
+    step_within (On n m st) T i = let z = size (On n m st) T in omega (arith, z.0, z.1)
+    step_within (Made n m st f kept) T i = let z = size (Made n m st f kept) T in (omega (arith, z.0, z.1), T.short)
 
     -- the end item, where others follow it, and where none do
     end_after : (t : Taken) → Found End → 1 < length rest → (t.answer ≡ StepRefused 10 (h.place + 1)) × (t.stand.phase ≡ Refused 10 (h.place + 1)) → Steps h label file old t b old
-    unfolding stepBuffer over ended pick
+    unfolding step_buffer over ended pick
     end_after t T l S =
         record { answer = rw (S.0, one _ T.same, lt-ltb _ _ l); stand = rw (S.1, one _ T.same, lt-ltb _ _ l); buffer = rw (one _ T.same) }
 
-    end-last : (t : Taken) → Found End → length rest ≤ 1 → (t.answer ≡ EndStep) × (t.stand.phase ≡ Ended) → Steps h label file old t b old
-    unfolding stepBuffer over ended pick
-    end-last t T l S =
+    end_last : (t : Taken) → Found End → length rest ≤ 1 → (t.answer ≡ EndStep) × (t.stand.phase ≡ Ended) → Steps h label file old t b old
+    unfolding step_buffer over ended pick
+    end_last t T l S =
         record { answer = rw (S.0, one _ T.same, le-ltb _ _ l); stand = rw (S.1, one _ T.same, le-ltb _ _ l); buffer = rw (one _ T.same) }
 
     -- an item that makes a record, with room for it
-    made-step : (n m : ℕ) (st : Setting) (f : Fields) (kept : ℕ) → Found (Made n m st f kept) → recordSize f m ≤ length old → kept ≡ dropLeaves state.label (item_of h.version rest)
-        → (t : Taken) (new : List ℕ) → Recorded (behindItem h n m st) b f kept old t new → Steps h label file old t b new
-    unfolding stepBuffer recorded pick
-    made-step n m st f kept T l K t new S =
-        let rec : Record = recordOf f (take m b) in
-        let k = made-size m f b T.whole T.short in
-        let z : 0 + length (layout sheetVersion rec) ≤ length old = omega (arith, k) in
-        let y : new ≡ over (layout sheetVersion rec) old = S.buffer ∙ laid-some old (layout sheetVersion rec) 0 z ∙ laid-zero old (layout sheetVersion rec) in
+    made_step : (n m : ℕ) (st : Setting) (f : Fields) (kept : ℕ) → Found (Made n m st f kept) → record_size f m ≤ length old → kept ≡ drop_leaves state.label (item_of h.version rest)
+        → (t : Taken) (new : List ℕ) → Recorded (behind_item h n m st) b f kept old t new → Steps h label file old t b new
+    unfolding step_buffer recorded pick
+    made_step n m st f kept T l K t new S =
+        let rec : Record = record_of f (take m b) in
+        let k = made_size m f b T.whole T.short in
+        let z : 0 + length (layout sheet_version rec) ≤ length old = omega (arith, k) in
+        let y : new ≡ over (layout sheet_version rec) old = S.buffer ∙ laid_some old (layout sheet_version rec) 0 z ∙ laid_zero old (layout sheet_version rec) in
         record {
           answer = rw (S.answer, one _ T.same, k, le-ltb _ _ l, K);
           stand = rw (S.stand, one _ T.same, k, le-ltb _ _ l);
           buffer = rw (one _ T.same, k, le-ltb _ _ l) y;
         }
 
-    room-is : (f : Fields) (m : ℕ) → Enough ≡ roomOf (recordSize f m) (length old) → recordSize f m ≤ length old
-    unfolding roomOf pick
-    room-is f m q = go (ltb (length old) (recordSize f m)) refl
+    room_is : (f : Fields) (m : ℕ) → Enough ≡ room_of (record_size f m) (length old) → record_size f m ≤ length old
+    unfolding room_of pick
+    room_is f m q = go (ltb (length old) (record_size f m)) refl
       where
-        go : (x : Bool) → ltb (length old) (recordSize f m) ≡ x → recordSize f m ≤ length old
+        go : (x : Bool) → ltb (length old) (record_size f m) ≡ x → record_size f m ≤ length old
         go true e = absurd (let p = rw e at q in let z : ◌≡◌ {A = ℕ} 0 1 = cc in omega arith)
-        go false e = ltb-false (length old) (recordSize f m) e
+        go false e = ltb-false (length old) (record_size f m) e
 
-    abbrev keptThere : ℕ
-    keptThere = dropLeaves (take (lesser h.len 4096) label) (item_of h.version (take (length file - at) (drop at file)))
+    abbrev kept_there : ℕ
+    kept_there = drop_leaves (take (lesser h.len 4096) label) (item_of h.version (take (length file - at) (drop at file)))
 
-    kept-is : keptThere ≡ dropLeaves state.label (item_of h.version rest)
-    kept-is = rw (rest-is, label_is)
+    kept_is : kept_there ≡ drop_leaves state.label (item_of h.version rest)
+    kept_is = rw (rest_is, label_is)
 
-    pub step_after : (it : ItemStep) → Found it → TellsKept it keptThere → Enough ≡ room_for there (length old) → (left : ℕ) → left ≡ length rest → (t : Taken) (new : List ℕ) → After h it left b old t new
+    pub step_after_lem : (it : ItemStep) → Found it → TellsKept it kept_there → Enough ≡ room_for there (length old) → (left : ℕ) → left ≡ length rest → (t : Taken) (new : List ℕ) → After h it left b old t new
         → Steps h label file old t b new
-    unfolding stepBuffer over
-    step_after (Bad k) T K q left e t new S =
+    unfolding step_buffer over
+    step_after_lem (Bad k) T K q left e t new S =
         record { answer = rw (S.0, one _ T.same); stand = rw (S.1, one _ T.same); buffer = rw (one _ T.same) S.2 }
-    step_after End T K q left e t new S = rw S.1 (go (ltb 1 (length rest)) refl)
+    step_after_lem End T K q left e t new S = rw S.1 (go (ltb 1 (length rest)) refl)
       where
         go : (x : Bool) → ltb 1 (length rest) ≡ x → Steps h label file old t b old
         go true f = let l = ltb-true 1 (length rest) f in end_after t T l (S.0.more (omega arith))
-        go false f = let l = ltb-false 1 (length rest) f in end-last t T l (S.0.none (omega arith))
-    step_after (On n m st) T K q left e t new S =
+        go false f = let l = ltb-false 1 (length rest) f in end_last t T l (S.0.none (omega arith))
+    step_after_lem (On n m st) T K q left e t new S =
         record { answer = rw (S.0, one _ T.same); stand = rw (S.1, one _ T.same); buffer = rw (one _ T.same) S.2 }
-    step_after (Made n m st f kept) T K q left e t new S =
-        made-step n m st f kept T (room-is f m (rw (← T.same, made-size m f b T.whole T.short) at q)) (K ∙ kept-is) t new S
+    step_after_lem (Made n m st f kept) T K q left e t new S =
+        made_step n m st f kept T (room_is f m (rw (← T.same, made_size m f b T.whole T.short) at q)) (K ∙ kept_is) t new S

@@ -5,7 +5,7 @@ use mathlib.Core.Path.{◌≡◌, refl, sym, ap, ◌∙◌}
 use mathlib.Core.List.{List}
 use lib.ListN.{length, take, drop}
 use Rattle.format.specs.Items.{item_of}
-use Rattle.format.specs.Outline.{dropLeaves}
+use Rattle.format.specs.Outline.{drop_leaves}
 use Rattle.format.specs.State.{Next}
 use Rattle.format.specs.Reading.{next}
 use Rattle.format.specs.Fields.{state_of}
@@ -14,14 +14,14 @@ use Rattle.format.specs.declared.Stepped.TheVariants.{Record as RecordStep, Noth
 use Rattle.item.specs.Seen.{Tells}
 use Rattle.item.specs.Commonest.{moved_to}
 use Rattle.item.specs.declared.Step.TheVariants.{On, Made}
-use Rattle.laying.specs.Quickly.{laidBy, LaidAs, Quickly}
+use Rattle.laying.specs.Quickly.{laid_by, LaidAs, Quickly}
 use Rattle.laying.specs.declared.Quick.{Quick}
 use Rattle.laying.specs.declared.Quick.TheVariants.{Other, Leg as QuickLeg, Made as QuickMade, Trim, Move}
-use Rattle.step.specs.Standing.{lesser, behindItem, Steps}
+use Rattle.step.specs.Standing.{lesser, behind_item, Steps}
 use Rattle.step.specs.Shortly.{Took, Shortly}
 use Rattle.step.specs.declared.Phase.TheVariants.{Going}
 use Rattle.step.specs.declared.Stand.{Stand as Held}
-use Rattle.step.proofs.Laws.{there, step-within, step_after, ample-room}
+use Rattle.step.proofs.Laws.{there, step_within, step_after_lem, ample_room}
 
 module _ (h : Held) (label file old : List ℕ) (g : h.phase ≡ Going) (full : length label ≡ 4096) (ample : 4130 ≤ length old) (few : length file ≤ 9223372036854775807) where
   abbrev at : ℕ
@@ -31,35 +31,35 @@ module _ (h : Held) (label file old : List ℕ) (g : h.phase ≡ Going) (full : 
   item = next h.version (take (length file - at) (drop at file)) (state_of h.setting (take (lesser h.len 4096) label))
 
   abbrev stays : ℕ
-  stays = dropLeaves (take (lesser h.len 4096) label) (item_of h.version (take (length file - at) (drop at file)))
+  stays = drop_leaves (take (lesser h.len 4096) label) (item_of h.version (take (length file - at) (drop at file)))
 
-  took-made : (size m : ℕ) (after : Setting) (bytes kept : ℕ) (b new : List ℕ) → LaidAs size m after bytes kept item stays b old new 0
+  took_made : (size m : ℕ) (after : Setting) (bytes kept : ℕ) (b new : List ℕ) → LaidAs size m after bytes kept item stays b old new 0
       → Took h label file old size m after (RecordStep bytes kept) b new
-  took-made size m after bytes kept b new L =
-      let w = step-within h label file old g full b (Made size m after L.fields kept) L.told few in
+  took_made size m after bytes kept b new L =
+      let w = step_within h label file old g full b (Made size m after L.fields kept) L.told few in
       record {
         going = g;
         within = w.0;
         short = w.1;
         steps =
-            step_after h label file old g full b (Made size m after L.fields kept) L.told L.kept-is (ample-room (length old) ample _ _ _) _ refl _ new
-            (record { answer = rw L.bytes-are; stand = refl; buffer = L.laid ∙ ap (λ (y : Next). laidBy y old 0) (sym L.told.same) });
+            step_after_lem h label file old g full b (Made size m after L.fields kept) L.told L.kept_is (ample_room (length old) ample _ _ _) _ refl _ new
+            (record { answer = rw L.bytes_are; stand = refl; buffer = L.laid ∙ ap (λ (y : Next). laid_by y old 0) (sym L.told.same) });
       }
 
   -- no record: the label has m bytes then
-  took-on : (size m : ℕ) (after : Setting) (b new : List ℕ) → Tells (On size m after) b item → new ≡ old → Took h label file old size m after Nothing b new
-  took-on size m after b new T e =
+  took_on : (size m : ℕ) (after : Setting) (b new : List ℕ) → Tells (On size m after) b item → new ≡ old → Took h label file old size m after Nothing b new
+  took_on size m after b new T e =
       record {
         going = g;
-        within = step-within h label file old g full b (On size m after) T few;
+        within = step_within h label file old g full b (On size m after) T few;
         short = T.short;
-        steps = step_after h label file old g full b (On size m after) T tt (ample-room (length old) ample _ _ _) _ refl _ new (refl, refl, e);
+        steps = step_after_lem h label file old g full b (On size m after) T tt (ample_room (length old) ample _ _ _) _ refl _ new (refl, refl, e);
       }
 
   -- whatever the answer is
   pub shortly : (r : Quick) (b new : List ℕ) → Quickly r item stays h.setting label b old new 0 → Shortly r h label file old b new
   shortly Other b new Q = Q
-  shortly (QuickLeg size m to kept) b new Q = took-made size m (moved_to h.setting to) (34 + m) kept b new Q
-  shortly (QuickMade size m bytes kept) b new Q = took-made size m h.setting bytes kept b new Q
-  shortly (Trim m) b new Q = took-on 1 m h.setting b new Q.0 Q.1
-  shortly (Move m to) b new Q = took-on 13 m (moved_to h.setting to) b new Q.0 Q.1
+  shortly (QuickLeg size m to kept) b new Q = took_made size m (moved_to h.setting to) (34 + m) kept b new Q
+  shortly (QuickMade size m bytes kept) b new Q = took_made size m h.setting bytes kept b new Q
+  shortly (Trim m) b new Q = took_on 1 m h.setting b new Q.0 Q.1
+  shortly (Move m to) b new Q = took_on 13 m (moved_to h.setting to) b new Q.0 Q.1

@@ -1,22 +1,22 @@
 -- One step over one of the commonest items. Assumes nothing.
 use Rattle.std.specs.Prelude.{ℕ, ◌+◌, ◌≤◌, ◌≡◌, List}
-use Rattle.format.specs.Label.{labelLimit}
+use Rattle.format.specs.Label.{label_limit}
 use Rattle.format.specs.declared.Setting.{Setting}
 use Rattle.format.specs.declared.Stepped.{Stepped}
 use Rattle.format.specs.declared.Stepped.TheVariants.{Record as RecordStep, Nothing}
 use Rattle.item.specs.Commonest.{moved_to}
 use Rattle.laying.specs.declared.Quick.{Quick}
 use Rattle.laying.specs.declared.Quick.TheVariants.{Other, Leg, Made, Trim, Move}
-use Rattle.step.specs.Standing.{sliceLimit, behindItem, Steps}
+use Rattle.step.specs.Standing.{slice_limit, behind_item, Steps}
 use Rattle.step.specs.declared.Phase.TheVariants.{Going}
 use Rattle.step.specs.declared.Stand.{Stand as Held}
 
 -- a step over an item of so many bytes, after which the label has m: its answer, and the reader then stands behind it
 pub record Took (h : Held) (label file old : List ℕ) (size m : ℕ) (after : Setting) (a : Stepped) (label' new : List ℕ) : Type 0 where
   pub going : h.phase ≡ Going
-  pub within : h.place + size ≤ sliceLimit
-  pub short : m ≤ labelLimit
-  pub steps : Steps h label file old (record { answer = a; stand = behindItem h size m after }) label' new
+  pub within : h.place + size ≤ slice_limit
+  pub short : m ≤ label_limit
+  pub steps : Steps h label file old (record { answer = a; stand = behind_item h size m after }) label' new
 
 -- `short_at`: such a step; or another item, and nothing was touched
 abbrev pub Shortly : Quick → Held → List ℕ → List ℕ → List ℕ → List ℕ → List ℕ → Type 0

@@ -1,19 +1,19 @@
 // Stepping through a file, an item at a time. Where a reader stands is a small value: the
 // label's bytes stand in a buffer beside it, which is lent to each step and never copied.
 ghost use Rattle.std.specs.Prelude.{◌≡◌, ℕ, ◌+◌, ◌≤◌, length, take};
-ghost use Rattle.format.specs.Header.{openingOf};
-ghost use Rattle.format.specs.Stepping.{openStand, step_of, stepBuffer};
-ghost use Rattle.format.specs.Answers.{openOutcome, opened_of, steppedOf};
+ghost use Rattle.format.specs.Header.{opening_of};
+ghost use Rattle.format.specs.Stepping.{open_stand, step_of, step_buffer};
+ghost use Rattle.format.specs.Answers.{open_outcome, opened_of, stepped_of};
 ghost use Rattle.format.specs.Fields.{state_of};
-ghost use Rattle.format.specs.Label.{labelLimit};
+ghost use Rattle.format.specs.Label.{label_limit};
 ghost use Rattle.format.specs.Reading.{next};
-ghost use Rattle.step.specs.Standing.{lesser, sliceLimit, Fresh, EndStepped, behindItem, room_for, Peeks, Recorded, Within, After, Opens, Steps};
+ghost use Rattle.step.specs.Standing.{lesser, slice_limit, Fresh, EndStepped, behind_item, room_for, Peeks, Recorded, Within, After, Opens, Steps};
 ghost use Rattle.step.specs.Going.{Goes};
 ghost use Rattle.step.specs.Shortly.{Shortly};
 ghost use Rattle.laying.specs.Quickly.{Quickly};
 ghost use Rattle.format.specs.Items.{item_of};
 ghost use Rattle.short.specs.Brief.{Finds};
-ghost use Rattle.format.specs.Outline.{dropLeaves};
+ghost use Rattle.format.specs.Outline.{drop_leaves};
 ghost use Rattle.step.specs.declared.Phase.TheVariants.{Going};
 
 use decode::{Item, get_point};
@@ -61,7 +61,7 @@ const RECORD_LIMIT: usize = 34 + LABEL_LIMIT;
 
 // What opening answers: the version and the first item's place, or the refusal.
 pub fn opened(file: &[u8]) -> Opened
-    ensures { opened_of result ≡ openOutcome (openingOf file.now) }
+    ensures { opened_of result ≡ open_outcome (opening_of file.now) }
 {
     let head = header::opening(file);
     match head {
@@ -103,7 +103,7 @@ fn fresh(phase: Phase, version: u8, place: usize) -> Stand
 // Where a reader of the file stands at first, whatever the label's buffer holds. After a
 // refused opening every step answers that refusal.
 pub fn open_at(file: &[u8]) -> Stand
-    ensures { Opens result (openStand file.now) }
+    ensures { Opens result (open_stand file.now) }
 {
     let o = opened(file);
     match o {
@@ -141,7 +141,7 @@ fn last_step(stand: Stand, answer: Stepped, phase: Phase) -> Taken
 
 // A step at the end item, from which `left` bytes are left: 10 where others follow it.
 fn end_step(stand: Stand, left: usize) -> Taken
-    requires { stand.place ≤ sliceLimit }
+    requires { stand.place ≤ slice_limit }
     ensures { EndStepped left stand result }
 {
     if 1 < left {
@@ -157,8 +157,8 @@ fn end_step(stand: Stand, left: usize) -> Taken
 
 // The stand behind an item of so many bytes.
 fn behind(stand: Stand, size: usize, len: usize, setting: Setting) -> Stand
-    requires { stand.place + size ≤ sliceLimit }
-    ensures { result ≡ behindItem stand size len setting }
+    requires { stand.place + size ≤ slice_limit }
+    ensures { result ≡ behind_item stand size len setting }
 {
     Stand {
         phase: Phase::Going,
@@ -172,7 +172,7 @@ fn behind(stand: Stand, size: usize, len: usize, setting: Setting) -> Stand
 // What the item at the front of s comes to, before the label is touched, where it makes a
 // record or its label is refused. For any other the answer is one that makes no record.
 fn peek(version: u8, s: &[u8], bytes: &[u8; LABEL_LIMIT], len: usize, setting: Setting) -> Step
-    requires { (len ≤ labelLimit) × (length bytes.now ≡ labelLimit) }
+    requires { (len ≤ label_limit) × (length bytes.now ≡ label_limit) }
     ensures { Peeks result (next version s.now (state_of setting (take len bytes.now))) }
 {
     let it = decode::decode(version, s);
@@ -214,7 +214,7 @@ fn room_for(
     setting: Setting,
     room: usize,
 ) -> Room
-    requires { (len ≤ labelLimit) × (length bytes.now ≡ labelLimit) }
+    requires { (len ≤ label_limit) × (length bytes.now ≡ label_limit) }
     ensures { result ≡ room_for (next version s.now (state_of setting (take len bytes.now))) room }
 {
     if RECORD_LIMIT <= room {
@@ -246,7 +246,7 @@ fn record_step(
     fields: Fields,
     kept: usize,
 ) -> Taken
-    requires { (next.len ≤ labelLimit) × (length bytes.now ≡ labelLimit) }
+    requires { (next.len ≤ label_limit) × (length bytes.now ≡ label_limit) }
     ensures { Recorded next bytes.now fields kept out.old result out.new }
 {
     let len = next.len;
@@ -267,7 +267,7 @@ fn after_item(
     bytes: &[u8; LABEL_LIMIT],
     out: &mut [u8],
 ) -> Taken
-    requires { Within stand it × (length bytes.now ≡ labelLimit) }
+    requires { Within stand it × (length bytes.now ≡ label_limit) }
     ensures { After stand it left bytes.now out.old result out.new }
 {
     let place = stand.place;
@@ -303,7 +303,7 @@ fn after_item(
 // label's length past its buffer counts as all of it. Whether there is room is known
 // before the label is touched.
 fn step_item(file: &[u8], stand: Stand, bytes: &mut [u8; LABEL_LIMIT], out: &mut [u8]) -> Taken
-    requires { (stand.phase ≡ Going) × (length bytes.old ≡ labelLimit) }
+    requires { (stand.phase ≡ Going) × (length bytes.old ≡ label_limit) }
     ensures { Steps stand bytes.old file.now out.old result bytes.new out.new }
 {
     let at = lesser(stand.place, file.len());
@@ -323,7 +323,7 @@ fn step_item(file: &[u8], stand: Stand, bytes: &mut [u8; LABEL_LIMIT], out: &mut
 
 // An array's length, which its type says.
 fn full(bytes: &[u8; LABEL_LIMIT]) -> usize
-    ensures { (result ≡ labelLimit) × (length bytes.now ≡ labelLimit) }
+    ensures { (result ≡ label_limit) × (length bytes.now ≡ label_limit) }
 {
     let whole = &bytes[..];
     whole.len()
@@ -332,7 +332,7 @@ fn full(bytes: &[u8; LABEL_LIMIT]) -> usize
 // The item at the front of s, after a label of len bytes, where it is one of the commonest.
 // (`short_item` has other callers, and so would not be joined to a step.)
 fn find_short(version: u8, s: &[u8], len: usize) -> Short
-    requires { len ≤ labelLimit }
+    requires { len ≤ label_limit }
     ensures { Finds result version s.now len }
 {
     if version < 8 {
@@ -351,8 +351,8 @@ fn lay_short(
     setting: Setting,
     out: &mut [u8],
 ) -> Quick
-    requires { (len ≤ labelLimit) × (length bytes.old ≡ labelLimit) }
-    ensures { Quickly result (next version s.now (state_of setting (take len bytes.old))) (dropLeaves (take len bytes.old) (item_of version s.now)) setting bytes.old bytes.new out.old out.new 0 }
+    requires { (len ≤ label_limit) × (length bytes.old ≡ label_limit) }
+    ensures { Quickly result (next version s.now (state_of setting (take len bytes.old))) (drop_leaves (take len bytes.old) (item_of version s.now)) setting bytes.old bytes.new out.old out.new 0 }
 {
     let it = find_short(version, s, len);
     match it {
@@ -453,7 +453,7 @@ pub struct Reader<'a> {
 
 // A reader of the file, before its first item.
 pub fn open<'a>(file: &'a [u8]) -> Reader<'a>
-    ensures { (result.file ≡ file.entry) × Opens result.stand (openStand file.now) }
+    ensures { (result.file ≡ file.entry) × Opens result.stand (open_stand file.now) }
 {
     let stand = open_at(file);
     Reader { file, stand }

@@ -9,131 +9,131 @@ use types.Run.{OneOf, miss}
 use denote.Enum.Declared.{tag_of}
 use borrow.Author.Tests.{ltb-false}
 use Rattle.format.specs.Bytes.{over}
-use Rattle.format.specs.Sheet.{sheetVersion, layout, layoutAll, recordLimit}
+use Rattle.format.specs.Sheet.{sheet_version, layout, layout_all, record_limit}
 use Rattle.format.specs.Refusals.{Result, stop}
 use Rattle.format.specs.declared.Verdict.{Verdict}
 use Rattle.format.specs.declared.Verdict.TheVariants.{Good, Refusal}
-use Rattle.format.specs.Stepping.{Stand, before, stopped, StepOutcome, Step, openStand, stopAnswer}
-use Rattle.format.specs.Answers.{steppedOf}
+use Rattle.format.specs.Stepping.{Stand, before, stopped, StepOutcome, Step, open_stand, stop_answer}
+use Rattle.format.specs.Answers.{stepped_of}
 use Rattle.format.specs.declared.Stepped.{Stepped}
 use Rattle.format.specs.declared.Stepped.TheVariants.{Record as RecordStep, Nothing, End as EndStep, Refused as StepRefused}
 use Rattle.format.specs.contracts.Stepped.{the_type}
-use Rattle.format.proofs.Basics.{pick-case}
-use Rattle.wire.specs.Laid.{laid, laidIf}
-use Rattle.wire.proofs.Laws.{laid_nil, laid_next, length-laid, laid-some}
-use Rattle.step.specs.Standing.{standSeen, Opens}
-use Rattle.step.specs.Going.{nextRecord, nextBuffer, Goes}
+use Rattle.format.proofs.Basics.{pick_case}
+use Rattle.wire.specs.Laid.{laid, laid_if}
+use Rattle.wire.proofs.Laws.{laid_nil, laid_next, length_laid, laid_some}
+use Rattle.step.specs.Standing.{stand_seen, Opens}
+use Rattle.step.specs.Going.{next_record, next_buffer, Goes}
 use Rattle.step.specs.declared.Stand.{Stand as Held}
 use Rattle.step.specs.declared.Taken.{Taken}
-use Rattle.step.proofs.GoingLaws.{next-answers}
+use Rattle.step.proofs.GoingLaws.{next_answers}
 use Rattle.steplister.specs.Steps.{left_of, Gathers}
-use Rattle.steplister.proofs.Onward.{bytesLeft, Makes, Says, on-says}
+use Rattle.steplister.proofs.Onward.{bytes_left, Makes, Says, on_says}
 
 -- ---- the loop: the bytes laid in and those still to come are all
 
 pub record Going (file old : List ℕ) (front : ℕ) (stand : Stand) (bytes : ℕ) (sheet : List ℕ) : Type 0 where
   pub past : List ℕ
   pub kept : length sheet ≡ length old
-  pub verdict-is : (left_of stand file).verdict ≡ (left_of (openStand file) file).verdict
-  pub whole : past ++ layoutAll sheetVersion (left_of stand file).records ≡ layoutAll sheetVersion (left_of (openStand file) file).records
-  pub bytes-are : bytes ≡ front + length past
-  pub few : bytes + recordLimit * bytesLeft stand file ≤ front + recordLimit * length file
+  pub verdict_is : (left_of stand file).verdict ≡ (left_of (open_stand file) file).verdict
+  pub whole : past ++ layout_all sheet_version (left_of stand file).records ≡ layout_all sheet_version (left_of (open_stand file) file).records
+  pub bytes_are : bytes ≡ front + length past
+  pub few : bytes + record_limit * bytes_left stand file ≤ front + record_limit * length file
   pub laid_in : bytes ≤ length old → sheet ≡ laid old front past
 
-left-most : (stand : Stand) (file : List ℕ) → bytesLeft stand file ≤ length file
-left-most (before version p st) file = let a = length-drop p file in omega (arith, a)
-left-most (stopped v) file = omega arith
+left_most : (stand : Stand) (file : List ℕ) → bytes_left stand file ≤ length file
+left_most (before version p st) file = let a = length-drop p file in omega (arith, a)
+left_most (stopped v) file = omega arith
 
-pub going-first : (file old : List ℕ) (front : ℕ) (h : Held) (label : List ℕ) → Opens h (openStand file) → Going file old front (standSeen h label) front old
-going-first file old front h label O =
+pub going_first : (file old : List ℕ) (front : ℕ) (h : Held) (label : List ℕ) → Opens h (open_stand file) → Going file old front (stand_seen h label) front old
+going_first file old front h label O =
     rw (O.same label)
     (record {
       past = [];
       kept = refl;
-      verdict-is = refl;
+      verdict_is = refl;
       whole = refl;
-      bytes-are = omega arith;
-      few = let l = left-most (openStand file) file in omega (arith, l);
+      bytes_are = omega arith;
+      few = let l = left_most (open_stand file) file in omega (arith, l);
       laid_in = λ l. sym (laid_nil old front);
     })
 
-length-laid-if : (d : List ℕ) (k : ℕ) (s : List ℕ) → length (laidIf d k s) ≡ length d
-unfolding laidIf
-length-laid-if d k s = pick-case (λ (x : List ℕ). length x ≡ length d) _ _ _ (λ e. refl) (λ e. length-laid d s k (ltb-false _ _ e))
+length_laid_if : (d : List ℕ) (k : ℕ) (s : List ℕ) → length (laid_if d k s) ≡ length d
+unfolding laid_if
+length_laid_if d k s = pick_case (λ (x : List ℕ). length x ≡ length d) _ _ _ (λ e. refl) (λ e. length_laid d s k (ltb-false _ _ e))
 
-module _ {file old : List ℕ} {front : ℕ} {h : Held} {label : List ℕ} {bytes : ℕ} {sheet : List ℕ} (G : Going file old front (standSeen h label) bytes sheet)
-    {held : List ℕ} (ample : recordLimit ≤ length held) {t : Taken} {label' new : List ℕ} (S : Goes h label file held t label' new) where
+module _ {file old : List ℕ} {front : ℕ} {h : Held} {label : List ℕ} {bytes : ℕ} {sheet : List ℕ} (G : Going file old front (stand_seen h label) bytes sheet)
+    {held : List ℕ} (ample : record_limit ≤ length held) {t : Taken} {label' new : List ℕ} (S : Goes h label file held t label' new) where
   abbrev s : Step
-  s = nextRecord (standSeen h label) file (length held)
+  s = next_record (stand_seen h label) file (length held)
 
   -- what was answered
-  says : (a : Stepped) → t.answer ≡ a → Says (steppedOf a) s (standSeen h label) file
+  says : (a : Stepped) → t.answer ≡ a → Says (stepped_of a) s (stand_seen h label) file
   says a e =
-      subst (λ (b : StepOutcome). Says b s (standSeen h label) file) (sym S.answer ∙ ap steppedOf e) (on-says file (length held) ample (standSeen h label))
+      subst (λ (b : StepOutcome). Says b s (stand_seen h label) file) (sym S.answer ∙ ap stepped_of e) (on_says file (length held) ample (stand_seen h label))
 
   -- ---- a record
 
   module _ (n k : ℕ) (e : t.answer ≡ RecordStep n k) where
-    makes : Makes s n (standSeen h label) file
+    makes : Makes s n (stand_seen h label) file
     makes = says (RecordStep n k) e
 
-    pub record-few : n ≤ recordLimit
-    record-few = makes.few
+    pub record_few : n ≤ record_limit
+    record_few = makes.few
 
     -- the next stand is the one that was answered
-    pub record-less : bytesLeft (standSeen t.stand label') file < bytesLeft (standSeen h label) file
-    record-less = rw S.stand makes.less
+    pub record_less : bytes_left (stand_seen t.stand label') file < bytes_left (stand_seen h label) file
+    record_less = rw S.stand makes.less
 
-    record-bytes : take n new ≡ layout sheetVersion makes.the
-    unfolding nextBuffer over
-    record-bytes =
-        let R = layout sheetVersion makes.the in
-        ap (take n) (S.buffer ∙ ap (λ (b : List ℕ). over b held) makes.bytes-are) ∙ take_at R (drop (length R) held) n (sym makes.size)
+    record_bytes : take n new ≡ layout sheet_version makes.the
+    unfolding next_buffer over
+    record_bytes =
+        let R = layout sheet_version makes.the in
+        ap (take n) (S.buffer ∙ ap (λ (b : List ℕ). over b held) makes.bytes_are) ∙ take_at R (drop (length R) held) n (sym makes.size)
 
-    pub going_on : (next : List ℕ) → next ≡ laidIf sheet bytes (take n new) → Going file old front (standSeen t.stand label') (bytes + n) next
-    unfolding layoutAll
+    pub going_on : (next : List ℕ) → next ≡ laid_if sheet bytes (take n new) → Going file old front (stand_seen t.stand label') (bytes + n) next
+    unfolding layout_all
     going_on next q =
-        let R = layout sheetVersion makes.the in
+        let R = layout sheet_version makes.the in
         let z = length-append G.past R in
-        let w : next ≡ laidIf sheet bytes R = q ∙ ap (laidIf sheet bytes) record-bytes in
+        let w : next ≡ laid_if sheet bytes R = q ∙ ap (laid_if sheet bytes) record_bytes in
         let m = makes.left in
         rw S.stand
         (record {
           past = G.past ++ R;
-          kept = ap length w ∙ length-laid-if sheet bytes R ∙ G.kept;
-          verdict-is = ap (λ (x : Result). x.verdict) (sym m) ∙ G.verdict-is;
-          whole = append_assoc G.past R _ ∙ ap (λ (x : Result). G.past ++ layoutAll sheetVersion x.records) (sym m) ∙ G.whole;
-          bytes-are = omega (arith, G.bytes-are, makes.size, z);
+          kept = ap length w ∙ length_laid_if sheet bytes R ∙ G.kept;
+          verdict_is = ap (λ (x : Result). x.verdict) (sym m) ∙ G.verdict_is;
+          whole = append_assoc G.past R _ ∙ ap (λ (x : Result). G.past ++ layout_all sheet_version x.records) (sym m) ∙ G.whole;
+          bytes_are = omega (arith, G.bytes_are, makes.size, z);
           few = omega (arith, G.few, makes.few, makes.less);
           laid_in =
               λ l.
               let i : bytes ≤ length old = omega arith in
               let j : bytes + length R ≤ length sheet = omega (arith, makes.size, G.kept) in
-              w ∙ laid-some sheet R bytes j
+              w ∙ laid_some sheet R bytes j
               ∙ ap (λ (d : List ℕ). laid d bytes R) (G.laid_in i)
-              ∙ ap (λ (k : ℕ). laid (laid old front G.past) k R) G.bytes-are
-              ∙ laid_next old G.past R front (omega (arith, G.bytes-are, i));
+              ∙ ap (λ (k : ℕ). laid (laid old front G.past) k R) G.bytes_are
+              ∙ laid_next old G.past R front (omega (arith, G.bytes_are, i));
         })
 
   -- ---- the end, or a refusal
 
-  ended : (v : Verdict) → steppedOf t.answer ≡ stopAnswer v → left_of (standSeen h label) file ≡ stop v
+  ended : (v : Verdict) → stepped_of t.answer ≡ stop_answer v → left_of (stand_seen h label) file ≡ stop v
       → Gathers file old front (record { last = t.answer; bytes = bytes }) sheet
-  unfolding layoutAll
+  unfolding layout_all
   ended v e L =
-      let w : G.past ≡ layoutAll sheetVersion (left_of (openStand file) file).records =
-      sym (append-nil G.past) ∙ ap (λ (x : Result). G.past ++ layoutAll sheetVersion x.records) (sym L) ∙ G.whole in
+      let w : G.past ≡ layout_all sheet_version (left_of (open_stand file) file).records =
+      sym (append-nil G.past) ∙ ap (λ (x : Result). G.past ++ layout_all sheet_version x.records) (sym L) ∙ G.whole in
       record {
-        last-is = e ∙ ap (λ (x : Result). stopAnswer x.verdict) (sym L) ∙ ap stopAnswer G.verdict-is;
-        bytes-are = G.bytes-are ∙ ap (λ (x : List ℕ). front + length x) w;
+        last_is = e ∙ ap (λ (x : Result). stop_answer x.verdict) (sym L) ∙ ap stop_answer G.verdict_is;
+        bytes_are = G.bytes_are ∙ ap (λ (x : List ℕ). front + length x) w;
         laid_in = λ l. G.laid_in l ∙ ap (laid old front) w;
       }
 
-  pub gathered-all : OneOf (1 ∷ 2 ∷ 3 ∷ []) (tag_of the_type t.answer) → Gathers file old front (record { last = t.answer; bytes = bytes }) sheet
-  gathered-all o = go t.answer refl o
+  pub gathered_all : OneOf (1 ∷ 2 ∷ 3 ∷ []) (tag_of the_type t.answer) → Gathers file old front (record { last = t.answer; bytes = bytes }) sheet
+  gathered_all o = go t.answer refl o
     where
       go : (a : Stepped) → t.answer ≡ a → OneOf (1 ∷ 2 ∷ 3 ∷ []) (tag_of the_type a) → Gathers file old front (record { last = t.answer; bytes = bytes }) sheet
       go (RecordStep n k) e o = absurd (miss (1 ∷ 2 ∷ 3 ∷ []) 0 tt o)
-      go Nothing e o = absurd (next-answers (standSeen h label) file (length held) (sym (ap steppedOf e) ∙ S.answer))
-      go EndStep e o = ended Good (ap steppedOf e) (says EndStep e)
-      go (StepRefused n p) e o = ended (Refusal n p) (ap steppedOf e) (says (StepRefused n p) e)
+      go Nothing e o = absurd (next_answers (stand_seen h label) file (length held) (sym (ap stepped_of e) ∙ S.answer))
+      go EndStep e o = ended Good (ap stepped_of e) (says EndStep e)
+      go (StepRefused n p) e o = ended (Refusal n p) (ap stepped_of e) (says (StepRefused n p) e)

@@ -2,12 +2,12 @@
 // they answer are laid one behind the other. The file is standard input.
 ghost use Rattle.std.specs.Prelude.{◌≡◌, ◌∷◌, ◌+◌, ◌≤◌, length, take};
 ghost use Rattle.format.specs.Bytes.{over};
-ghost use Rattle.format.specs.Header.{titleLimit, timeLimit};
-ghost use Rattle.format.specs.Sheet.{sheetVersion, headerLayout, recordLimit, frontLimit};
-ghost use Rattle.wire.specs.Laid.{laidIf};
+ghost use Rattle.format.specs.Header.{title_limit, time_limit};
+ghost use Rattle.format.specs.Sheet.{sheet_version, header_layout, record_limit, front_limit};
+ghost use Rattle.wire.specs.Laid.{laid_if};
 ghost use Rattle.header.specs.Head.{saying};
-ghost use Rattle.listing.specs.Lines.{inputLimit, listerSheetLimit, listerTextLimit, listerText};
-ghost use Rattle.steplister.specs.Steps.{Gathers, stopText};
+ghost use Rattle.listing.specs.Lines.{input_limit, lister_sheet_limit, lister_text_limit, lister_text};
+ghost use Rattle.steplister.specs.Steps.{Gathers, stop_text};
 
 use format::Stepped;
 use header::Head;
@@ -26,9 +26,9 @@ struct Gathered {
 // Lays the version byte and the header record over the front of the sheet: how many bytes
 // they take.
 fn lay_front(file: &[u8], extended: u8, title: usize, time: usize, sheet: &mut [u8]) -> usize
-    requires { (title ≤ titleLimit) × (time ≤ timeLimit) × (25 + title + time ≤ length file.now) × (7 + title + time ≤ length sheet.old) }
+    requires { (title ≤ title_limit) × (time ≤ time_limit) × (25 + title + time ≤ length file.now) × (7 + title + time ≤ length sheet.old) }
     ensures answer { result ≡ 7 + title + time }
-    ensures sheet { sheet.new ≡ over (sheetVersion ∷ headerLayout (saying extended title time file.now)) sheet.old }
+    ensures sheet { sheet.new ≡ over (sheet_version ∷ header_layout (saying extended title time file.now)) sheet.old }
 {
     let ends = 24 + title;
     let from = ends + 1;
@@ -39,7 +39,7 @@ fn lay_front(file: &[u8], extended: u8, title: usize, time: usize, sheet: &mut [
 
 // Lays a part into the sheet from `at` on, where there is room for it.
 fn lay_in(sheet: &mut [u8], at: usize, part: &[u8])
-    ensures { sheet.new ≡ laidIf sheet.old at part.now }
+    ensures { sheet.new ≡ laid_if sheet.old at part.now }
 {
     if sheet.len() < at {
         return;
@@ -54,7 +54,7 @@ fn lay_in(sheet: &mut [u8], at: usize, part: &[u8])
 // refusal and the end are passed straight on. Each record is first in `held`, so that one
 // for which the sheet has no room still counts.
 fn gather(file: &[u8], sheet: &mut [u8], front: usize, held: &mut [u8]) -> Gathered
-    requires { (length file.now ≤ inputLimit) × (front ≤ frontLimit) × (recordLimit ≤ length held.old) }
+    requires { (length file.now ≤ input_limit) × (front ≤ front_limit) × (record_limit ≤ length held.old) }
     ensures { Gathers file.now sheet.old front result sheet.new }
 {
     let mut label = label::blank();
@@ -82,8 +82,8 @@ fn gather(file: &[u8], sheet: &mut [u8], front: usize, held: &mut [u8]) -> Gathe
 // The text for what stepping came to: a refusal; 11 where the sheet has no room; the
 // listing of the sheet.
 fn stop_text(gathered: Gathered, version: u8, sheet: &[u8], out: &mut [u8]) -> usize
-    requires { (length sheet.now ≡ listerSheetLimit) × (length out.old ≡ listerTextLimit) }
-    ensures { (result ≤ listerTextLimit) × (take result out.new ≡ stopText gathered version sheet.now) }
+    requires { (length sheet.now ≡ lister_sheet_limit) × (length out.old ≡ lister_text_limit) }
+    ensures { (result ≤ lister_text_limit) × (take result out.new ≡ stop_text gathered version sheet.now) }
 {
     let last = gathered.last;
     let bytes = gathered.bytes;
@@ -103,8 +103,8 @@ fn stop_text(gathered: Gathered, version: u8, sheet: &[u8], out: &mut [u8]) -> u
 // The text for the n bytes that were read to the front of input, over the front of out;
 // its length. What input has room for beyond the limit tells that there was more.
 fn text_of(input: &[u8], n: usize, sheet: &mut [u8], out: &mut [u8]) -> usize
-    requires { (length input.now ≡ inputLimit + 1) × (n ≤ length input.now) × (length sheet.old ≡ listerSheetLimit) × (length out.old ≡ listerTextLimit) }
-    ensures { (result ≤ listerTextLimit) × (take result out.new ≡ listerText (take n input.now)) }
+    requires { (length input.now ≡ input_limit + 1) × (n ≤ length input.now) × (length sheet.old ≡ lister_sheet_limit) × (length out.old ≡ lister_text_limit) }
+    ensures { (result ≤ lister_text_limit) × (take result out.new ≡ lister_text (take n input.now)) }
 {
     let file = &input[..n];
     if INPUT_LIMIT < n {

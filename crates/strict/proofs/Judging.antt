@@ -15,25 +15,25 @@ use Rattle.format.specs.declared.Leg.{Leg}
 use Rattle.format.specs.declared.Station.{Station}
 use Rattle.format.specs.declared.Section.{Section}
 use Rattle.format.specs.declared.Traverse.{Traverse}
-use Rattle.format.proofs.Basics.{both, and-true, same_true}
-use Rattle.table.specs.Entries.{Entry, Answer, somewhere, nowhere, lookup, roomOf, entriesOf}
+use Rattle.format.proofs.Basics.{both, and_true, same_true}
+use Rattle.table.specs.Entries.{Entry, Answer, somewhere, nowhere, lookup, room_of, entries_of}
 use Rattle.table.specs.Told.{Holds, FindTold, seen, KnownTold, MovedTold, FullTold, KeptTold}
 use Rattle.table.specs.declared.Index.{Index}
 use Rattle.table.specs.declared.Found.{Found}
 use Rattle.table.specs.declared.Found.TheVariants.{At, Missing}
-use Rattle.table.proofs.Lookups.{lookup-front, lookup-last, room-last}
-use Rattle.strict.specs.Strict.{Searched, found, unknown, searched, taken, Judgement, fine, faulty, samePlace, judgeSection, judgeStation, judged}
-use Rattle.strict.specs.Indexed.{asSearched, Knows, JudgedTo}
+use Rattle.table.proofs.Lookups.{lookup_front, lookup_last, room_last}
+use Rattle.strict.specs.Strict.{Searched, found, unknown, searched, taken, Judgement, fine, faulty, same_place, judge_section, judge_station, judged}
+use Rattle.strict.specs.Indexed.{as_searched, Knows, JudgedTo}
 use Rattle.strict.specs.declared.Judged.TheVariants.{Faulty, Fine}
 
 -- ---- the same place
 
-same_place : (p : Point) → samePlace p p ≡ true
-unfolding samePlace
-same_place p = and-true (eq-eqb p.x p.x refl) (and-true (eq-eqb p.y p.y refl) (eq-eqb p.z p.z refl))
+same_place_lem : (p : Point) → same_place p p ≡ true
+unfolding same_place
+same_place_lem p = and_true (eq-eqb p.x p.x refl) (and_true (eq-eqb p.y p.y refl) (eq-eqb p.z p.z refl))
 
-other_place : (p q : Point) → (p ≡ q → ⊥) → samePlace p q ≡ false
-unfolding samePlace
+other_place : (p q : Point) → (p ≡ q → ⊥) → same_place p q ≡ false
+unfolding same_place
 other_place p q h = go (eqb p.x q.x && (eqb p.y q.y && eqb p.z q.z)) refl
   where
     go : (b : Bool) → (eqb p.x q.x && (eqb p.y q.y && eqb p.z q.z)) ≡ b → b ≡ false
@@ -50,66 +50,66 @@ other_place p q h = go (eqb p.x q.x && (eqb p.y q.y && eqb p.z q.z)) refl
 
 module _ (room : List ℕ) (i : Index) (earlier : List Record) (K : Knows room i earlier) where
   abbrev es : List Entry
-  es = entriesOf room i.count
+  es = entries_of room i.count
 
-  pub search-found : (name : List ℕ) {p : Point} → lookup es name ≡ somewhere p → searched earlier name ≡ found p
-  search-found name e = sym (K.answers name) ∙ ap asSearched e
+  pub search_found : (name : List ℕ) {p : Point} → lookup es name ≡ somewhere p → searched earlier name ≡ found p
+  search_found name e = sym (K.answers name) ∙ ap as_searched e
 
-  pub search-unknown : (name : List ℕ) → lookup es name ≡ nowhere → searched earlier name ≡ unknown
-  search-unknown name e = sym (K.answers name) ∙ ap asSearched e
+  pub search_unknown : (name : List ℕ) → lookup es name ≡ nowhere → searched earlier name ≡ unknown
+  search_unknown name e = sym (K.answers name) ∙ ap as_searched e
 
   -- a record that is no station
-  pub knows-leg : (g : Leg) (l : List ℕ) → Knows room i (leg g l ∷ earlier)
+  pub knows_leg : (g : Leg) (l : List ℕ) → Knows room i (leg g l ∷ earlier)
   unfolding searched taken
-  knows-leg g l = record { holds = K.holds; answers = K.answers; takes = K.takes; few = omega (arith, K.few) }
+  knows_leg g l = record { holds = K.holds; answers = K.answers; takes = K.takes; few = omega (arith, K.few) }
 
-  pub knows-section : (g : Section) (l : List ℕ) → Knows room i (section g l ∷ earlier)
+  pub knows_section : (g : Section) (l : List ℕ) → Knows room i (section g l ∷ earlier)
   unfolding searched taken
-  knows-section g l = record { holds = K.holds; answers = K.answers; takes = K.takes; few = omega (arith, K.few) }
+  knows_section g l = record { holds = K.holds; answers = K.answers; takes = K.takes; few = omega (arith, K.few) }
 
-  pub knows-error : (t : Traverse) → Knows room i (error t ∷ earlier)
+  pub knows_error : (t : Traverse) → Knows room i (error t ∷ earlier)
   unfolding searched taken
-  knows-error t = record { holds = K.holds; answers = K.answers; takes = K.takes; few = omega (arith, K.few) }
+  knows_error t = record { holds = K.holds; answers = K.answers; takes = K.takes; few = omega (arith, K.few) }
 
   module _ (g : Station) (l : List ℕ) where
     -- a station that was there at the same place
-    known-answers : lookup es l ≡ somewhere g.place → (name : List ℕ) (b : Bool) → same l name ≡ b → asSearched (lookup es name) ≡ pick b (found g.place) (searched earlier name)
+    known_answers : lookup es l ≡ somewhere g.place → (name : List ℕ) (b : Bool) → same l name ≡ b → as_searched (lookup es name) ≡ pick b (found g.place) (searched earlier name)
     unfolding pick
-    known-answers e name true q = ap asSearched (rw (same_true l name q) at e)
-    known-answers e name false q = K.answers name
+    known_answers e name true q = ap as_searched (rw (same_true l name q) at e)
+    known_answers e name false q = K.answers name
 
-    known-takes : lookup es l ≡ somewhere g.place → roomOf es ≡ taken (station g l ∷ earlier)
+    known_takes : lookup es l ≡ somewhere g.place → room_of es ≡ taken (station g l ∷ earlier)
     unfolding taken
-    known-takes e = rw (search-found l e) (let z = K.takes in omega arith)
+    known_takes e = rw (search_found l e) (let z = K.takes in omega arith)
 
-    pub knows-known : lookup es l ≡ somewhere g.place → Knows room i (station g l ∷ earlier)
+    pub knows_known : lookup es l ≡ somewhere g.place → Knows room i (station g l ∷ earlier)
     unfolding searched
-    knows-known e = record { holds = K.holds; answers = λ name. known-answers e name (same l name) refl; takes = known-takes e; few = omega (arith, K.few) }
+    knows_known e = record { holds = K.holds; answers = λ name. known_answers e name (same l name) refl; takes = known_takes e; few = omega (arith, K.few) }
 
     -- a station whose name is new
-    kept-answers : lookup es l ≡ nowhere → (name : List ℕ) (a : Answer) → lookup es name ≡ a → (b : Bool) → same l name ≡ b
-        → asSearched (lookup (es ++ (record { name = l; place = g.place } ∷ [])) name) ≡ pick b (found g.place) (searched earlier name)
+    kept_answers : lookup es l ≡ nowhere → (name : List ℕ) (a : Answer) → lookup es name ≡ a → (b : Bool) → same l name ≡ b
+        → as_searched (lookup (es ++ (record { name = l; place = g.place } ∷ [])) name) ≡ pick b (found g.place) (searched earlier name)
     unfolding pick
-    kept-answers e name (somewhere p) f true q =
+    kept_answers e name (somewhere p) f true q =
         let d : lookup es name ≡ nowhere = rw (same_true l name q) at e in
         let c : somewhere p ≡ nowhere = sym f ∙ d in
         let z : ◌≡◌ {A = ℕ} 0 1 = cc in
         absurd (omega arith)
-    kept-answers e name (somewhere p) f false q = ap asSearched (lookup-front es (record { name = l; place = g.place }) name p f) ∙ sym (search-found name f)
-    kept-answers e name nowhere f true q = ap asSearched (rw q at (lookup-last es (record { name = l; place = g.place }) name f))
-    kept-answers e name nowhere f false q = ap asSearched (rw q at (lookup-last es (record { name = l; place = g.place }) name f)) ∙ sym (search-unknown name f)
+    kept_answers e name (somewhere p) f false q = ap as_searched (lookup_front es (record { name = l; place = g.place }) name p f) ∙ sym (search_found name f)
+    kept_answers e name nowhere f true q = ap as_searched (rw q at (lookup_last es (record { name = l; place = g.place }) name f))
+    kept_answers e name nowhere f false q = ap as_searched (rw q at (lookup_last es (record { name = l; place = g.place }) name f)) ∙ sym (search_unknown name f)
 
-    kept-takes : lookup es l ≡ nowhere → roomOf (es ++ (record { name = l; place = g.place } ∷ [])) ≡ taken (station g l ∷ earlier)
+    kept_takes : lookup es l ≡ nowhere → room_of (es ++ (record { name = l; place = g.place } ∷ [])) ≡ taken (station g l ∷ earlier)
     unfolding taken
-    kept-takes e = room-last es (record { name = l; place = g.place }) ∙ rw (search-unknown l e) (let z = K.takes in omega arith)
+    kept_takes e = room_last es (record { name = l; place = g.place }) ∙ rw (search_unknown l e) (let z = K.takes in omega arith)
 
-    pub knows-kept : (room' : List ℕ) (j : Index) → KeptTold room room' i.count l g.place j → Knows room' j (station g l ∷ earlier)
+    pub knows_kept : (room' : List ℕ) (j : Index) → KeptTold room room' i.count l g.place j → Knows room' j (station g l ∷ earlier)
     unfolding searched
-    knows-kept room' j t =
+    knows_kept room' j t =
         record {
           holds = t.grew.good;
-          answers = λ name. rw t.grew.entries (kept-answers t.new name (lookup es name) refl (same l name) refl);
-          takes = rw t.grew.entries (kept-takes t.new);
+          answers = λ name. rw t.grew.entries (kept_answers t.new name (lookup es name) refl (same l name) refl);
+          takes = rw t.grew.entries (kept_takes t.new);
           few = let z = t.grew.count in omega (arith, K.few);
         }
 
@@ -118,37 +118,37 @@ module _ (room : List ℕ) (i : Index) (earlier : List Record) (K : Knows room i
     abbrev due : Judgement
     due = judged (length room) earlier (station g l)
 
-    pub station-known : (room' : List ℕ) → KnownTold room room' i.count l g.place → JudgedTo (Fine i) room' earlier (station g l) due
+    pub station_known : (room' : List ℕ) → KnownTold room room' i.count l g.place → JudgedTo (Fine i) room' earlier (station g l) due
     unfolding pick
-    station-known room' t = (simp (search-found l t.there, same_place g.place), rw t.kept (knows-known t.there))
+    station_known room' t = (simp (search_found l t.there, same_place_lem g.place), rw t.kept (knows_known t.there))
 
-    pub station-moved : (room' : List ℕ) → MovedTold room room' i.count l g.place → JudgedTo (Faulty 19) room' earlier (station g l) due
+    pub station_moved : (room' : List ℕ) → MovedTold room room' i.count l g.place → JudgedTo (Faulty 19) room' earlier (station g l) due
     unfolding pick
-    station-moved room' t = simp (search-found l t.there, other_place t.other g.place t.differs)
+    station_moved room' t = simp (search_found l t.there, other_place t.other g.place t.differs)
 
-    pub station-full : (room' : List ℕ) → FullTold room room' i.count l → JudgedTo (Faulty 22) room' earlier (station g l) due
+    pub station_full : (room' : List ℕ) → FullTold room room' i.count l → JudgedTo (Faulty 22) room' earlier (station g l) due
     unfolding pick
-    station-full room' t =
+    station_full room' t =
         let z : length room < taken earlier + (length l + 32) = rw (← K.takes) t.stuck.no_room in
-        simp (search-unknown l t.new, lt-ltb _ _ z)
+        simp (search_unknown l t.new, lt-ltb _ _ z)
 
-    pub station-kept : (room' : List ℕ) (j : Index) → KeptTold room room' i.count l g.place j → JudgedTo (Fine j) room' earlier (station g l) due
+    pub station_kept : (room' : List ℕ) (j : Index) → KeptTold room room' i.count l g.place j → JudgedTo (Fine j) room' earlier (station g l) due
     unfolding pick
-    station-kept room' j t =
+    station_kept room' j t =
         let z : taken earlier + (length l + 32) ≤ length room = rw (← K.takes) t.grew.room in
-        (simp (search-unknown l t.new, le-ltb _ _ z), knows-kept room' j t)
+        (simp (search_unknown l t.new, le-ltb _ _ z), knows_kept room' j t)
 
   -- ---- the judgement of a cross-section
 
   module _ (g : Section) (l : List ℕ) (a : Found) (seed : ℕ) (t : FindTold a seed room i.count l) where
-    pub section-known : (p : Point) → a ≡ At p → JudgedTo (Fine i) room earlier (section g l) (judged (length room) earlier (section g l))
-    section-known p e = let x = rw e at t in (rw (search-found l (sym x.same)), knows-section g l)
+    pub section_known : (p : Point) → a ≡ At p → JudgedTo (Fine i) room earlier (section g l) (judged (length room) earlier (section g l))
+    section_known p e = let x = rw e at t in (rw (search_found l (sym x.same)), knows_section g l)
 
-    pub section-unknown : (h : ℕ) → a ≡ Missing h → JudgedTo (Faulty 18) room earlier (section g l) (judged (length room) earlier (section g l))
-    section-unknown h e = let x = rw e at t in rw (search-unknown l (sym x.same))
+    pub section_unknown : (h : ℕ) → a ≡ Missing h → JudgedTo (Faulty 18) room earlier (section g l) (judged (length room) earlier (section g l))
+    section_unknown h e = let x = rw e at t in rw (search_unknown l (sym x.same))
 
 -- ---- the index of no names
 
-pub knows-none : (room : List ℕ) (i : Index) → Holds room i → entriesOf room i.count ≡ [] → i.count ≡ 0 → Knows room i []
-unfolding searched taken lookup roomOf
-knows-none room i h e z = record { holds = h; answers = λ name. rw e; takes = rw e; few = omega arith }
+pub knows_none : (room : List ℕ) (i : Index) → Holds room i → entries_of room i.count ≡ [] → i.count ≡ 0 → Knows room i []
+unfolding searched taken lookup room_of
+knows_none room i h e z = record { holds = h; answers = λ name. rw e; takes = rw e; few = omega arith }

@@ -3,22 +3,22 @@ use Rattle.std.specs.Prelude.{ℕ, ◌≤◌, ◌≡◌, List, ◌∷◌, length
 use Rattle.format.specs.State.{Record, station, section, Next, bad, end, on, made}
 use Rattle.format.specs.declared.Point.{Point}
 use Rattle.format.specs.declared.Section.{Section}
-use Rattle.table.specs.Entries.{Answer as Looked, somewhere, nowhere, lookup, roomOf, entriesOf}
+use Rattle.table.specs.Entries.{Answer as Looked, somewhere, nowhere, lookup, room_of, entries_of}
 use Rattle.table.specs.Told.{Holds}
 use Rattle.table.specs.declared.Index.{Index}
 use Rattle.strict.specs.Strict.{Searched, found, unknown, searched, taken, Judgement, fine, faulty, judged}
 use Rattle.strict.specs.declared.Judged.{Judged}
 use Rattle.strict.specs.declared.Judged.TheVariants.{Faulty, Fine}
 
-abbrev pub asSearched : Looked → Searched
-asSearched (somewhere p) = found p
-asSearched nowhere = unknown
+abbrev pub as_searched : Looked → Searched
+as_searched (somewhere p) = found p
+as_searched nowhere = unknown
 
 -- the index answers as a search through the records, and its names take the room that theirs do
 pub record Knows (room : List ℕ) (i : Index) (earlier : List Record) : Type 0 where
   pub holds : Holds room i
-  pub answers : (name : List ℕ) → asSearched (lookup (entriesOf room i.count) name) ≡ searched earlier name
-  pub takes : roomOf (entriesOf room i.count) ≡ taken earlier
+  pub answers : (name : List ℕ) → as_searched (lookup (entries_of room i.count) name) ≡ searched earlier name
+  pub takes : room_of (entries_of room i.count) ≡ taken earlier
   pub few : i.count ≤ length earlier
 
 -- the judgement of a record after the earlier ones, and the index after it
@@ -40,16 +40,16 @@ JudgesSection a room i name = (g : Section) → JudgesIn a room room i (section 
 -- ---- an item
 
 -- one that makes a faulty record is refused
-abbrev pub unlessFaulty : Judgement → Next → Next
-unlessFaulty fine x = x
-unlessFaulty (faulty k) x = bad k
+abbrev pub unless_faulty : Judgement → Next → Next
+unless_faulty fine x = x
+unless_faulty (faulty k) x = bad k
 
 -- what an item comes to after the records made so far, where reading says what it comes to, with so much room for names
-abbrev pub strictNext : ℕ → List Record → Next → Next
-strictNext room earlier (made n r st) = unlessFaulty (judged room earlier r) (made n r st)
-strictNext room earlier (on n st) = on n st
-strictNext room earlier (bad k) = bad k
-strictNext room earlier end = end
+abbrev pub strict_next : ℕ → List Record → Next → Next
+strict_next room earlier (made n r st) = unless_faulty (judged room earlier r) (made n r st)
+strict_next room earlier (on n st) = on n st
+strict_next room earlier (bad k) = bad k
+strict_next room earlier end = end
 
 -- the records made after it
 abbrev pub behind : Next → List Record → List Record

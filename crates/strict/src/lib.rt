@@ -1,10 +1,10 @@
 // What strict reading adds to reading, request #108: each station and cross-section is judged
 // by an index of names in lent room.
 ghost use Rattle.std.specs.Prelude.{◌≡◌, ◌≤◌, ◌<◌, length, take};
-ghost use Rattle.format.specs.Fields.{recordOf, state_of};
+ghost use Rattle.format.specs.Fields.{record_of, state_of};
 ghost use Rattle.format.specs.Reading.{next};
 ghost use Rattle.item.specs.Seen.{Tells};
-ghost use Rattle.format.specs.Label.{labelLimit};
+ghost use Rattle.format.specs.Label.{label_limit};
 ghost use Rattle.table.specs.Told.{Holds};
 ghost use Rattle.strict.specs.Indexed.{JudgesIn, JudgesStation, JudgesSection};
 
@@ -23,7 +23,7 @@ pub enum Judged {
 // A station: 19 where its name came earlier with another place, 22 where the name is new
 // and there is no room for it.
 fn judge_station(room: &mut [u8], index: Index, name: &[u8], place: Point) -> Judged
-    requires { Holds room.old index × (length name.now ≤ labelLimit) × (index.count < 16777215) }
+    requires { Holds room.old index × (length name.now ≤ label_limit) × (index.count < 16777215) }
     ensures { JudgesStation result room.old room.new index name.now place }
 {
     let s = table::take(room, index, name, place);
@@ -55,8 +55,8 @@ pub fn judge(
     bytes: &[u8; LABEL_LIMIT],
     len: usize,
 ) -> Judged
-    requires { Holds room.old index × (len ≤ labelLimit) × (length bytes.now ≡ labelLimit) × (index.count < 16777215) }
-    ensures { JudgesIn result room.old room.new index (recordOf fields (take len bytes.now)) }
+    requires { Holds room.old index × (len ≤ label_limit) × (length bytes.now ≡ label_limit) × (index.count < 16777215) }
+    ensures { JudgesIn result room.old room.new index (record_of fields (take len bytes.now)) }
 {
     let whole = &bytes[..];
     let name = &whole[..len];
@@ -88,7 +88,7 @@ pub fn take_next(
     len: usize,
     setting: Setting,
 ) -> Step
-    requires { (len ≤ labelLimit) × (length bytes.old ≡ labelLimit) }
+    requires { (len ≤ label_limit) × (length bytes.old ≡ label_limit) }
     ensures { Tells result bytes.new (next version s.now (state_of setting (take len bytes.old))) }
 {
     let it = short_item(version, s, len);

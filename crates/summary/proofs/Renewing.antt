@@ -6,13 +6,13 @@ use lib.ListN.{get_or-append}
 use Rattle.format.specs.Bytes.{pick, over}
 use Rattle.format.specs.State.{Record}
 use Rattle.format.specs.Refusals.{Result, or_else}
-use Rattle.format.specs.Sheet.{goodFront, versionOf, versionResult, sheetVersion, sheetResult, recordsOf}
-use Rattle.format.specs.Summary.{one, marksIn, wordsFor, needed, summary, bit_at, marksOf, SummaryOutcome, takes, untaken, summedFrom, wordsBy, madeOutcome, madeWords, summaryOutcome, summaryWords, editedMarks, countVerdict, updatedOutcome, updateOutcome, updateWords}
+use Rattle.format.specs.Sheet.{good_front, version_of, version_result, sheet_version, sheet_result, records_of}
+use Rattle.format.specs.Summary.{one, marks_in, words_for, needed, summary, bit_at, marks_of, SummaryOutcome, takes, untaken, summed_from, words_by, made_outcome, made_words, summary_outcome, summary_words, edited_marks, count_verdict, updated_outcome, update_outcome, update_words}
 use Rattle.format.specs.declared.Verdict.{Verdict}
 use Rattle.format.specs.declared.Verdict.TheVariants.{Good, Refusal}
-use Rattle.format.proofs.Basics.{less-or-not, pick_true, pick-false}
-use Rattle.format.proofs.SummaryWords.{marks-ext, mark-of-bit, length-marks-of, length-summary}
-use Rattle.format.proofs.SummaryLaws.{length-marks, length-edited}
+use Rattle.format.proofs.Basics.{less_or_not, pick_true, pick_false}
+use Rattle.format.proofs.SummaryWords.{marks_ext, mark_of_bit, length_marks_of, length_summary}
+use Rattle.format.proofs.SummaryLaws.{length_marks, length_edited}
 use Rattle.sheet.specs.Seen.{Fronted}
 use Rattle.summary.specs.Bits.{Put}
 use Rattle.summary.proofs.Whole.{over_agree}
@@ -21,65 +21,65 @@ use Rattle.summary.proofs.Whole.{over_agree}
 
 -- the marks of all records stand in the words, and the words are finished
 pub made : (ws ws₁ ws₂ : List ℕ) (ms : List Bool) (n : ℕ) → length ms ≡ n → length ws₁ ≡ length ws → Put ws ws₁ 0 0 n (λ i. one (get_or ms i false))
-    → ws₂ ≡ over (summary (marksOf n ws₁)) ws₁ → ws₂ ≡ over (summary ms) ws
+    → ws₂ ≡ over (summary (marks_of n ws₁)) ws₁ → ws₂ ≡ over (summary ms) ws
 made ws ws₁ ws₂ ms n l e P q =
     q
-    ∙ ap (λ (x : List Bool). over (summary x) ws₁) (marks-ext n ws₁ ms l (λ i h. ap (bit_at ws₁) (sym (zero-add i)) ∙ P.inside i (omega arith) h))
-    ∙ over_agree (summary ms) ws ws₁ e (λ j h. P.beyond j (let d = length-summary ms ∙ ap needed l in omega arith))
+    ∙ ap (λ (x : List Bool). over (summary x) ws₁) (marks_ext n ws₁ ms l (λ i h. ap (bit_at ws₁) (sym (zero-add i)) ∙ P.inside i (omega arith) h))
+    ∙ over_agree (summary ms) ws ws₁ e (λ j h. P.beyond j (let d = length_summary ms ∙ ap needed l in omega arith))
 
 module _ (x : Result) (ws : List ℕ) where
-  pub make-flawed : (n : ℕ) → x.verdict ≡ Refusal 12 n → (untaken 12 n ≡ madeOutcome x (length ws)) × (ws ≡ madeWords x ws)
-  make-flawed n e = rw e (refl, refl)
+  pub make_flawed : (n : ℕ) → x.verdict ≡ Refusal 12 n → (untaken 12 n ≡ made_outcome x (length ws)) × (ws ≡ made_words x ws)
+  make_flawed n e = rw e (refl, refl)
 
-  module _ (n w : ℕ) (good : x.verdict ≡ Good) (many : length x.records ≡ n) (e : w ≡ wordsFor n) where
-    pub make-short : length ws < 2 * w → (untaken 11 (2 * w) ≡ madeOutcome x (length ws)) × (ws ≡ madeWords x ws)
+  module _ (n w : ℕ) (good : x.verdict ≡ Good) (many : length x.records ≡ n) (e : w ≡ words_for n) where
+    pub make_short : length ws < 2 * w → (untaken 11 (2 * w) ≡ made_outcome x (length ws)) × (ws ≡ made_words x ws)
     unfolding pick
-    make-short h = let g : length ws < needed n = omega arith in rw (good, many, e, lt-ltb (length ws) (needed n) g) (refl, refl)
+    make_short h = let g : length ws < needed n = omega arith in rw (good, many, e, lt-ltb (length ws) (needed n) g) (refl, refl)
 
-    pub make-done : (ws₂ : List ℕ) → 2 * w ≤ length ws → ws₂ ≡ over (summary (marksIn x.records)) ws
-        → (takes (2 * w) ≡ madeOutcome x (length ws)) × (ws₂ ≡ madeWords x ws)
+    pub make_done : (ws₂ : List ℕ) → 2 * w ≤ length ws → ws₂ ≡ over (summary (marks_in x.records)) ws
+        → (takes (2 * w) ≡ made_outcome x (length ws)) × (ws₂ ≡ made_words x ws)
     unfolding pick
-    make-done ws₂ h q = let g : needed n ≤ length ws = omega arith in rw (good, many, e, le-ltb (length ws) (needed n) g) (refl, q)
+    make_done ws₂ h q = let g : needed n ≤ length ws = omega arith in rw (good, many, e, le-ltb (length ws) (needed n) g) (refl, q)
 
 -- the whole sheet; v is the version that it is judged by
-module _ (v : ℕ) (sheet ws : List ℕ) (q : v ≡ versionOf sheet) where
-  pub whole-flawed : goodFront v sheet ≡ false → (untaken 12 0 ≡ summaryOutcome sheet (length ws)) × (ws ≡ summaryWords sheet ws)
-  unfolding summaryOutcome summaryWords sheetResult versionResult pick
-  whole-flawed e = rw (← q, e) (refl, refl)
+module _ (v : ℕ) (sheet ws : List ℕ) (q : v ≡ version_of sheet) where
+  pub whole_flawed : good_front v sheet ≡ false → (untaken 12 0 ≡ summary_outcome sheet (length ws)) × (ws ≡ summary_words sheet ws)
+  unfolding summary_outcome summary_words sheet_result version_result pick
+  whole_flawed e = rw (← q, e) (refl, refl)
 
-  pub whole-records : {extended k m : ℕ} → Fronted v sheet extended k m → sheetResult sheet ≡ recordsOf v (drop (7 + k + m) sheet)
-  unfolding sheetResult versionResult pick
-  whole-records F = rw (← q) (simp (F.good, F.behind))
+  pub whole_records : {extended k m : ℕ} → Fronted v sheet extended k m → sheet_result sheet ≡ records_of v (drop (7 + k + m) sheet)
+  unfolding sheet_result version_result pick
+  whole_records F = rw (← q) (simp (F.good, F.behind))
 
 -- ---- the edited marks
 
 module _ (ms new : List Bool) (first from : ℕ) (h : first ≤ from) (g : from ≤ length ms) where
   abbrev after : List Bool
-  after = editedMarks ms first (from - first) new
+  after = edited_marks ms first (from - first) new
 
   cut : length (take first ms) ≡ first
   cut = length-take-le first ms (omega arith)
 
-  edited-before : (i : ℕ) → i < first → get_or after i false ≡ get_or ms i false
-  unfolding editedMarks
-  edited-before i p =
+  edited_before : (i : ℕ) → i < first → get_or after i false ≡ get_or ms i false
+  unfolding edited_marks
+  edited_before i p =
       get_or-append (take first ms) (new ++ drop (first + (from - first)) ms) false i (subst (λ (k : ℕ). i < k) (sym cut) p) ∙ get_or-take first ms i false p
 
   later : (i : ℕ) → first ≤ i → get_or after i false ≡ get_or (new ++ drop (first + (from - first)) ms) (i - first) false
-  unfolding editedMarks
+  unfolding edited_marks
   later i p =
       let d : i ≡ length (take first ms) + (i - first) = omega (arith, cut) in
       ap (λ (k : ℕ). get_or after k false) d ∙ get_or-append-add (take first ms) (new ++ drop (first + (from - first)) ms) (i - first) false
 
-  edited-in : (i : ℕ) → i < length new → get_or after (first + i) false ≡ get_or new i false
-  edited-in i p =
+  edited_in : (i : ℕ) → i < length new → get_or after (first + i) false ≡ get_or new i false
+  edited_in i p =
       let d : first + i - first ≡ i = omega arith in
       later (first + i) (omega arith)
       ∙ ap (λ (k : ℕ). get_or (new ++ drop (first + (from - first)) ms) k false) d
       ∙ get_or-append new (drop (first + (from - first)) ms) false i p
 
-  edited-after : (i : ℕ) → get_or after (first + length new + i) false ≡ get_or ms (from + i) false
-  edited-after i =
+  edited_after : (i : ℕ) → get_or after (first + length new + i) false ≡ get_or ms (from + i) false
+  edited_after i =
       let d : first + length new + i - first ≡ length new + i = omega arith in
       let f : first + (from - first) + i ≡ from + i = omega arith in
       later (first + length new + i) (omega arith)
@@ -93,35 +93,35 @@ module _ (ms new : List Bool) (first from : ℕ) (h : first ≤ from) (g : from 
 -- the marks behind the run have moved, those of the added records stand between, and the words are finished
 module _ (ws ws₁ ws₂ ws₃ : List ℕ) (new : List Bool) (first from rest added : ℕ) (many : length new ≡ added) (h : first ≤ from) (e : length ws₂ ≡ length ws)
     (P : Put ws ws₁ (first + added) 0 rest (λ i. bit_at ws (from + i))) (Q : Put ws₁ ws₂ first 0 added (λ i. one (get_or new i false)))
-    (q : ws₃ ≡ over (summary (marksOf (first + added + rest) ws₂)) ws₂) where
+    (q : ws₃ ≡ over (summary (marks_of (first + added + rest) ws₂)) ws₂) where
   abbrev ms : List Bool
-  ms = marksOf (from + rest) ws
+  ms = marks_of (from + rest) ws
 
   abbrev next : List Bool
-  next = editedMarks ms first (from - first) new
+  next = edited_marks ms first (from - first) new
 
-  long-old : length ms ≡ from + rest
-  long-old = length-marks-of (from + rest) ws
+  long_old : length ms ≡ from + rest
+  long_old = length_marks_of (from + rest) ws
 
   inside : from ≤ length ms
-  inside = omega (arith, long-old)
+  inside = omega (arith, long_old)
 
-  long-next : length next ≡ first + added + rest
-  long-next = length-edited ms first (from - first) new (omega (arith, inside)) ∙ omega (arith, many, long-old)
+  long_next : length next ≡ first + added + rest
+  long_next = length_edited ms first (from - first) new (omega (arith, inside)) ∙ omega (arith, many, long_old)
 
   bits : (i : ℕ) → i < first + added + rest → bit_at ws₂ i ≡ one (get_or next i false)
   bits i p =
-      less-or-not i first
+      less_or_not i first
       (λ g.
-      Q.below i (omega arith) ∙ P.below i (omega arith) ∙ sym (mark-of-bit (from + rest) ws i (omega arith))
-      ∙ ap one (sym (edited-before ms new first from h inside i g)))
+      Q.below i (omega arith) ∙ P.below i (omega arith) ∙ sym (mark_of_bit (from + rest) ws i (omega arith))
+      ∙ ap one (sym (edited_before ms new first from h inside i g)))
       (λ g.
-      less-or-not i (first + added)
+      less_or_not i (first + added)
       (λ f.
       let d : first + (i - first) ≡ i = omega arith in
       ap (bit_at ws₂) (sym d)
       ∙ Q.inside (i - first) (omega arith) (omega arith)
-      ∙ ap one (sym (edited-in ms new first from h inside (i - first) (omega (arith, many))))
+      ∙ ap one (sym (edited_in ms new first from h inside (i - first) (omega (arith, many))))
       ∙ ap (λ (k : ℕ). one (get_or next k false)) d)
       (λ f.
       let d : first + added + (i - (first + added)) ≡ i = omega arith in
@@ -129,58 +129,58 @@ module _ (ws ws₁ ws₂ ws₃ : List ℕ) (new : List Bool) (first from rest ad
       Q.above i f
       ∙ ap (bit_at ws₁) (sym d)
       ∙ P.inside (i - (first + added)) (omega arith) (omega arith)
-      ∙ sym (mark-of-bit (from + rest) ws (from + (i - (first + added))) (omega arith))
-      ∙ ap one (sym (edited-after ms new first from h inside (i - (first + added))))
+      ∙ sym (mark_of_bit (from + rest) ws (from + (i - (first + added))) (omega arith))
+      ∙ ap one (sym (edited_after ms new first from h inside (i - (first + added))))
       ∙ ap (λ (k : ℕ). one (get_or next k false)) z))
 
   pub replaced : ws₃ ≡ over (summary next) ws
   replaced =
       q
-      ∙ ap (λ (l : List Bool). over (summary l) ws₂) (marks-ext (first + added + rest) ws₂ next long-next bits)
+      ∙ ap (λ (l : List Bool). over (summary l) ws₂) (marks_ext (first + added + rest) ws₂ next long_next bits)
       ∙ over_agree (summary next) ws ws₂ e
       (λ j g.
-      let d = length-summary next ∙ ap needed long-next in
+      let d = length_summary next ∙ ap needed long_next in
       Q.beyond j (omega arith) ∙ P.beyond j (omega arith))
 
 module _ (ws new : List ℕ) (n first count : ℕ) where
   abbrev x : Result
-  x = recordsOf sheetVersion new
+  x = records_of sheet_version new
 
-  refused : (a p : ℕ) → updatedOutcome n first count x (length ws) ≡ untaken a p
-      → (untaken a p ≡ updatedOutcome n first count x (length ws)) × (ws ≡ updateWords n first count new ws)
-  unfolding updateOutcome updateWords
+  refused : (a p : ℕ) → updated_outcome n first count x (length ws) ≡ untaken a p
+      → (untaken a p ≡ updated_outcome n first count x (length ws)) × (ws ≡ update_words n first count new ws)
+  unfolding update_outcome update_words
   refused a p e = (sym e, rw e refl)
 
-  pub update-past : n < first + count → (untaken 15 n ≡ updateOutcome n first count new (length ws)) × (ws ≡ updateWords n first count new ws)
-  unfolding updateOutcome countVerdict
-  update-past h = refused 15 n (rw (pick_true (Refusal 15 n) Good (lt-ltb n (first + count) h)) refl)
+  pub update_past : n < first + count → (untaken 15 n ≡ update_outcome n first count new (length ws)) × (ws ≡ update_words n first count new ws)
+  unfolding update_outcome count_verdict
+  update_past h = refused 15 n (rw (pick_true (Refusal 15 n) Good (lt-ltb n (first + count) h)) refl)
 
   module _ (h : first + count ≤ n) where
-    run-good : countVerdict n first count ≡ Good
-    unfolding countVerdict
-    run-good = pick-false (Refusal 15 n) Good (le-ltb n (first + count) h)
+    run_good : count_verdict n first count ≡ Good
+    unfolding count_verdict
+    run_good = pick_false (Refusal 15 n) Good (le-ltb n (first + count) h)
 
-    pub update-flawed : (k : ℕ) → (recordsOf sheetVersion new).verdict ≡ Refusal 12 k
-        → (untaken 12 k ≡ updateOutcome n first count new (length ws)) × (ws ≡ updateWords n first count new ws)
-    unfolding updateOutcome
-    update-flawed k e = refused 12 k (rw (run-good, e) refl)
+    pub update_flawed : (k : ℕ) → (records_of sheet_version new).verdict ≡ Refusal 12 k
+        → (untaken 12 k ≡ update_outcome n first count new (length ws)) × (ws ≡ update_words n first count new ws)
+    unfolding update_outcome
+    update_flawed k e = refused 12 k (rw (run_good, e) refl)
 
-    module _ (added w v m : ℕ) (good : (recordsOf sheetVersion new).verdict ≡ Good) (many : length (recordsOf sheetVersion new).records ≡ added)
-        (ew : w ≡ wordsFor (n - count + added)) (ev : v ≡ wordsFor n) (em : m ≡ max (2 * v) (2 * w)) where
+    module _ (added w v m : ℕ) (good : (records_of sheet_version new).verdict ≡ Good) (many : length (records_of sheet_version new).records ≡ added)
+        (ew : w ≡ words_for (n - count + added)) (ev : v ≡ words_for n) (em : m ≡ max (2 * v) (2 * w)) where
       most : max (needed n) (needed (n - count + length x.records)) ≡ m
       most = rw many (sym (em ∙ ap₂ (λ (a b : ℕ). max (2 * a) (2 * b)) ev ew))
 
-      pub update-short : length ws < m → (untaken 11 m ≡ updatedOutcome n first count (recordsOf sheetVersion new) (length ws)) × (ws ≡ updateWords n first count new ws)
+      pub update_short : length ws < m → (untaken 11 m ≡ updated_outcome n first count (records_of sheet_version new) (length ws)) × (ws ≡ update_words n first count new ws)
       unfolding pick
-      update-short g = refused 11 m (rw (run-good, good, most, lt-ltb (length ws) m g) refl)
+      update_short g = refused 11 m (rw (run_good, good, most, lt-ltb (length ws) m g) refl)
 
       -- the words that `replace` leaves
-      pub update-done : (ws₃ : List ℕ) → m ≤ length ws
-          → ws₃ ≡ over (summary (editedMarks (marksOf (first + count + (n - (first + count))) ws) first (first + count - first) (marksIn (recordsOf sheetVersion new).records))) ws
-          → (takes (2 * w) ≡ updatedOutcome n first count (recordsOf sheetVersion new) (length ws)) × (ws₃ ≡ updateWords n first count new ws)
-      unfolding updateOutcome updateWords pick
-      update-done ws₃ g q =
-          let e : updatedOutcome n first count x (length ws) ≡ takes (2 * w) = rw (run-good, good, most, le-ltb (length ws) m g, many) (ap (λ (a : ℕ). takes (2 * a)) (sym ew)) in
+      pub update_done : (ws₃ : List ℕ) → m ≤ length ws
+          → ws₃ ≡ over (summary (edited_marks (marks_of (first + count + (n - (first + count))) ws) first (first + count - first) (marks_in (records_of sheet_version new).records))) ws
+          → (takes (2 * w) ≡ updated_outcome n first count (records_of sheet_version new) (length ws)) × (ws₃ ≡ update_words n first count new ws)
+      unfolding update_outcome update_words pick
+      update_done ws₃ g q =
+          let e : updated_outcome n first count x (length ws) ≡ takes (2 * w) = rw (run_good, good, most, le-ltb (length ws) m g, many) (ap (λ (a : ℕ). takes (2 * a)) (sym ew)) in
           let l : first + count + (n - (first + count)) ≡ n = omega (arith, h) in
           let d : first + count - first ≡ count = omega arith in
           (sym e, rw (l, d) at q ∙ rw e refl)

@@ -2,12 +2,12 @@
 use Rattle.std.proofs.Common.{◌≡◌, ℕ, zero, suc, ◌+◌, ◌-◌, ◌*◌, ◌/◌, ◌%◌, ◌^◌, ◌<◌, ◌≤◌, Bool, true, false, eqb, List, [], ◌∷◌, ◌++◌, length, get_or, take, drop, sym, refl, ap, ◌∙◌, subst, ap₂, le_of_suc-le-suc, pow-suc, div-one, one-add, arith, lit<, length-append, length-drop, length-take, get_or-drop, get_or-take, get_or-append-add, ext_get_or, pow_pos}
 use lib.ListN.{get_or-append, get_or-eq_default}
 use Rattle.format.specs.Bytes.{over}
-use Rattle.format.specs.Summary.{one, marked, count_of, word_of, wordsFor, needed, summary, bit, bit_at, marksOf}
-use Rattle.format.proofs.Basics.{less-or-not}
-use Rattle.format.proofs.SummaryWords.{one-two, at-word, mark-of-bit, length-marks-of, length-summary, summary-word, summary-total, summary-bit}
+use Rattle.format.specs.Summary.{one, marked, count_of, word_of, words_for, needed, summary, bit, bit_at, marks_of}
+use Rattle.format.proofs.Basics.{less_or_not}
+use Rattle.format.proofs.SummaryWords.{one_two, at_word_lem, mark_of_bit, length_marks_of, length_summary, summary_word, summary_total, summary_bit}
 use Rattle.summary.specs.Bits.{sum_to, Cleared, Totalled}
-use Rattle.summary.proofs.Bits.{bit-ext}
-use Rattle.summary.proofs.Sums.{sum-ext}
+use Rattle.summary.proofs.Bits.{bit_ext}
+use Rattle.summary.proofs.Sums.{sum_ext}
 
 -- ---- a word of marks
 
@@ -18,44 +18,44 @@ word_lt (b ∷ l) zero h = absurd (omega arith)
 word_lt (b ∷ l) (suc k) h =
     let p : word_of l < 2 ^ k = word_lt l k (le_of_suc-le-suc h) in
     let q : 2 ^ suc k ≡ 2 ^ k * 2 = pow-suc 2 k in
-    omega (arith, one-two b)
+    omega (arith, one_two b)
 
 -- ---- counts
 
-sum-cons : (f : ℕ → ℕ) (k : ℕ) → sum_to f (suc k) ≡ f 0 + sum_to (λ i. f (suc i)) k
+sum_cons : (f : ℕ → ℕ) (k : ℕ) → sum_to f (suc k) ≡ f 0 + sum_to (λ i. f (suc i)) k
 unfolding sum_to
-sum-cons f zero = omega arith
-sum-cons f (suc k) = let e = sum-cons f k in omega arith
+sum_cons f zero = omega arith
+sum_cons f (suc k) = let e = sum_cons f k in omega arith
 
-sum-none : (k : ℕ) → sum_to (λ i. 0) k ≡ 0
+sum_none : (k : ℕ) → sum_to (λ i. 0) k ≡ 0
 unfolding sum_to
-sum-none zero = refl
-sum-none (suc k) = omega (arith, sum-none k)
+sum_none zero = refl
+sum_none (suc k) = omega (arith, sum_none k)
 
-pub marked-sum : (ms : List Bool) (k : ℕ) → marked (take k ms) ≡ sum_to (λ i. one (get_or ms i false)) k
+pub marked_sum : (ms : List Bool) (k : ℕ) → marked (take k ms) ≡ sum_to (λ i. one (get_or ms i false)) k
 unfolding marked sum_to
-marked-sum ms zero = refl
-marked-sum [] (suc k) = sym (sum-none (suc k))
-marked-sum (b ∷ ms) (suc k) = ap (λ (x : ℕ). one b + x) (marked-sum ms k) ∙ sym (sum-cons (λ i. one (get_or (b ∷ ms) i false)) k)
+marked_sum ms zero = refl
+marked_sum [] (suc k) = sym (sum_none (suc k))
+marked_sum (b ∷ ms) (suc k) = ap (λ (x : ℕ). one b + x) (marked_sum ms k) ∙ sym (sum_cons (λ i. one (get_or (b ∷ ms) i false)) k)
 
-pub count-sum : (ms : List Bool) (a b : ℕ) → count_of ms a b ≡ sum_to (λ i. one (get_or ms (a + i) false)) (b - a)
+pub count_sum : (ms : List Bool) (a b : ℕ) → count_of ms a b ≡ sum_to (λ i. one (get_or ms (a + i) false)) (b - a)
 unfolding count_of
-count-sum ms a b =
-    marked-sum (drop a ms) (b - a)
-    ∙ sum-ext (λ i. one (get_or (drop a ms) i false)) (λ i. one (get_or ms (a + i) false)) (b - a) (λ i h. ap one (get_or-drop a ms i false))
+count_sum ms a b =
+    marked_sum (drop a ms) (b - a)
+    ∙ sum_ext (λ i. one (get_or (drop a ms) i false)) (λ i. one (get_or ms (a + i) false)) (b - a) (λ i h. ap one (get_or-drop a ms i false))
 
-summary-lt : (ms : List Bool) (j : ℕ) → word_of (take 64 (drop (64 * j) ms)) < 2 ^ 64
-summary-lt ms j = word_lt (take 64 (drop (64 * j) ms)) 64 (omega (arith, length-take 64 (drop (64 * j) ms)))
+summary_lt : (ms : List Bool) (j : ℕ) → word_of (take 64 (drop (64 * j) ms)) < 2 ^ 64
+summary_lt ms j = word_lt (take 64 (drop (64 * j) ms)) 64 (omega (arith, length-take 64 (drop (64 * j) ms)))
 
 -- ---- at the front of a buffer
 
-over-front : (s b : List ℕ) (j : ℕ) → j < length s → get_or (over s b) j 0 ≡ get_or s j 0
+over_front : (s b : List ℕ) (j : ℕ) → j < length s → get_or (over s b) j 0 ≡ get_or s j 0
 unfolding over
-over-front s b j h = get_or-append s (drop (length s) b) 0 j h
+over_front s b j h = get_or-append s (drop (length s) b) 0 j h
 
-over-rest : (s b : List ℕ) (j : ℕ) → length s ≤ j → get_or (over s b) j 0 ≡ get_or b j 0
+over_rest : (s b : List ℕ) (j : ℕ) → length s ≤ j → get_or (over s b) j 0 ≡ get_or b j 0
 unfolding over
-over-rest s b j h =
+over_rest s b j h =
     let e : j ≡ length s + (j - length s) = omega arith in
     ap (λ (k : ℕ). get_or (over s b) k 0) e
     ∙ get_or-append-add s (drop (length s) b) (j - length s) 0
@@ -75,49 +75,49 @@ over_agree s ws ws₁ e f =
 
 -- ---- spare bits and totals make the words the summary of their marks
 
-module _ (ws ws₂ ws₃ : List ℕ) (n : ℕ) (same : length ws₃ ≡ length ws) (room : needed n ≤ length ws) (C : Cleared ws ws₂ n (wordsFor n))
-    (S : Totalled ws₂ ws₃ (wordsFor n) (wordsFor n)) (fits : (j : ℕ) → get_or ws₃ j 0 < 2 ^ 64) where
-  long : length (marksOf n ws) ≡ n
-  long = length-marks-of n ws
+module _ (ws ws₂ ws₃ : List ℕ) (n : ℕ) (same : length ws₃ ≡ length ws) (room : needed n ≤ length ws) (C : Cleared ws ws₂ n (words_for n))
+    (S : Totalled ws₂ ws₃ (words_for n) (words_for n)) (fits : (j : ℕ) → get_or ws₃ j 0 < 2 ^ 64) where
+  long : length (marks_of n ws) ≡ n
+  long = length_marks_of n ws
 
-  in-word : (j i : ℕ) → j < wordsFor n → i < 64 → bit (get_or ws₃ j 0) i ≡ one (get_or (marksOf n ws) (64 * j + i) false)
-  in-word j i h p =
+  in_word : (j i : ℕ) → j < words_for n → i < 64 → bit (get_or ws₃ j 0) i ≡ one (get_or (marks_of n ws) (64 * j + i) false)
+  in_word j i h p =
       ap (λ (x : ℕ). bit x i) (S.marks j h)
-      ∙ sym (at-word ws₂ j i (64 * j + i) p refl)
-      ∙ less-or-not (64 * j + i) n
-      (λ q. C.below (64 * j + i) q ∙ sym (mark-of-bit n ws (64 * j + i) q))
-      (λ q. C.spare (64 * j + i) q (omega arith) ∙ ap one (sym (get_or-eq_default (marksOf n ws) false {n = 64 * j + i} (omega (arith, long)))))
+      ∙ sym (at_word_lem ws₂ j i (64 * j + i) p refl)
+      ∙ less_or_not (64 * j + i) n
+      (λ q. C.below (64 * j + i) q ∙ sym (mark_of_bit n ws (64 * j + i) q))
+      (λ q. C.spare (64 * j + i) q (omega arith) ∙ ap one (sym (get_or-eq_default (marks_of n ws) false {n = 64 * j + i} (omega (arith, long)))))
 
-  in-total : (j : ℕ) → j < wordsFor n → get_or ws₃ (wordsFor n + j) 0 ≡ marked (take (64 * j) (marksOf n ws))
-  in-total j h =
+  in_total : (j : ℕ) → j < words_for n → get_or ws₃ (words_for n + j) 0 ≡ marked (take (64 * j) (marks_of n ws))
+  in_total j h =
       S.totals j h
-      ∙ sum-ext (bit_at ws₂) (λ i. one (get_or (marksOf n ws) i false)) (64 * j)
-      (λ i p. C.below i (omega arith) ∙ sym (mark-of-bit n ws i (omega arith)))
-      ∙ sym (marked-sum (marksOf n ws) (64 * j))
+      ∙ sum_ext (bit_at ws₂) (λ i. one (get_or (marks_of n ws) i false)) (64 * j)
+      (λ i p. C.below i (omega arith) ∙ sym (mark_of_bit n ws i (omega arith)))
+      ∙ sym (marked_sum (marks_of n ws) (64 * j))
 
-  size : length (summary (marksOf n ws)) ≡ needed n
-  size = length-summary (marksOf n ws) ∙ ap needed long
+  size : length (summary (marks_of n ws)) ≡ needed n
+  size = length_summary (marks_of n ws) ∙ ap needed long
 
-  front : (j : ℕ) → j < needed n → get_or ws₃ j 0 ≡ get_or (summary (marksOf n ws)) j 0
+  front : (j : ℕ) → j < needed n → get_or ws₃ j 0 ≡ get_or (summary (marks_of n ws)) j 0
   front j h =
-      less-or-not j (wordsFor n)
+      less_or_not j (words_for n)
       (λ p.
-      bit-ext 64 (get_or ws₃ j 0) (word_of (take 64 (drop (64 * j) (marksOf n ws)))) (fits j) (summary-lt (marksOf n ws) j)
-      (λ i q. in-word j i p q ∙ sym (summary-bit (marksOf n ws) j i q))
-      ∙ sym (summary-word (marksOf n ws) j (subst (λ (k : ℕ). j < wordsFor k) (sym long) p)))
+      bit_ext 64 (get_or ws₃ j 0) (word_of (take 64 (drop (64 * j) (marks_of n ws)))) (fits j) (summary_lt (marks_of n ws) j)
+      (λ i q. in_word j i p q ∙ sym (summary_bit (marks_of n ws) j i q))
+      ∙ sym (summary_word (marks_of n ws) j (subst (λ (k : ℕ). j < words_for k) (sym long) p)))
       (λ p.
-      let e : j ≡ wordsFor n + (j - wordsFor n) = omega arith in
-      let q : j - wordsFor n < wordsFor n = omega arith in
+      let e : j ≡ words_for n + (j - words_for n) = omega arith in
+      let q : j - words_for n < words_for n = omega arith in
       ap (λ (k : ℕ). get_or ws₃ k 0) e
-      ∙ in-total (j - wordsFor n) q
-      ∙ sym (summary-total (marksOf n ws) (j - wordsFor n) (subst (λ (k : ℕ). j - wordsFor n < wordsFor k) (sym long) q))
-      ∙ ap (λ (k : ℕ). get_or (summary (marksOf n ws)) (wordsFor k + (j - wordsFor n)) 0) long
-      ∙ ap (λ (k : ℕ). get_or (summary (marksOf n ws)) k 0) (sym e))
+      ∙ in_total (j - words_for n) q
+      ∙ sym (summary_total (marks_of n ws) (j - words_for n) (subst (λ (k : ℕ). j - words_for n < words_for k) (sym long) q))
+      ∙ ap (λ (k : ℕ). get_or (summary (marks_of n ws)) (words_for k + (j - words_for n)) 0) long
+      ∙ ap (λ (k : ℕ). get_or (summary (marks_of n ws)) k 0) (sym e))
 
-  pub finished : ws₃ ≡ over (summary (marksOf n ws)) ws
+  pub finished : ws₃ ≡ over (summary (marks_of n ws)) ws
   finished =
-      ext_get_or 0 ws₃ (over (summary (marksOf n ws)) ws) (same ∙ sym (length_over (summary (marksOf n ws)) ws (omega (arith, size))))
+      ext_get_or 0 ws₃ (over (summary (marks_of n ws)) ws) (same ∙ sym (length_over (summary (marks_of n ws)) ws (omega (arith, size))))
       (λ j h.
-      less-or-not j (needed n)
-      (λ p. front j p ∙ sym (over-front (summary (marksOf n ws)) ws j (omega (arith, size))))
-      (λ p. S.beyond j (omega arith) ∙ C.beyond j (omega arith) ∙ sym (over-rest (summary (marksOf n ws)) ws j (omega (arith, size)))))
+      less_or_not j (needed n)
+      (λ p. front j p ∙ sym (over_front (summary (marks_of n ws)) ws j (omega (arith, size))))
+      (λ p. S.beyond j (omega arith) ∙ C.beyond j (omega arith) ∙ sym (over_rest (summary (marks_of n ws)) ws j (omega (arith, size)))))

@@ -1,16 +1,16 @@
 -- The records of a sheet as the code meets them: counted, and marked. Assumes nothing.
 use Rattle.std.specs.Prelude.{◌≡◌, ℕ, ◌+◌, ◌*◌, ◌/◌, ◌%◌, ◌^◌, ◌<◌, ◌≤◌, Bool, false, ◌&&◌, List, length, ◌==◌, slice_index, slice_index_or}
 use Rattle.format.specs.Refusals.{Result}
-use Rattle.format.specs.Sheet.{recordsOf}
-use Rattle.format.specs.Summary.{one, marksIn}
+use Rattle.format.specs.Sheet.{records_of}
+use Rattle.format.specs.Summary.{one, marks_in}
 use Rattle.format.specs.declared.Verdict.TheVariants.{Good, Refusal}
 use Rattle.summary.specs.Bits.{Put}
 use Rattle.summary.specs.declared.Counted.{Counted}
 use Rattle.summary.specs.declared.Counted.TheVariants.{Whole, Flawed}
 
 -- whether the well-formed record at the front of s is an entrance: kind 2, flag 0x04
-abbrev pub markAt : List ℕ → Bool
-markAt s = slice_index s 2 == 2 && slice_index s 3 / 0x04 % 2 == 1
+abbrev pub mark_at : List ℕ → Bool
+mark_at s = slice_index s 2 == 2 && slice_index s 3 / 0x04 % 2 == 1
 
 -- so many well-formed records, in so many bytes
 pub record RecordsIn (n size : ℕ) (x : Result) : Type 0 where
@@ -26,11 +26,11 @@ CountedAs (Flawed n) size x = x.verdict ≡ Refusal 12 n
 -- s holds well-formed records of some version, and their marks from bit `first` on fit into so many words
 pub record RecordsFit (s : List ℕ) (first words : ℕ) : Type 0 where
   pub version : ℕ
-  pub good : (recordsOf version s).verdict ≡ Good
-  pub room : first + length (recordsOf version s).records ≤ 64 * words
-  pub few : first + length (recordsOf version s).records < 2 ^ 64
+  pub good : (records_of version s).verdict ≡ Good
+  pub room : first + length (records_of version s).records ≤ 64 * words
+  pub few : first + length (records_of version s).records < 2 ^ 64
 
 -- by whichever version they are well-formed, their marks stand from bit `first` on
 abbrev pub Marked : List ℕ → ℕ → List ℕ → List ℕ → Type 0
 Marked s first ws ws' =
-    (v : ℕ) → (recordsOf v s).verdict ≡ Good → Put ws ws' first 0 (length (recordsOf v s).records) (λ i. one (slice_index_or (marksIn (recordsOf v s).records) i false))
+    (v : ℕ) → (records_of v s).verdict ≡ Good → Put ws ws' first 0 (length (records_of v s).records) (λ i. one (slice_index_or (marks_in (records_of v s).records) i false))

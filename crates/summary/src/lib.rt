@@ -3,11 +3,11 @@
 // made of a sheet, asked, and brought up to date in its place after an edit.
 ghost use Rattle.std.specs.Prelude.{◌≡◌, ℕ, ◌+◌, ◌-◌, ◌*◌, ◌^◌, ◌<◌, ◌≤◌, max, length, drop, slice_index};
 ghost use Rattle.format.specs.Bytes.{over};
-ghost use Rattle.format.specs.Sheet.{sheetVersion, recordsOf};
-ghost use Rattle.format.specs.Summary.{one, wordsFor, needed, marksIn, marksOf, summary, bit, bit_at, rankIn, countIn, next_of, madeOutcome, madeWords, summaryOutcome, summaryWords, entrancesOutcome, editedMarks, updatedOutcome, updateOutcome, updateWords};
-ghost use Rattle.format.specs.Answers.{entrancesOf, summedOf};
+ghost use Rattle.format.specs.Sheet.{sheet_version, records_of};
+ghost use Rattle.format.specs.Summary.{one, words_for, needed, marks_in, marks_of, summary, bit, bit_at, rank_in, count_in, next_of, made_outcome, made_words, summary_outcome, summary_words, entrances_outcome, edited_marks, updated_outcome, update_outcome, update_words};
+ghost use Rattle.format.specs.Answers.{entrances_of, summed_of};
 ghost use Rattle.summary.specs.Bits.{sum_to, Field, Wrote, Put, Cleared, Totalled, Least};
-ghost use Rattle.summary.specs.Records.{markAt, RecordsIn, RecordsFit, Marked, CountedAs};
+ghost use Rattle.summary.specs.Records.{mark_at, RecordsIn, RecordsFit, Marked, CountedAs};
 
 use format::{Entrances, NextEntrance, SHEET_VERSION, Summed};
 
@@ -22,7 +22,7 @@ enum Counted {
 
 // The mark words of n records.
 fn words_for(n: usize) -> usize
-    ensures { result ≡ wordsFor n }
+    ensures { result ≡ words_for n }
 {
     let whole = n / 64;
     if n % 64 == 0 { whole } else { whole + 1 }
@@ -141,7 +141,7 @@ fn move_bits(words: &mut [u64], from: usize, to: usize, size: usize)
 // How many records of the version's layout s holds from `begin` on.
 fn count_records(s: &[u8], version: u8, begin: usize) -> Counted
     requires { begin ≤ length s.now }
-    ensures { CountedAs result (length s.now) (recordsOf version (drop begin s.now)) }
+    ensures { CountedAs result (length s.now) (records_of version (drop begin s.now)) }
 {
     let mut at = begin;
     let mut number: usize = 0;
@@ -159,7 +159,7 @@ fn count_records(s: &[u8], version: u8, begin: usize) -> Counted
 // The mark of the well-formed record at the front of s.
 fn mark_of(s: &[u8]) -> u64
     requires { (3 ≤ length s.now) × (slice_index s.now 2 ≡ 2 → 4 ≤ length s.now) }
-    ensures { result ≡ one (markAt s.now) }
+    ensures { result ≡ one (mark_at s.now) }
 {
     if s[2] != 2 {
         return 0;
@@ -186,8 +186,8 @@ fn put_marks(words: &mut [u64], first: usize, s: &[u8], begin: usize)
 // ---- the summary of marks that stand in the first words
 
 fn clear_spare(words: &mut [u64], n: usize)
-    requires { wordsFor n ≤ length words.old }
-    ensures { Cleared words.old words.new n (wordsFor n) }
+    requires { words_for n ≤ length words.old }
+    ensures { Cleared words.old words.new n (words_for n) }
 {
     let s = n % 64;
     if 0 < s {
@@ -218,7 +218,7 @@ fn put_totals(words: &mut [u64], w: usize)
 // Spare bits and totals, for n records whose marks stand in the words.
 fn finish(words: &mut [u64], n: usize)
     requires { (needed n ≤ length words.old) × (n < 2 ^ 64 - 64) }
-    ensures { words.new ≡ over (summary (marksOf n words.old)) words.old }
+    ensures { words.new ≡ over (summary (marks_of n words.old)) words.old }
 {
     clear_spare(words, n);
     put_totals(words, words_for(n));
@@ -229,8 +229,8 @@ fn finish(words: &mut [u64], n: usize)
 // The summary of the records that a sheet of the version holds from `begin` on.
 fn summarize_records(sheet: &[u8], version: u8, begin: usize, words: &mut [u64]) -> Summed
     requires { begin ≤ length sheet.now }
-    ensures answer { summedOf result ≡ madeOutcome (recordsOf version (drop begin sheet.now)) (length words.old) }
-    ensures words { words.new ≡ madeWords (recordsOf version (drop begin sheet.now)) words.old }
+    ensures answer { summed_of result ≡ made_outcome (records_of version (drop begin sheet.now)) (length words.old) }
+    ensures words { words.new ≡ made_words (records_of version (drop begin sheet.now)) words.old }
 {
     let counted = count_records(sheet, version, begin);
     match counted {
@@ -255,8 +255,8 @@ fn summarize_records(sheet: &[u8], version: u8, begin: usize, words: &mut [u64])
 
 // The summary of a sheet, to the front of the words.
 pub fn summarize(sheet: &[u8], words: &mut [u64]) -> Summed
-    ensures answer { summedOf result ≡ summaryOutcome sheet.now (length words.old) }
-    ensures words { words.new ≡ summaryWords sheet.now words.old }
+    ensures answer { summed_of result ≡ summary_outcome sheet.now (length words.old) }
+    ensures words { words.new ≡ summary_words sheet.now words.old }
 {
     let version = sheet::version_of(sheet);
     let front = sheet::read_front(sheet, version);
@@ -278,7 +278,7 @@ pub fn summarize(sheet: &[u8], words: &mut [u64]) -> Summed
 // The marks before record k.
 fn rank(words: &[u64], n: usize, k: usize) -> u64
     requires { (k ≤ n) × (needed n ≤ length words.now) }
-    ensures { result ≡ rankIn words.now n k }
+    ensures { result ≡ rank_in words.now n k }
 {
     if k == 0 {
         return 0;
@@ -294,7 +294,7 @@ fn rank(words: &[u64], n: usize, k: usize) -> u64
 // The marks from a up to but not including b.
 fn count_marks(words: &[u64], n: usize, a: usize, b: usize) -> u64
     requires { (a ≤ n) × (b ≤ n) × (needed n ≤ length words.now) }
-    ensures { result ≡ countIn words.now n a b }
+    ensures { result ≡ count_in words.now n a b }
 {
     let before = rank(words, n, a);
     let to = rank(words, n, b);
@@ -312,7 +312,7 @@ fn least_bit(w: u64) -> usize
 // The least marked record at or after a.
 fn next_mark(words: &[u64], n: usize, a: usize) -> NextEntrance
     requires { needed n ≤ length words.now }
-    ensures { result ≡ next_of (marksOf n words.now) a }
+    ensures { result ≡ next_of (marks_of n words.now) a }
 {
     let w = words_for(n);
     let mut j = a / 64;
@@ -335,7 +335,7 @@ fn next_mark(words: &[u64], n: usize, a: usize) -> NextEntrance
 // How many entrances the records hold from `from` up to but not including `to`, and where
 // the next one is at or after `from`.
 pub fn entrances(words: &[u64], records: u32, from: usize, to: usize) -> Entrances
-    ensures { entrancesOf result ≡ entrancesOutcome words.now records from to }
+    ensures { entrances_of result ≡ entrances_outcome words.now records from to }
 {
     let n = records as usize;
     let least = 2 * words_for(n);
@@ -372,8 +372,8 @@ fn larger(a: usize, b: usize) -> usize
 
 // The marks of a run, up to `from`, become those of `added` records; `rest` records follow it.
 fn replace(words: &mut [u64], first: usize, from: usize, rest: usize, new: &[u8], added: usize)
-    requires { (first ≤ from) × (needed (from + rest) ≤ length words.old) × (needed (first + added + rest) ≤ length words.old) × (from + rest < 2 ^ 64) × (first + added + rest < 2 ^ 64 - 64) × RecordsIn added (length new.now) (recordsOf sheetVersion new.now) }
-    ensures { words.new ≡ over (summary (editedMarks (marksOf (from + rest) words.old) first (from - first) (marksIn (recordsOf sheetVersion new.now).records))) words.old }
+    requires { (first ≤ from) × (needed (from + rest) ≤ length words.old) × (needed (first + added + rest) ≤ length words.old) × (from + rest < 2 ^ 64) × (first + added + rest < 2 ^ 64 - 64) × RecordsIn added (length new.now) (records_of sheet_version new.now) }
+    ensures { words.new ≡ over (summary (edited_marks (marks_of (from + rest) words.old) first (from - first) (marks_in (records_of sheet_version new.now).records))) words.old }
 {
     let to = first + added;
     move_bits(words, from, to, rest);
@@ -390,9 +390,9 @@ fn update_marks(
     new: &[u8],
     added: usize,
 ) -> Summed
-    requires { (n < 2 ^ 32) × (first + count ≤ n) × RecordsIn added (length new.now) (recordsOf sheetVersion new.now) }
-    ensures answer { summedOf result ≡ updatedOutcome n first count (recordsOf sheetVersion new.now) (length words.old) }
-    ensures words { words.new ≡ updateWords n first count new.now words.old }
+    requires { (n < 2 ^ 32) × (first + count ≤ n) × RecordsIn added (length new.now) (records_of sheet_version new.now) }
+    ensures answer { summed_of result ≡ updated_outcome n first count (records_of sheet_version new.now) (length words.old) }
+    ensures words { words.new ≡ update_words n first count new.now words.old }
 {
     let from = first + count;
     let after = n - count + added;
@@ -410,8 +410,8 @@ fn update_marks(
 
 // After an edit: of the old records, the run of `count` from `first` on is now those of `new`.
 pub fn update(words: &mut [u64], records: u32, first: usize, count: usize, new: &[u8]) -> Summed
-    ensures answer { summedOf result ≡ updateOutcome records first count new.now (length words.old) }
-    ensures words { words.new ≡ updateWords records first count new.now words.old }
+    ensures answer { summed_of result ≡ update_outcome records first count new.now (length words.old) }
+    ensures words { words.new ≡ update_words records first count new.now words.old }
 {
     let n = records as usize;
     if n < first {

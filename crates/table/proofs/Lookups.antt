@@ -11,67 +11,67 @@ use lib.ListN.{length}
 use Rattle.format.specs.Bytes.{pick, same}
 use Rattle.format.proofs.Basics.{same_refl}
 use Rattle.wire.proofs.Laws.{same_false}
-use Rattle.table.specs.Room.{name_at, pointAt}
-use Rattle.table.specs.Entries.{Entry, Answer, somewhere, nowhere, lookup, roomOf, entry_at, entriesOf}
+use Rattle.table.specs.Room.{name_at, point_at}
+use Rattle.table.specs.Entries.{Entry, Answer, somewhere, nowhere, lookup, room_of, entry_at, entries_of}
 use Rattle.format.specs.declared.Point.{Point}
 
 -- ---- one more entry at the end
 
-pub lookup-front : (es : List Entry) (e : Entry) (name : List ℕ) (p : Point) → lookup es name ≡ somewhere p → lookup (es ++ (e ∷ [])) name ≡ somewhere p
+pub lookup_front : (es : List Entry) (e : Entry) (name : List ℕ) (p : Point) → lookup es name ≡ somewhere p → lookup (es ++ (e ∷ [])) name ≡ somewhere p
 unfolding lookup pick
-lookup-front [] e name p h = cc
-lookup-front (x ∷ es) e name p h = go (same x.name name) h (lookup-front es e name p)
+lookup_front [] e name p h = cc
+lookup_front (x ∷ es) e name p h = go (same x.name name) h (lookup_front es e name p)
   where
     go : (b : Bool) → pick b (somewhere x.place) (lookup es name) ≡ somewhere p → (lookup es name ≡ somewhere p → lookup (es ++ (e ∷ [])) name ≡ somewhere p) → pick b (somewhere x.place) (lookup (es ++ (e ∷ [])) name) ≡ somewhere p
     go true h f = h
     go false h f = f h
 
-pub lookup-last : (es : List Entry) (e : Entry) (name : List ℕ) → lookup es name ≡ nowhere → lookup (es ++ (e ∷ [])) name ≡ pick (same e.name name) (somewhere e.place) nowhere
+pub lookup_last : (es : List Entry) (e : Entry) (name : List ℕ) → lookup es name ≡ nowhere → lookup (es ++ (e ∷ [])) name ≡ pick (same e.name name) (somewhere e.place) nowhere
 unfolding lookup pick
-lookup-last [] e name h = refl
-lookup-last (x ∷ es) e name h = go (same x.name name) h (lookup-last es e name)
+lookup_last [] e name h = refl
+lookup_last (x ∷ es) e name h = go (same x.name name) h (lookup_last es e name)
   where
     go : (b : Bool) → pick b (somewhere x.place) (lookup es name) ≡ nowhere → (lookup es name ≡ nowhere → lookup (es ++ (e ∷ [])) name ≡ pick (same e.name name) (somewhere e.place) nowhere) → pick b (somewhere x.place) (lookup (es ++ (e ∷ [])) name) ≡ pick (same e.name name) (somewhere e.place) nowhere
     go true h f = cc
     go false h f = f h
 
-pub room-last : (es : List Entry) (e : Entry) → roomOf (es ++ (e ∷ [])) ≡ roomOf es + (length e.name + 32)
-unfolding roomOf
-room-last [] e = omega arith
-room-last (x ∷ es) e = let h = room-last es e in omega arith
+pub room_last : (es : List Entry) (e : Entry) → room_of (es ++ (e ∷ [])) ≡ room_of es + (length e.name + 32)
+unfolding room_of
+room_last [] e = omega arith
+room_last (x ∷ es) e = let h = room_last es e in omega arith
 
 -- ---- the entries of n nodes
 
-pub none : (r : List ℕ) (n : ℕ) (name : List ℕ) → ((j : ℕ) → j < n → name_at r j ≡ name → ⊥) → lookup (entriesOf r n) name ≡ nowhere
-unfolding lookup entriesOf pick
+pub none : (r : List ℕ) (n : ℕ) (name : List ℕ) → ((j : ℕ) → j < n → name_at r j ≡ name → ⊥) → lookup (entries_of r n) name ≡ nowhere
+unfolding lookup entries_of pick
 none r zero name h = refl
 none r (suc n) name h =
-    lookup-last (entriesOf r n) (entry_at r n) name (none r n name (λ j l e. h j (omega arith) e)) ∙ rw (same_false (name_at r n) name (h n (omega arith)))
+    lookup_last (entries_of r n) (entry_at r n) name (none r n name (λ j l e. h j (omega arith) e)) ∙ rw (same_false (name_at r n) name (h n (omega arith)))
 
-pub one : (r : List ℕ) (n : ℕ) (name : List ℕ) (i : ℕ) → i < n → name_at r i ≡ name → ((j : ℕ) → j < n → name_at r j ≡ name → j ≡ i) → lookup (entriesOf r n) name ≡ somewhere (pointAt r i)
-unfolding entriesOf pick
+pub one : (r : List ℕ) (n : ℕ) (name : List ℕ) (i : ℕ) → i < n → name_at r i ≡ name → ((j : ℕ) → j < n → name_at r j ≡ name → j ≡ i) → lookup (entries_of r n) name ≡ somewhere (point_at r i)
+unfolding entries_of pick
 one r zero name i l e u = absurd (omega arith)
-one r (suc n) name i l e u = ⊎_elim new (old (λ m. one r n name i m e (λ j k d. u j (omega arith) d))) (eq-or-lt_of_le (pred-le i n l))
+one r (suc n) name i l e u = ⊎_elim new (old (λ m. one r n name i m e (λ j k d. u j (omega arith) d))) (eq-or-lt_of_le (pred_le i n l))
   where
-    pred-le : (i n : ℕ) → i < suc n → i ≤ n
-    pred-le i n l = omega arith
+    pred_le : (i n : ℕ) → i < suc n → i ≤ n
+    pred_le i n l = omega arith
 
-    old : (i < n → lookup (entriesOf r n) name ≡ somewhere (pointAt r i)) → i < n → lookup (entriesOf r n ++ (entry_at r n ∷ [])) name ≡ somewhere (pointAt r i)
-    old f m = lookup-front (entriesOf r n) (entry_at r n) name (pointAt r i) (f m)
+    old : (i < n → lookup (entries_of r n) name ≡ somewhere (point_at r i)) → i < n → lookup (entries_of r n ++ (entry_at r n ∷ [])) name ≡ somewhere (point_at r i)
+    old f m = lookup_front (entries_of r n) (entry_at r n) name (point_at r i) (f m)
 
-    new : i ≡ n → lookup (entriesOf r n ++ (entry_at r n ∷ [])) name ≡ somewhere (pointAt r i)
+    new : i ≡ n → lookup (entries_of r n ++ (entry_at r n ∷ [])) name ≡ somewhere (point_at r i)
     new m =
         let f : name_at r n ≡ name = rw m at e in
-        lookup-last (entriesOf r n) (entry_at r n) name (none r n name (λ j k d. let q = u j (omega arith) d in omega arith)) ∙ rw (f, same_refl name, m)
+        lookup_last (entries_of r n) (entry_at r n) name (none r n name (λ j k d. let q = u j (omega arith) d in omega arith)) ∙ rw (f, same_refl name, m)
 
 -- ---- what is kept
 
-pub entries-same : (r r' : List ℕ) (n : ℕ) → ((i : ℕ) → i < n → name_at r' i ≡ name_at r i) → ((i : ℕ) → i < n → pointAt r' i ≡ pointAt r i) → entriesOf r' n ≡ entriesOf r n
-unfolding entriesOf
-entries-same r r' zero f g = refl
-entries-same r r' (suc n) f g =
-    rw (f n (omega arith), g n (omega arith), entries-same r r' n (λ i l. f i (omega arith)) (λ i l. g i (omega arith)))
+pub entries_same : (r r' : List ℕ) (n : ℕ) → ((i : ℕ) → i < n → name_at r' i ≡ name_at r i) → ((i : ℕ) → i < n → point_at r' i ≡ point_at r i) → entries_of r' n ≡ entries_of r n
+unfolding entries_of
+entries_same r r' zero f g = refl
+entries_same r r' (suc n) f g =
+    rw (f n (omega arith), g n (omega arith), entries_same r r' n (λ i l. f i (omega arith)) (λ i l. g i (omega arith)))
 
-pub entries-more : (r : List ℕ) (n : ℕ) → entriesOf r (n + 1) ≡ entriesOf r n ++ (entry_at r n ∷ [])
-unfolding entriesOf
-entries-more r n = rw (add-one n)
+pub entries_more : (r : List ℕ) (n : ℕ) → entries_of r (n + 1) ≡ entries_of r n ++ (entry_at r n ∷ [])
+unfolding entries_of
+entries_more r n = rw (add-one n)

@@ -1,9 +1,9 @@
 -- What the answers of `find`, `add` and `take` say. Assumes nothing.
 use Rattle.std.specs.Prelude.{ℕ, ◌+◌, ◌*◌, ◌≤◌, ◌<◌, ◌≡◌, List, [], ◌∷◌, ◌++◌, Bool, true, false, length}
-use Rattle.format.specs.Bytes.{toLe32}
-use Rattle.table.specs.Hash.{hashOf}
-use Rattle.table.specs.Room.{frontOf, node_of}
-use Rattle.table.specs.Entries.{Answer, somewhere, nowhere, lookup, roomOf, entriesOf}
+use Rattle.format.specs.Bytes.{to_le32}
+use Rattle.table.specs.Hash.{hash_of}
+use Rattle.table.specs.Room.{front_of, node_of}
+use Rattle.table.specs.Entries.{Answer, somewhere, nowhere, lookup, room_of, entries_of}
 use Rattle.table.specs.Good.{Good}
 use Rattle.format.specs.declared.Point.{Point}
 use Rattle.table.specs.declared.Index.{Index}
@@ -24,11 +24,11 @@ Holds r i = Good i.seed r i.count i.back i.spread
 
 -- the bytes of a node
 pub record NodeTold (b : List ℕ) (start size hash : ℕ) (p : Point) : Type 0 where
-  pub bytes : b ≡ node_of (frontOf start size (toLe32 hash)) (toLe32 p.x) (toLe32 p.y) (toLe32 p.z)
-  pub hash-fits : hash < 4294967296
+  pub bytes : b ≡ node_of (front_of start size (to_le32 hash)) (to_le32 p.x) (to_le32 p.y) (to_le32 p.z)
+  pub hash_fits : hash < 4294967296
   pub x_fits : p.x < 4294967296
-  pub y-fits : p.y < 4294967296
-  pub z-fits : p.z < 4294967296
+  pub y_fits : p.y < 4294967296
+  pub z_fits : p.z < 4294967296
 
 abbrev pub seen : Found → Answer
 seen (At p) = somewhere p
@@ -36,21 +36,21 @@ seen (Missing h) = nowhere
 
 abbrev pub HashOf : Found → ℕ → List ℕ → Type 0
 HashOf (At p) seed name = Unit
-HashOf (Missing h) seed name = h ≡ hashOf seed name
+HashOf (Missing h) seed name = h ≡ hash_of seed name
 
 pub record FindTold (a : Found) (seed : ℕ) (r : List ℕ) (n : ℕ) (name : List ℕ) : Type 0 where
-  pub same : seen a ≡ lookup (entriesOf r n) name
+  pub same : seen a ≡ lookup (entries_of r n) name
   pub hash : HashOf a seed name
 
 -- one more entry
 pub record Grew (r r' : List ℕ) (n : ℕ) (name : List ℕ) (p : Point) (i : Index) : Type 0 where
-  pub room : roomOf (entriesOf r n) + (length name + 32) ≤ length r
+  pub room : room_of (entries_of r n) + (length name + 32) ≤ length r
   pub count : i.count ≡ n + 1
   pub good : Holds r' i
-  pub entries : entriesOf r' i.count ≡ entriesOf r n ++ (record { name = name; place = p } ∷ [])
+  pub entries : entries_of r' i.count ≡ entries_of r n ++ (record { name = name; place = p } ∷ [])
 
 pub record Stuck (r r' : List ℕ) (n : ℕ) (name : List ℕ) : Type 0 where
-  pub no_room : length r < roomOf (entriesOf r n) + (length name + 32)
+  pub no_room : length r < room_of (entries_of r n) + (length name + 32)
   pub kept : r' ≡ r
 
 abbrev pub AddTold : Added → List ℕ → List ℕ → ℕ → List ℕ → Point → Type 0
@@ -61,21 +61,21 @@ AddTold (Kept i) r r' n name p = Grew r r' n name p i
 -- with other coordinates too (19). Same name with the same coordinates is fine."
 
 pub record KnownTold (r r' : List ℕ) (n : ℕ) (name : List ℕ) (p : Point) : Type 0 where
-  pub there : lookup (entriesOf r n) name ≡ somewhere p
+  pub there : lookup (entries_of r n) name ≡ somewhere p
   pub kept : r' ≡ r
 
 pub record MovedTold (r r' : List ℕ) (n : ℕ) (name : List ℕ) (p : Point) : Type 0 where
   pub other : Point
-  pub there : lookup (entriesOf r n) name ≡ somewhere other
+  pub there : lookup (entries_of r n) name ≡ somewhere other
   pub differs : other ≡ p → ⊥
   pub kept : r' ≡ r
 
 pub record FullTold (r r' : List ℕ) (n : ℕ) (name : List ℕ) : Type 0 where
-  pub new : lookup (entriesOf r n) name ≡ nowhere
+  pub new : lookup (entries_of r n) name ≡ nowhere
   pub stuck : Stuck r r' n name
 
 pub record KeptTold (r r' : List ℕ) (n : ℕ) (name : List ℕ) (p : Point) (i : Index) : Type 0 where
-  pub new : lookup (entriesOf r n) name ≡ nowhere
+  pub new : lookup (entries_of r n) name ≡ nowhere
   pub grew : Grew r r' n name p i
 
 abbrev pub StationTold : Station → List ℕ → List ℕ → ℕ → List ℕ → Point → Type 0

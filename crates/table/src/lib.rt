@@ -3,10 +3,10 @@
 // node has the heads of two chains, and all nodes are hung anew where the names outgrow
 // the heads in use.
 ghost use Rattle.std.specs.Prelude.{◌≡◌, [], ◌+◌, ◌*◌, ◌/◌, ◌%◌, ◌≤◌, ◌<◌, length};
-ghost use Rattle.format.specs.Bytes.{toLe32};
-ghost use Rattle.table.specs.Hash.{factorOf, mixOf, hashFrom, hashOf};
-ghost use Rattle.table.specs.Room.{hashAt, pointAt, headAt, next_at, headSpot, frontOf, node_of, hungAt, blank};
-ghost use Rattle.table.specs.Entries.{entriesOf, lookup, nowhere};
+ghost use Rattle.format.specs.Bytes.{to_le32};
+ghost use Rattle.table.specs.Hash.{factor_of, mix_of, hash_from, hash_of};
+ghost use Rattle.table.specs.Room.{hash_at, point_at, head_at, next_at, head_spot, front_of, node_of, hung_at, blank};
+ghost use Rattle.table.specs.Entries.{entries_of, lookup, nowhere};
 ghost use Rattle.table.specs.Good.{Hit, Inside, Good, Chained, Rehung, Blank};
 ghost use Rattle.table.specs.Told.{Says, Holds, NodeTold, FindTold, AddTold, StationTold};
 
@@ -48,14 +48,14 @@ pub enum Station {
 
 // The factor that a seed gives, an odd number.
 fn factor(seed: u64) -> u32
-    ensures { result ≡ factorOf seed }
+    ensures { result ≡ factor_of seed }
 {
     ((2654435761 + seed / 8589934592 * 2) % 4294967296) as u32
 }
 
 // h with w mixed in.
 fn mix(k: u32, h: u32, w: u32) -> u32
-    ensures { result ≡ mixOf k h w }
+    ensures { result ≡ mix_of k h w }
 {
     let m = ((h ^ w) as u64) * (k as u64);
     ((m / 4294967296) as u32) ^ ((m % 4294967296) as u32)
@@ -63,7 +63,7 @@ fn mix(k: u32, h: u32, w: u32) -> u32
 
 // The hash of a name from h on.
 fn hash_from(k: u32, from: u32, name: &[u8]) -> u32
-    ensures { result ≡ hashFrom k from name.now }
+    ensures { result ≡ hash_from k from name.now }
 {
     let mut h = from;
     let mut i = 0;
@@ -80,7 +80,7 @@ fn hash_from(k: u32, from: u32, name: &[u8]) -> u32
 
 // The hash of a name.
 fn hash(seed: u64, name: &[u8]) -> u32
-    ensures { result ≡ hashOf seed name.now }
+    ensures { result ≡ hash_of seed name.now }
 {
     let k = factor(seed);
     hash_from(k, (seed % 4294967296) as u32, name)
@@ -98,15 +98,15 @@ fn chain(h: u32, spread: usize) -> usize
 // Where the head of chain b stands.
 fn head_spot(b: usize) -> usize
     requires { b < 33554432 }
-    ensures { result ≡ headSpot b }
+    ensures { result ≡ head_spot b }
 {
     32 * (b / 2) + 11 + 3 * (b % 2)
 }
 
 // The first node of chain b, counted from 1.
 fn head_of(room: &[u8], b: usize) -> usize
-    requires { (b < 33554432) × (headSpot b + 3 ≤ length room.now) }
-    ensures { (result ≡ headAt room.now b) × (result < 16777216) }
+    requires { (b < 33554432) × (head_spot b + 3 ≤ length room.now) }
+    ensures { (result ≡ head_at room.now b) × (result < 16777216) }
 {
     let k = head_spot(b);
     get_le24(&room[k..])
@@ -124,7 +124,7 @@ fn next_of(room: &[u8], i: usize) -> usize
 // The hash that node i keeps.
 fn hash_of(room: &[u8], i: usize) -> u32
     requires { 32 * i + 32 ≤ length room.now }
-    ensures { result ≡ hashAt room.now i }
+    ensures { result ≡ hash_at room.now i }
 {
     let k = 32 * i + 7;
     get_le32(&room[k..])
@@ -133,7 +133,7 @@ fn hash_of(room: &[u8], i: usize) -> u32
 // The place that node i keeps.
 fn place_at(room: &[u8], i: usize) -> Point
     requires { 32 * i + 32 ≤ length room.now }
-    ensures { result ≡ pointAt room.now i }
+    ensures { result ≡ point_at room.now i }
 {
     let k = 32 * i + 20;
     let l = 32 * i + 24;
@@ -192,7 +192,7 @@ pub fn find(room: &[u8], index: Index, name: &[u8]) -> Found
 // Puts node i at the front of the chain of its hash.
 fn hang(room: &mut [u8], spread: usize, i: usize)
     requires { (0 < spread) × (spread < 16777216) × (32 * spread ≤ length room.old) × (32 * i + 32 ≤ length room.old) }
-    ensures { room.new ≡ hungAt room.old (hashAt room.old i % (2 * spread)) i }
+    ensures { room.new ≡ hung_at room.old (hash_at room.old i % (2 * spread)) i }
 {
     let h = hash_of(room, i);
     let b = chain(h, spread);
@@ -242,7 +242,7 @@ fn hang_all(room: &mut [u8], n: usize)
 
 // The bytes of a node before its links.
 fn front(start: usize, size: usize, h: [u8; 4]) -> [u8; 11]
-    ensures { result ≡ frontOf start size h }
+    ensures { result ≡ front_of start size h }
 {
     [
         (start % 256) as u8,
@@ -271,7 +271,7 @@ fn node(f: [u8; 11], x: [u8; 4], y: [u8; 4], z: [u8; 4]) -> [u8; 32]
 
 // A number's bytes, and that it has four.
 fn four(n: u32) -> [u8; 4]
-    ensures { (result ≡ toLe32 n) × (n < 4294967296) }
+    ensures { (result ≡ to_le32 n) × (n < 4294967296) }
 {
     le32_bytes(n)
 }
@@ -286,7 +286,7 @@ fn node_for(start: usize, size: usize, hash: u32, place: Point) -> [u8; 32]
 
 // Adds a name that no node has, with its hash.
 pub fn add(room: &mut [u8], index: Index, hash: u32, name: &[u8], place: Point) -> Added
-    requires { Holds room.old index × (lookup (entriesOf room.old index.count) name.now ≡ nowhere) × (hash ≡ hashOf index.seed name.now) × (length name.now ≤ 4096) × (index.count < 16777215) }
+    requires { Holds room.old index × (lookup (entries_of room.old index.count) name.now ≡ nowhere) × (hash ≡ hash_of index.seed name.now) × (length name.now ≤ 4096) × (index.count < 16777215) }
     ensures { AddTold result room.old room.new index.count name.now place }
 {
     let count = index.count;
@@ -369,7 +369,7 @@ pub fn take(room: &mut [u8], index: Index, name: &[u8], place: Point) -> Station
 
 // The index of no names, in room of any content, with a seed for the hash.
 pub fn empty(room: &[u8], seed: u64) -> Index
-    ensures { Holds room.now result × (entriesOf room.now result.count ≡ []) × (result.count ≡ 0) }
+    ensures { Holds room.now result × (entries_of room.now result.count ≡ []) × (result.count ≡ 0) }
 {
     Index {
         count: 0,

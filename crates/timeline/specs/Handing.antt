@@ -1,6 +1,6 @@
 -- What a file's time says in document 01's terms, and the part of a file that is handed back. Assumes nothing.
 use Rattle.std.specs.Prelude.{ℕ, zero, suc, ◌+◌, ◌≤◌, ◌≡◌, List, [], length, take, drop}
-use Rattle.format.specs.Times.{stampFrom}
+use Rattle.format.specs.Times.{stamp_from}
 use Rattle.format.specs.declared.Handed.{Handed}
 use Rattle.format.specs.declared.Stamp.{Stamp}
 use Rattle.format.specs.declared.Stamp.TheVariants.{Unstamped, Stamped}
@@ -13,33 +13,33 @@ Stands (Stamped t p n) file = p + n ≤ length file
 
 -- an answer that stands for what is due of the n bytes at p
 pub record Stamping (r : Stamp) (file : List ℕ) (due : Spelled) (p n : ℕ) : Type 0 where
-  pub same : r ≡ stampFrom due p n
+  pub same : r ≡ stamp_from due p n
   pub room : Stands r file
 
 -- a file's time line, and where it stands in memory: a pointer is the block and the place in it
-abbrev pub lineIn : Stamp → List ℕ → List ℕ
-lineIn (Unstamped n p) file = []
-lineIn (Stamped t p n) file = take n (drop p file)
+abbrev pub line_in : Stamp → List ℕ → List ℕ
+line_in (Unstamped n p) file = []
+line_in (Stamped t p n) file = take n (drop p file)
 
 abbrev pub place_in : Stamp → ℕ × ℕ → ℕ × ℕ
 place_in (Unstamped n p) f = (f.0, 0 + f.1)
 place_in (Stamped t p n) f = (f.0, p + f.1)
 
 -- the file that a part is of: 1 the first, 2 the second; 0 for the empty part
-abbrev pub fileNamed : ℕ → List ℕ → List ℕ → List ℕ
-fileNamed zero first second = []
-fileNamed (suc zero) first second = first
-fileNamed (suc (suc k)) first second = second
+abbrev pub file_named : ℕ → List ℕ → List ℕ → List ℕ
+file_named zero first second = []
+file_named (suc zero) first second = first
+file_named (suc (suc k)) first second = second
 
 -- "handed back as that part of the file it came from; an empty part when same or refused"
-abbrev pub handedLine : Handed → List ℕ → List ℕ → List ℕ
-handedLine h first second = take h.size (drop h.place (fileNamed h.file first second))
+abbrev pub handed_line : Handed → List ℕ → List ℕ → List ℕ
+handed_line h first second = take h.size (drop h.place (file_named h.file first second))
 
 -- where that part stands in memory. Document 01 leaves the empty part's place free: it is the front of the first file.
-abbrev pub pointerOf : ℕ → ℕ × ℕ → ℕ × ℕ → ℕ × ℕ
-pointerOf zero first second = first
-pointerOf (suc zero) first second = first
-pointerOf (suc (suc k)) first second = second
+abbrev pub pointer_of : ℕ → ℕ × ℕ → ℕ × ℕ → ℕ × ℕ
+pointer_of zero first second = first
+pointer_of (suc zero) first second = first
+pointer_of (suc (suc k)) first second = second
 
-abbrev pub handedPlace : Handed → ℕ × ℕ → ℕ × ℕ → ℕ × ℕ
-handedPlace h first second = ((pointerOf h.file first second).0, h.place + (pointerOf h.file first second).1)
+abbrev pub handed_place : Handed → ℕ × ℕ → ℕ × ℕ → ℕ × ℕ
+handed_place h first second = ((pointer_of h.file first second).0, h.place + (pointer_of h.file first second).1)

@@ -1,15 +1,15 @@
 // Which of two files was written later, by the time lines of their headers.
 ghost use Rattle.std.specs.Prelude.{◌≡◌, ◌+◌, ◌≤◌, length, take, drop};
-ghost use Rattle.format.specs.Times.{secondsOf, stampOf, judged, compareOf, part_of, handed, laterPart};
-ghost use Rattle.format.specs.Answers.{laterOf};
-ghost use Rattle.timeline.specs.Handing.{Stands, Stamping, lineIn, place_in, handedLine, handedPlace};
+ghost use Rattle.format.specs.Times.{seconds_of, stamp_of, judged, compare_of, part_of, handed, later_part};
+ghost use Rattle.format.specs.Answers.{later_of};
+ghost use Rattle.timeline.specs.Handing.{Stands, Stamping, line_in, place_in, handed_line, handed_place};
 
 use format::{Handed, Spelled, Stamp};
 
 // A file's time line, of size bytes at place, as its time.
 fn line_stamp(file: &[u8], place: usize, size: usize) -> Stamp
     requires { place + size ≤ length file.now }
-    ensures { Stamping result file.now (secondsOf (take size (drop place file.now))) place size }
+    ensures { Stamping result file.now (seconds_of (take size (drop place file.now))) place size }
 {
     let end = place + size;
     let found = seconds::seconds_of(&file[place..end]);
@@ -25,7 +25,7 @@ fn line_stamp(file: &[u8], place: usize, size: usize) -> Stamp
 
 // A file's time, by its header alone.
 fn stamp(file: &[u8]) -> Stamp
-    ensures { (result ≡ stampOf file.now) × Stands result file.now }
+    ensures { (result ≡ stamp_of file.now) × Stands result file.now }
 {
     let head = header::opening(file);
     match head {
@@ -42,7 +42,7 @@ fn stamp(file: &[u8]) -> Stamp
 
 // Which of two times is later. The first file's refusal comes first.
 fn judge(first: Stamp, second: Stamp) -> format::Later
-    ensures { laterOf result ≡ judged first second }
+    ensures { later_of result ≡ judged first second }
 {
     match first {
         Stamp::Unstamped { number, place } => format::Later::FirstRefused { number, place },
@@ -71,7 +71,7 @@ fn judge(first: Stamp, second: Stamp) -> format::Later
 
 // Which of two files was written later, by their headers alone.
 pub fn compare(first: &[u8], second: &[u8]) -> format::Later
-    ensures { laterOf result ≡ compareOf first.now second.now }
+    ensures { later_of result ≡ compare_of first.now second.now }
 {
     let one = stamp(first);
     let other = stamp(second);
@@ -101,7 +101,7 @@ fn part_of(file: u8, s: Stamp) -> Handed
 
 // The part that goes with the answer of two times.
 fn part_for(later: format::Later, one: Stamp, other: Stamp) -> Handed
-    ensures { result ≡ handed (laterOf later) one other }
+    ensures { result ≡ handed (later_of later) one other }
 {
     let empty = Handed {
         file: 0,
@@ -126,7 +126,7 @@ fn part_for(later: format::Later, one: Stamp, other: Stamp) -> Handed
 // The later file's time line by its place and length, for callers that cannot be
 // handed a part of a file.
 pub fn later_part(first: &[u8], second: &[u8]) -> Handed
-    ensures { result ≡ laterPart first.now second.now }
+    ensures { result ≡ later_part first.now second.now }
 {
     let one = stamp(first);
     let other = stamp(second);
@@ -137,7 +137,7 @@ pub fn later_part(first: &[u8], second: &[u8]) -> Handed
 // The time line of a file whose time is known; an empty part after a refusal.
 fn line_of<'a>(file: &'a [u8], s: Stamp) -> &'a [u8]
     requires { Stands s file.now }
-    ensures result_value { result.now ≡ lineIn s file.now }
+    ensures result_value { result.now ≡ line_in s file.now }
     ensures ref_ptr_value { result.ref_ptr ≡ place_in s file.entry.ref_ptr }
 {
     match s {
@@ -159,8 +159,8 @@ fn line_of<'a>(file: &'a [u8], s: Stamp) -> &'a [u8]
 // The later file's time line, as the part of the file that it came from; an
 // empty part when same or refused.
 pub fn later_line<'a>(first: &'a [u8], second: &'a [u8]) -> &'a [u8]
-    ensures contents { result.now ≡ handedLine (laterPart first.now second.now) first.now second.now }
-    ensures place { result.ref_ptr ≡ handedPlace (laterPart first.now second.now) first.entry.ref_ptr second.entry.ref_ptr }
+    ensures contents { result.now ≡ handed_line (later_part first.now second.now) first.now second.now }
+    ensures place { result.ref_ptr ≡ handed_place (later_part first.now second.now) first.entry.ref_ptr second.entry.ref_ptr }
 {
     let a = stamp(first);
     let b = stamp(second);

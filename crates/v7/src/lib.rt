@@ -1,14 +1,14 @@
 // The v7 codes of one record, of the header and of the end. Each piece is written where it
 // fits, so the same code measures when it is lent no bytes.
 ghost use Rattle.std.specs.Prelude.{◌≡◌, [], ◌∷◌, ℕ, ◌+◌, ◌≤◌, length};
-ghost use Rattle.format.specs.Bytes.{toLe32};
-ghost use Rattle.format.specs.Fields.{recordOf, state_of};
-ghost use Rattle.format.specs.Header.{titleLimit, timeLimit};
-ghost use Rattle.format.specs.Label.{labelLimit};
-ghost use Rattle.format.specs.Sheet.{pointBytes, traverseBytes};
+ghost use Rattle.format.specs.Bytes.{to_le32};
+ghost use Rattle.format.specs.Fields.{record_of, state_of};
+ghost use Rattle.format.specs.Header.{title_limit, time_limit};
+ghost use Rattle.format.specs.Label.{label_limit};
+ghost use Rattle.format.specs.Sheet.{point_bytes, traverse_bytes};
 ghost use Rattle.format.specs.State.{leg as legRecord, section as sectionRecord};
 ghost use Rattle.format.specs.WellFormed.{WellFormed, GoodLeg, GoodStation, GoodSection};
-ghost use Rattle.format.specs.V7Codes.{sixteens, trimCodes, shortenCodes, oldLengthCodes, addedCodes, labelledCodes, v7Dates, v7SectionCodes, v7Codes, v7CodesLimit, v7Closing, v7HeaderCodes, v7Unable};
+ghost use Rattle.format.specs.V7Codes.{sixteens, trim_codes, shorten_codes, old_length_codes, added_codes, labelled_codes, v7_dates, v7_section_codes, v7_codes, v7_codes_limit, v7_closing, v7_header_codes, v7_unable};
 ghost use Rattle.part.specs.Lays.{Lays, Puts};
 
 use codes::{
@@ -36,8 +36,8 @@ fn put_sixteens(out: &mut [u8], at: usize, n: usize) -> usize
 
 // d bytes off: 16 at a time, and the rest last.
 fn put_trims(out: &mut [u8], at: usize, d: usize) -> usize
-    requires { (at ≤ 16384) × (d ≤ labelLimit) }
-    ensures { Lays out.old out.new at (trimCodes d) 257 result }
+    requires { (at ≤ 16384) × (d ≤ label_limit) }
+    ensures { Lays out.old out.new at (trim_codes d) 257 result }
 {
     let next = put_sixteens(out, at, d / 16);
     let rest = d % 16;
@@ -50,8 +50,8 @@ fn put_trims(out: &mut [u8], at: usize, d: usize) -> usize
 
 // From a label of n bytes to its first k.
 pub fn put_shorten(out: &mut [u8], at: usize, n: usize, k: usize) -> usize
-    requires { (at ≤ 16384) × (n ≤ labelLimit) × (k ≤ n) }
-    ensures { Lays out.old out.new at (shortenCodes n k) 257 result }
+    requires { (at ≤ 16384) × (n ≤ label_limit) × (k ≤ n) }
+    ensures { Lays out.old out.new at (shorten_codes n k) 257 result }
 {
     if k != 0 {
         return put_trims(out, at, n - k);
@@ -65,8 +65,8 @@ pub fn put_shorten(out: &mut [u8], at: usize, n: usize, k: usize) -> usize
 
 // A length: one byte below fe, or fe and 16 bits.
 fn put_length(out: &mut [u8], at: usize, n: usize) -> usize
-    requires { (at ≤ 32768) × (n ≤ labelLimit) }
-    ensures { Lays out.old out.new at (oldLengthCodes n) 3 result }
+    requires { (at ≤ 32768) × (n ≤ label_limit) }
+    ensures { Lays out.old out.new at (old_length_codes n) 3 result }
 {
     if n < 0xfe {
         let code = [n as u8];
@@ -79,8 +79,8 @@ fn put_length(out: &mut [u8], at: usize, n: usize) -> usize
 
 // What an item appends: the label's bytes after its first k.
 fn put_added(out: &mut [u8], at: usize, name: &[u8], k: usize) -> usize
-    requires { (at ≤ 32768) × (length name.now ≤ labelLimit) × (k ≤ length name.now) }
-    ensures { Lays out.old out.new at (addedCodes name.now k) 4099 result }
+    requires { (at ≤ 32768) × (length name.now ≤ label_limit) × (k ≤ length name.now) }
+    ensures { Lays out.old out.new at (added_codes name.now k) 4099 result }
 {
     let next = put_length(out, at, name.len() - k);
     put(out, next, &name[k..])
@@ -95,8 +95,8 @@ fn put_labelled(
     code: u8,
     fields: &[u8],
 ) -> usize
-    requires { (at ≤ 8192) × (length last.now ≤ labelLimit) × (length name.now ≤ labelLimit) × (length fields.now ≤ 16) }
-    ensures { Lays out.old out.new at (labelledCodes last.now name.now code fields.now) (4357 + length fields.now) result }
+    requires { (at ≤ 8192) × (length last.now ≤ label_limit) × (length name.now ≤ label_limit) × (length fields.now ≤ 16) }
+    ensures { Lays out.old out.new at (labelled_codes last.now name.now code fields.now) (4357 + length fields.now) result }
 {
     let kept = wire::common_start(last, name);
     let a = put_shorten(out, at, last.len(), kept);
@@ -110,7 +110,7 @@ fn put_labelled(
 
 // v7's codes of dates.
 fn v7_dates() -> DateCodes
-    ensures { result ≡ v7Dates }
+    ensures { result ≡ v7_dates }
 {
     DateCodes {
         none: 0x24,
@@ -121,8 +121,8 @@ fn v7_dates() -> DateCodes
 }
 
 fn put_leg(out: &mut [u8], setting: Setting, last: &[u8], name: &[u8], leg: format::Leg) -> usize
-    requires { (length last.now ≤ labelLimit) × GoodLeg leg name.now }
-    ensures { Lays out.old out.new 0 (v7Codes (state_of setting last.now) (legRecord leg name.now)) v7CodesLimit result }
+    requires { (length last.now ≤ label_limit) × GoodLeg leg name.now }
+    ensures { Lays out.old out.new 0 (v7_codes (state_of setting last.now) (legRecord leg name.now)) v7_codes_limit result }
 {
     let dates = v7_dates();
     let date = leg.date;
@@ -137,8 +137,8 @@ fn put_leg(out: &mut [u8], setting: Setting, last: &[u8], name: &[u8], leg: form
 }
 
 fn put_station(out: &mut [u8], last: &[u8], name: &[u8], station: format::Station) -> usize
-    requires { (length last.now ≤ labelLimit) × GoodStation station name.now }
-    ensures { Lays out.old out.new 0 (labelledCodes last.now name.now (0x40 + station.flags) (pointBytes toLe32 station.place)) v7CodesLimit result }
+    requires { (length last.now ≤ label_limit) × GoodStation station name.now }
+    ensures { Lays out.old out.new 0 (labelled_codes last.now name.now (0x40 + station.flags) (point_bytes to_le32 station.place)) v7_codes_limit result }
 {
     let place = station.place;
     let bytes = point_bytes(place);
@@ -147,8 +147,8 @@ fn put_station(out: &mut [u8], last: &[u8], name: &[u8], station: format::Statio
 
 // The XSECT item itself.
 fn put_xsect(out: &mut [u8], at: usize, last: &[u8], name: &[u8], section: format::Section) -> usize
-    requires { (at ≤ 8192) × (length last.now ≤ labelLimit) × GoodSection section name.now }
-    ensures { Lays out.old out.new at (v7SectionCodes last.now section name.now) 4373 result }
+    requires { (at ≤ 8192) × (length last.now ≤ label_limit) × GoodSection section name.now }
+    ensures { Lays out.old out.new at (v7_section_codes last.now section name.now) 4373 result }
 {
     let size = section.size;
     let end = section.last;
@@ -167,8 +167,8 @@ fn put_section(
     name: &[u8],
     section: format::Section,
 ) -> usize
-    requires { (length last.now ≤ labelLimit) × GoodSection section name.now }
-    ensures { Lays out.old out.new 0 (v7Codes (state_of setting last.now) (sectionRecord section name.now)) v7CodesLimit result }
+    requires { (length last.now ≤ label_limit) × GoodSection section name.now }
+    ensures { Lays out.old out.new 0 (v7_codes (state_of setting last.now) (sectionRecord section name.now)) v7_codes_limit result }
 {
     let dates = v7_dates();
     let old = setting.date;
@@ -178,7 +178,7 @@ fn put_section(
 }
 
 fn put_error(out: &mut [u8], traverse: format::Traverse) -> usize
-    ensures { Lays out.old out.new 0 (0x22 ∷ traverseBytes toLe32 traverse) v7CodesLimit result }
+    ensures { Lays out.old out.new 0 (0x22 ∷ traverse_bytes to_le32 traverse) v7_codes_limit result }
 {
     let code = [0x22];
     let a = put(out, 0, &code);
@@ -189,8 +189,8 @@ fn put_error(out: &mut [u8], traverse: format::Traverse) -> usize
 // The codes of one record, written over the front of out where they fit; answers their
 // length either way. `last` is the previous label and `name` the record's own.
 pub fn put_record(out: &mut [u8], state: Setting, last: &[u8], name: &[u8], fields: Fields) -> usize
-    requires { (length last.now ≤ labelLimit) × WellFormed (recordOf fields name.now) }
-    ensures { Puts out.old out.new (v7Codes (state_of state last.now) (recordOf fields name.now)) v7CodesLimit result }
+    requires { (length last.now ≤ label_limit) × WellFormed (record_of fields name.now) }
+    ensures { Puts out.old out.new (v7_codes (state_of state last.now) (record_of fields name.now)) v7_codes_limit result }
 {
     match fields {
         Fields::Leg {
@@ -230,7 +230,7 @@ pub fn put_record(out: &mut [u8], state: Setting, last: &[u8], name: &[u8], fiel
 // Whether v7 cannot carry a record: a leg with a style from 1 to 4, or a station with a
 // flag above 0x1f.
 pub fn unable(fields: Fields) -> bool
-    ensures { result ≡ v7Unable (recordOf fields []) }
+    ensures { result ≡ v7_unable (record_of fields []) }
 {
     match fields {
         Fields::Leg {
@@ -259,8 +259,8 @@ pub fn unable(fields: Fields) -> bool
 // ---- what stands around the records
 
 pub fn put_header(out: &mut [u8], title: &[u8], time: &[u8]) -> usize
-    requires { (length title.now ≤ titleLimit) × (length time.now ≤ timeLimit) }
-    ensures { Puts out.old out.new (v7HeaderCodes (record { extended = 0; title = title.now; time = time.now })) 4186 result }
+    requires { (length title.now ≤ title_limit) × (length time.now ≤ time_limit) }
+    ensures { Puts out.old out.new (v7_header_codes (record { extended = 0; title = title.now; time = time.now })) 4186 result }
 {
     let a = put(out, 0, b"Survex 3D Image File\nv7\n");
     let b = put(out, a, title);
@@ -272,7 +272,7 @@ pub fn put_header(out: &mut [u8], title: &[u8], time: &[u8]) -> usize
 
 // 00 if the label is not empty, then 00.
 pub fn put_closing(out: &mut [u8], label: &[u8]) -> usize
-    ensures { Puts out.old out.new (v7Closing label.now) 2 result }
+    ensures { Puts out.old out.new (v7_closing label.now) 2 result }
 {
     if label.len() == 0 {
         let code = [0x00];

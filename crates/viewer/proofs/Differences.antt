@@ -12,8 +12,8 @@ use lib.Ieee.{Float, binary32, in_float}
 use mir.Syntax.{w32, w64}
 use mir.Val.{SFits, to_z, of_z}
 use mir.ValLaws.{to_z-of_z}
-use Rattle.format.specs.Viewer.{farthest, tooFar, number_of}
-use Rattle.format.proofs.ViewerLaws.{in-float}
+use Rattle.format.specs.Viewer.{farthest, too_far, number_of}
+use Rattle.format.proofs.ViewerLaws.{in_float_lem}
 use Rattle.reach.proofs.Numbers.{read}
 
 -- ---- it fits 64 bits
@@ -28,13 +28,13 @@ apart x y hx hy = go (ltb x y)
     go true = omega arith
     go false = omega arith
 
-sub-mag : (a b : ℤ) → mag a < 2 ^ 31 → mag b < 2 ^ 31 → mag (a -ℤ b) < 2 ^ 63
-sub-mag (pos a) (pos zero) ha hb = omega arith
-sub-mag (pos a) (pos (suc b)) ha hb = apart a (suc b) (omega arith) (omega arith)
-sub-mag (pos a) (negsuc b) ha hb = omega arith
-sub-mag (negsuc a) (pos zero) ha hb = apart 0 (suc a) (omega arith) (omega arith)
-sub-mag (negsuc a) (pos (suc b)) ha hb = omega arith
-sub-mag (negsuc a) (negsuc b) ha hb = apart (suc b) (suc a) (omega arith) (omega arith)
+sub_mag : (a b : ℤ) → mag a < 2 ^ 31 → mag b < 2 ^ 31 → mag (a -ℤ b) < 2 ^ 63
+sub_mag (pos a) (pos zero) ha hb = omega arith
+sub_mag (pos a) (pos (suc b)) ha hb = apart a (suc b) (omega arith) (omega arith)
+sub_mag (pos a) (negsuc b) ha hb = omega arith
+sub_mag (negsuc a) (pos zero) ha hb = apart 0 (suc a) (omega arith) (omega arith)
+sub_mag (negsuc a) (pos (suc b)) ha hb = omega arith
+sub_mag (negsuc a) (negsuc b) ha hb = apart (suc b) (suc a) (omega arith) (omega arith)
 
 -- a number of 32 bits as one of 64
 wide : (z : ℤ) → SFits w32 z → to_z w64 (of_z w64 (to_z w32 (of_z w32 z))) ≡ z
@@ -48,43 +48,43 @@ module _ (a o : ℤ) (ha : SFits w32 a) (ho : SFits w32 o) where
   same = ap₂ ◌-ℤ◌ (wide a ha) (wide o ho)
 
   fits : SFits w64 (a -ℤ o)
-  fits = record { sfits = sub-mag a o ha.sfits ho.sfits }
+  fits = record { sfits = sub_mag a o ha.sfits ho.sfits }
 
-  pub less-fits : SFits w64 (to_z w64 (of_z w64 (to_z w32 (of_z w32 a))) -ℤ to_z w64 (of_z w64 (to_z w32 (of_z w32 o))))
-  less-fits = subst (SFits w64) (sym same) fits
+  pub less_fits : SFits w64 (to_z w64 (of_z w64 (to_z w32 (of_z w32 a))) -ℤ to_z w64 (of_z w64 (to_z w32 (of_z w32 o))))
+  less_fits = subst (SFits w64) (sym same) fits
 
-  pub less-is : to_z w64 (of_z w64 (to_z w64 (of_z w64 (to_z w32 (of_z w32 a))) -ℤ to_z w64 (of_z w64 (to_z w32 (of_z w32 o))))) ≡ a -ℤ o
-  less-is = rw same (to_z-of_z w64 (a -ℤ o) fits)
+  pub less_is : to_z w64 (of_z w64 (to_z w64 (of_z w64 (to_z w32 (of_z w32 a))) -ℤ to_z w64 (of_z w64 (to_z w32 (of_z w32 o))))) ≡ a -ℤ o
+  less_is = rw same (to_z-of_z w64 (a -ℤ o) fits)
 
   -- what a call is passed of both, by their bits
   pub passed : to_z w32 (of_z w32 a) -ℤ to_z w32 (of_z w32 o) ≡ a -ℤ o
   passed = ap₂ ◌-ℤ◌ (to_z-of_z w32 a ha) (to_z-of_z w32 o ho)
 
 -- the same of the numbers of two places
-pub passed-near : (a o : ℤ) → mag a < 2 ^ 31 → mag o < 2 ^ 31 → nat_abs (a -ℤ o) ≤ farthest → nat_abs (to_z w32 (of_z w32 a) -ℤ to_z w32 (of_z w32 o)) ≤ farthest
-passed-near a o ha ho h = rw (read a ha, read o ho) h
+pub passed_near : (a o : ℤ) → mag a < 2 ^ 31 → mag o < 2 ^ 31 → nat_abs (a -ℤ o) ≤ farthest → nat_abs (to_z w32 (of_z w32 a) -ℤ to_z w32 (of_z w32 o)) ≤ farthest
+passed_near a o ha ho h = rw (read a ha, read o ho) h
 
-pub came-far : (a o : ℤ) (r : Bool) → mag a < 2 ^ 31 → mag o < 2 ^ 31 → r ≡ ltb farthest (nat_abs (to_z w32 (of_z w32 a) -ℤ to_z w32 (of_z w32 o)))
+pub came_far : (a o : ℤ) (r : Bool) → mag a < 2 ^ 31 → mag o < 2 ^ 31 → r ≡ ltb farthest (nat_abs (to_z w32 (of_z w32 a) -ℤ to_z w32 (of_z w32 o)))
     → r ≡ ltb farthest (nat_abs (a -ℤ o))
-came-far a o r ha ho e = rw (read a ha, read o ho) at e
+came_far a o r ha ho e = rw (read a ha, read o ho) at e
 
-pub came-number : (a o : ℤ) (r : Float) → mag a < 2 ^ 31 → mag o < 2 ^ 31 → r ≡ number_of (to_z w32 (of_z w32 a) -ℤ to_z w32 (of_z w32 o)) → r ≡ number_of (a -ℤ o)
-came-number a o r ha ho e = rw (read a ha, read o ho) at e
+pub came_number : (a o : ℤ) (r : Float) → mag a < 2 ^ 31 → mag o < 2 ^ 31 → r ≡ number_of (to_z w32 (of_z w32 a) -ℤ to_z w32 (of_z w32 o)) → r ≡ number_of (a -ℤ o)
+came_number a o r ha ho e = rw (read a ha, read o ho) at e
 
 -- ---- which of three is too far
 
 module _ (a b c : ℤ) where
-  pub far-first : ltb farthest (nat_abs a) ≡ true → true ≡ tooFar (a ∷ b ∷ c ∷ [])
-  unfolding tooFar
-  far-first e = rw e refl
+  pub far_first : ltb farthest (nat_abs a) ≡ true → true ≡ too_far (a ∷ b ∷ c ∷ [])
+  unfolding too_far
+  far_first e = rw e refl
 
-  pub far-second : ltb farthest (nat_abs a) ≡ false → ltb farthest (nat_abs b) ≡ true → true ≡ tooFar (a ∷ b ∷ c ∷ [])
-  unfolding tooFar
-  far-second e f = rw (e, f) refl
+  pub far_second : ltb farthest (nat_abs a) ≡ false → ltb farthest (nat_abs b) ≡ true → true ≡ too_far (a ∷ b ∷ c ∷ [])
+  unfolding too_far
+  far_second e f = rw (e, f) refl
 
-  pub far-third : ltb farthest (nat_abs a) ≡ false → ltb farthest (nat_abs b) ≡ false → (r : Bool) → r ≡ ltb farthest (nat_abs c) → r ≡ tooFar (a ∷ b ∷ c ∷ [])
-  unfolding tooFar
-  far-third e f r g = rw (e, f) (go r (ltb farthest (nat_abs c)) g)
+  pub far_third : ltb farthest (nat_abs a) ≡ false → ltb farthest (nat_abs b) ≡ false → (r : Bool) → r ≡ ltb farthest (nat_abs c) → r ≡ too_far (a ∷ b ∷ c ∷ [])
+  unfolding too_far
+  far_third e f r g = rw (e, f) (go r (ltb farthest (nat_abs c)) g)
     where
       go : (r t : Bool) → r ≡ t → r ≡ (t || false)
       go r true g = g
@@ -108,15 +108,15 @@ module _ (z d : ℤ) (fit : mag d < 2 ^ 63) (is : d ≡ z) where
   reads : to_z w64 (of_z w64 d) ≡ z
   reads = to_z-of_z w64 d (record { sfits = fit }) ∙ is
 
-  pub far-above : lt_z (pos 16777216) (to_z w64 (of_z w64 d)) ≡ true → true ≡ ltb farthest (nat_abs z)
-  far-above e = sym (lt-ltb farthest (nat_abs z) (above z (rw reads at e)))
+  pub far_above : lt_z (pos 16777216) (to_z w64 (of_z w64 d)) ≡ true → true ≡ ltb farthest (nat_abs z)
+  far_above e = sym (lt-ltb farthest (nat_abs z) (above z (rw reads at e)))
 
-  pub far-below : lt_z (pos 16777216) (to_z w64 (of_z w64 d)) ≡ false → lt_z (to_z w64 (of_z w64 d)) (negsuc 16777215) ≡ ltb farthest (nat_abs z)
-  far-below e = rw reads (within z (rw reads at e))
+  pub far_below : lt_z (pos 16777216) (to_z w64 (of_z w64 d)) ≡ false → lt_z (to_z w64 (of_z w64 d)) (negsuc 16777215) ≡ ltb farthest (nat_abs z)
+  far_below e = rw reads (within z (rw reads at e))
 
   -- nothing is lost
   pub float_fits : nat_abs z ≤ farthest → T (in_float binary32 (to_z w64 (of_z w64 d)))
-  float_fits h = rw reads (in-float z h)
+  float_fits h = rw reads (in_float_lem z h)
 
   pub float_is : number_of (to_z w64 (of_z w64 d)) ≡ number_of z
   float_is = ap number_of reads

@@ -3,11 +3,11 @@
 ghost use Rattle.std.specs.Prelude.{◌≡◌, ◌++◌, false, ◌+◌, ◌≤◌, length, get_or, drop, ltb, ◌-ℤ◌, nat_abs};
 ghost use Rattle.format.specs.Bytes.{be16, be32};
 ghost use Rattle.format.specs.Items.{point_of};
-ghost use Rattle.format.specs.Sheet.{sheetResult};
-ghost use Rattle.format.specs.Viewer.{place_of, lessOrigin, farthest, tooFar, farVerdict, view_of, number_of, numbersOver, viewDifferences, viewBuffer, ViewExact};
-ghost use Rattle.format.specs.Answers.{viewedOf};
+ghost use Rattle.format.specs.Sheet.{sheet_result};
+ghost use Rattle.format.specs.Viewer.{place_of, less_origin, farthest, too_far, far_verdict, view_of, number_of, numbers_over, view_differences, view_buffer, ViewExact};
+ghost use Rattle.format.specs.Answers.{viewed_of};
 ghost use Rattle.format.specs.declared.Verdict.TheVariants.{Good};
-ghost use Rattle.viewer.specs.Viewing.{sixAt, farAt, Boxed, Counted, Fits};
+ghost use Rattle.viewer.specs.Viewing.{six_at, far_at, Boxed, Counted, Fits};
 
 use format::{Corner, Origin, Reached, Verdict, Viewed};
 
@@ -61,7 +61,7 @@ fn place_at(s: &[u8]) -> Corner
 
 // Whether one of the three differences is too far.
 fn far_place(c: Corner, origin: Origin) -> bool
-    ensures { result ≡ tooFar (lessOrigin origin c) }
+    ensures { result ≡ too_far (less_origin origin c) }
 {
     if is_far(c.x, origin.x) {
         return true;
@@ -74,8 +74,8 @@ fn far_place(c: Corner, origin: Origin) -> bool
 
 // Writes the three differences to the front of out.
 fn put_place(out: &mut [f32], c: Corner, origin: Origin)
-    requires { (3 ≤ length out.old) × (tooFar (lessOrigin origin c) ≡ false) }
-    ensures { out.new ≡ numbersOver (lessOrigin origin c) out.old }
+    requires { (3 ≤ length out.old) × (too_far (less_origin origin c) ≡ false) }
+    ensures { out.new ≡ numbers_over (less_origin origin c) out.old }
 {
     out[0] = exact(c.x, origin.x);
     out[1] = exact(c.y, origin.y);
@@ -95,7 +95,7 @@ fn size_at(s: &[u8]) -> usize
 // Whether the record s is a leg that is too far.
 fn far_record(s: &[u8], origin: Origin) -> bool
     requires { (3 ≤ length s.now) × (get_or s.now 2 0 ≡ 1 → 34 ≤ length s.now) }
-    ensures { result ≡ farAt origin s.now }
+    ensures { result ≡ far_at origin s.now }
 {
     if s[2] != 1 {
         return false;
@@ -107,8 +107,8 @@ fn far_record(s: &[u8], origin: Origin) -> bool
 }
 
 fn put_ends(out: &mut [f32], from: Corner, to: Corner, origin: Origin)
-    requires { (6 ≤ length out.old) × (tooFar (lessOrigin origin from) ≡ false) × (tooFar (lessOrigin origin to) ≡ false) }
-    ensures { out.new ≡ numbersOver (lessOrigin origin from ++ lessOrigin origin to) out.old }
+    requires { (6 ≤ length out.old) × (too_far (less_origin origin from) ≡ false) × (too_far (less_origin origin to) ≡ false) }
+    ensures { out.new ≡ numbers_over (less_origin origin from ++ less_origin origin to) out.old }
 {
     put_place(out, from, origin);
     put_place(&mut out[3..], to, origin);
@@ -116,8 +116,8 @@ fn put_ends(out: &mut [f32], from: Corner, to: Corner, origin: Origin)
 
 // Writes the six numbers of the leg's record s to the front of out.
 fn put_leg(out: &mut [f32], s: &[u8], origin: Origin)
-    requires { (6 ≤ length out.old) × (34 ≤ length s.now) × (tooFar (sixAt origin s.now) ≡ false) }
-    ensures { out.new ≡ numbersOver (sixAt origin s.now) out.old }
+    requires { (6 ≤ length out.old) × (34 ≤ length s.now) × (too_far (six_at origin s.now) ≡ false) }
+    ensures { out.new ≡ numbers_over (six_at origin s.now) out.old }
 {
     let from = place_at(&s[10..]);
     let to = place_at(&s[22..]);
@@ -136,8 +136,8 @@ fn first_place(sheet: &[u8]) -> usize
 
 // The refusal of the first leg that is too far.
 fn first_far(sheet: &[u8], origin: Origin) -> Verdict
-    requires { (sheetResult sheet.now).verdict ≡ Good }
-    ensures { result ≡ farVerdict origin 0 (sheetResult sheet.now).records }
+    requires { (sheet_result sheet.now).verdict ≡ Good }
+    ensures { result ≡ far_verdict origin 0 (sheet_result sheet.now).records }
 {
     let mut at = first_place(sheet);
     let mut number: usize = 0;
@@ -158,7 +158,7 @@ fn first_far(sheet: &[u8], origin: Origin) -> Verdict
 // The same, where the box of all legs may say that there is none.
 fn judge(sheet: &[u8], origin: Origin, least: Corner, greatest: Corner) -> Verdict
     requires { Boxed sheet.now least greatest }
-    ensures { result ≡ farVerdict origin 0 (sheetResult sheet.now).records }
+    ensures { result ≡ far_verdict origin 0 (sheet_result sheet.now).records }
 {
     if far_place(least, origin) {
         return first_far(sheet, origin);
@@ -172,7 +172,7 @@ fn judge(sheet: &[u8], origin: Origin, least: Corner, greatest: Corner) -> Verdi
 // Writes the numbers of all legs to the front of out.
 fn fill(sheet: &[u8], origin: Origin, out: &mut [f32])
     requires { Fits sheet.now origin (length out.old) }
-    ensures { out.new ≡ numbersOver (viewDifferences sheet.now origin) out.old }
+    ensures { out.new ≡ numbers_over (view_differences sheet.now origin) out.old }
 {
     let mut at = first_place(sheet);
     let mut k: usize = 0;
@@ -192,8 +192,8 @@ fn fill(sheet: &[u8], origin: Origin, out: &mut [f32])
 // So many legs, none of which is too far: 11, or their numbers.
 fn show(sheet: &[u8], origin: Origin, legs: usize, out: &mut [f32]) -> Viewed
     requires { Counted sheet.now origin legs }
-    ensures answer { viewedOf result ≡ view_of sheet.now origin (length out.old) }
-    ensures numbers { out.new ≡ viewBuffer sheet.now origin out.old }
+    ensures answer { viewed_of result ≡ view_of sheet.now origin (length out.old) }
+    ensures numbers { out.new ≡ view_buffer sheet.now origin out.old }
 {
     let needed = 6 * legs;
     if out.len() < needed {
@@ -208,8 +208,8 @@ fn show(sheet: &[u8], origin: Origin, legs: usize, out: &mut [f32]) -> Viewed
 
 // The legs of a sheet for the viewer, less the origin, written to the front of out.
 pub fn viewer_legs(sheet: &[u8], origin: Origin, out: &mut [f32]) -> Viewed
-    ensures answer { viewedOf result ≡ view_of sheet.now origin (length out.old) }
-    ensures numbers { out.new ≡ viewBuffer sheet.now origin out.old }
+    ensures answer { viewed_of result ≡ view_of sheet.now origin (length out.old) }
+    ensures numbers { out.new ≡ view_buffer sheet.now origin out.old }
     ensures exact { ViewExact sheet.now origin (length out.old) out.new }
 {
     let all = reach::reach(sheet, &sheet[0..0]);

@@ -13,11 +13,11 @@ use lib.ListN.{length, take, drop, get_or, set, length-append, length-take, leng
 use lib.Seq.{drop-drop, drop-append-le, drop-append-add, take-take, take-add, take-append-le, take-length, take_at, drop_at, drop-length, drop-cons}
 use lib.Seq.{take-suc, append_snoc, set_at, length-take-le}
 use Rattle.format.specs.Bytes.{pick, over, same}
-use Rattle.format.proofs.Basics.{pick-case, same_true}
-use Rattle.format.proofs.WritingLaws.{common-take}
-use Rattle.format.specs.Header.{lineEnd}
+use Rattle.format.proofs.Basics.{pick_case, same_true}
+use Rattle.format.proofs.WritingLaws.{common_take}
+use Rattle.format.specs.Header.{line_end}
 use Rattle.format.specs.Codes.{common}
-use Rattle.wire.specs.Laid.{laid, laidIf}
+use Rattle.wire.specs.Laid.{laid, laid_if}
 
 -- ---- a part of no bytes
 
@@ -48,50 +48,50 @@ pub laid_nil : (d : List ℕ) (k : ℕ) → laid d k [] ≡ d
 unfolding laid
 laid_nil d k = rw (add-zero, take-append-drop)
 
-pub laid-zero : (d s : List ℕ) → laid d 0 s ≡ over s d
+pub laid_zero : (d s : List ℕ) → laid d 0 s ≡ over s d
 unfolding laid over
-laid-zero d s = rw zero-add
+laid_zero d s = rw zero-add
 
 module _ (d s : List ℕ) (k : ℕ) (h : k ≤ length d) where
-  head-length : length (take k d ++ s) ≡ k + length s
-  head-length = simp (length-append, length-take-le k d h)
+  head_length : length (take k d ++ s) ≡ k + length s
+  head_length = simp (length-append, length-take-le k d h)
 
-  pub take-laid : take (k + length s) (laid d k s) ≡ take k d ++ s
+  pub take_laid : take (k + length s) (laid d k s) ≡ take k d ++ s
   unfolding laid
-  take-laid = rw (← append_assoc (take k d) s (drop (k + length s) d)) (take_at (take k d ++ s) (drop (k + length s) d) (k + length s) head-length)
+  take_laid = rw (← append_assoc (take k d) s (drop (k + length s) d)) (take_at (take k d ++ s) (drop (k + length s) d) (k + length s) head_length)
 
-  pub drop-laid : drop (k + length s) (laid d k s) ≡ drop (k + length s) d
+  pub drop_laid : drop (k + length s) (laid d k s) ≡ drop (k + length s) d
   unfolding laid
-  drop-laid = rw (← append_assoc (take k d) s (drop (k + length s) d)) (drop_at (take k d ++ s) (drop (k + length s) d) (k + length s) head-length)
+  drop_laid = rw (← append_assoc (take k d) s (drop (k + length s) d)) (drop_at (take k d ++ s) (drop (k + length s) d) (k + length s) head_length)
 
   -- what comes back of a part from k on, over which s was laid
-  pub laid-part : (n : ℕ) → n ≡ length d → take k d ++ (over s (take (n - k) (drop k d)) ++ drop (n - k) (drop k d)) ≡ laid d k s
+  pub laid_part : (n : ℕ) → n ≡ length d → take k d ++ (over s (take (n - k) (drop k d)) ++ drop (n - k) (drop k d)) ≡ laid d k s
   unfolding laid over
-  laid-part n e =
+  laid_part n e =
       rw (e, part_to_end, drop-drop (length s) k d, ← length-drop k d, drop-length (drop k d), append-nil)
 
-pub length-laid : (d s : List ℕ) (k : ℕ) → k + length s ≤ length d → length (laid d k s) ≡ length d
+pub length_laid : (d s : List ℕ) (k : ℕ) → k + length s ≤ length d → length (laid d k s) ≡ length d
 unfolding laid
-length-laid d s k h = simp (length-append, length-take, length-drop) (omega arith)
+length_laid d s k h = simp (length-append, length-take, length-drop) (omega arith)
 
 -- what is laid into the first b bytes is laid into the whole
-pub laid-within : (d s : List ℕ) (k b : ℕ) → k + length s ≤ b → b ≤ length d → laid (take b d) k s ++ drop b d ≡ laid d k s
+pub laid_within : (d s : List ℕ) (k b : ℕ) → k + length s ≤ b → b ≤ length d → laid (take b d) k s ++ drop b d ≡ laid d k s
 unfolding laid
-laid-within d s k b h j =
+laid_within d s k b h j =
     let n = length-take-le b d j in
     let e : drop (k + length s) d ≡ drop (k + length s) (take b d) ++ drop b d = ap (drop (k + length s)) (sym (take-append-drop b d))
     ∙ drop-append-le (k + length s) (take b d) (drop b d) (omega arith) in
     simp append_assoc (rw (take-take k b d (omega arith), e))
 
-pub over-within : (d s : List ℕ) (b : ℕ) → length s ≤ b → b ≤ length d → over s (take b d) ++ drop b d ≡ over s d
-over-within d s b h j = rw (← (laid-zero (take b d) s), ← (laid-zero d s)) (laid-within d s 0 b (omega arith) j)
+pub over_within : (d s : List ℕ) (b : ℕ) → length s ≤ b → b ≤ length d → over s (take b d) ++ drop b d ≡ over s d
+over_within d s b h j = rw (← (laid_zero (take b d) s), ← (laid_zero d s)) (laid_within d s 0 b (omega arith) j)
 
 -- one thing laid after another is both laid together
 pub laid_next : (d s t : List ℕ) (k : ℕ) → k ≤ length d → laid (laid d k s) (k + length s) t ≡ laid d k (s ++ t)
 unfolding laid
 laid_next d s t k h =
-    ap₂ (λ (x y : List ℕ). x ++ (t ++ y)) (take-laid d s k h)
-    (sym (drop-drop (length t) (k + length s) (laid d k s)) ∙ ap (drop (length t)) (drop-laid d s k h) ∙ drop-drop (length t) (k + length s) d)
+    ap₂ (λ (x y : List ℕ). x ++ (t ++ y)) (take_laid d s k h)
+    (sym (drop-drop (length t) (k + length s) (laid d k s)) ∙ ap (drop (length t)) (drop_laid d s k h) ∙ drop-drop (length t) (k + length s) d)
     ∙ simp (append_assoc, length-append, add_assoc)
 
 -- ---- parts that overlap: bytes of s from k on, laid over a front of s that reaches to w
@@ -118,66 +118,66 @@ laps s d Y Z w k m n eY eZ h1 h2 e h3 h4 =
     let lw : length (take w s) ≡ w = length-take-le w s (omega arith) in
     let ly : length Y ≡ length d = ap length eY ∙ length_over (take w s) d (omega arith) in
     rw (eZ, part_to_end s k)
-    (laid-part Y (take m (drop k s)) k (omega arith) (length Y) refl
+    (laid_part Y (take m (drop k s)) k (omega arith) (length Y) refl
     ∙ ap (λ (y : List ℕ). laid y k (take m (drop k s))) eY
     ∙ lap s d w k m h1 (omega arith) (omega arith) (omega arith)
     ∙ ap (λ (j : ℕ). over (take j s) d) e)
 
-pub laps-all : (s d Y Z : List ℕ) (w k m : ℕ) → Y ≡ over (take w s) d → Z ≡ over (take m (take (length s - k) (drop k s))) (take (length Y - k) (drop k Y))
+pub laps_all : (s d Y Z : List ℕ) (w k m : ℕ) → Y ≡ over (take w s) d → Z ≡ over (take m (take (length s - k) (drop k s))) (take (length Y - k) (drop k Y))
     → k ≤ w → w ≤ length s → k + m ≡ length s → length s ≤ length d → take k Y ++ (Z ++ drop (length Y - k) (drop k Y)) ≡ over s d
-laps-all s d Y Z w k m eY eZ h1 h2 e h4 =
+laps_all s d Y Z w k m eY eZ h1 h2 e h4 =
     laps s d Y Z w k m (length s) eY eZ h1 h2 e (omega arith) h4 ∙ rw take-length
 
 -- m bytes at the start and m at the end, of at most twice as many
-pub laps-ends : (s d Y Z : List ℕ) (m : ℕ) → Y ≡ over (take m s) d
+pub laps_ends : (s d Y Z : List ℕ) (m : ℕ) → Y ≡ over (take m s) d
     → Z ≡ over (take m (take (length s - (length s - m)) (drop (length s - m) s))) (take (length Y - (length s - m)) (drop (length s - m) Y))
     → m ≤ length s → length s ≤ m + m → length s ≤ length d → take (length s - m) Y ++ (Z ++ drop (length Y - (length s - m)) (drop (length s - m) Y)) ≡ over
     s d
-laps-ends s d Y Z m eY eZ h1 h2 h3 = laps-all s d Y Z m (length s - m) m eY eZ (omega arith) h1 (omega arith) h3
+laps_ends s d Y Z m eY eZ h1 h2 h3 = laps_all s d Y Z m (length s - m) m eY eZ (omega arith) h1 (omega arith) h3
 
 -- one store after another copies a list of as many bytes
-pub stored-0 : (s d : List ℕ) → length s ≡ 0 → length s ≤ length d → d ≡ over s d
+pub stored_0 : (s d : List ℕ) → length s ≡ 0 → length s ≤ length d → d ≡ over s d
 unfolding over
-stored-0 [] d e h = refl
-stored-0 (x0 ∷ s) d e h = absurd (omega arith)
+stored_0 [] d e h = refl
+stored_0 (x0 ∷ s) d e h = absurd (omega arith)
 
-pub stored-1 : (s d : List ℕ) → length s ≡ 1 → length s ≤ length d → set d 0 (get_or s 0 0) ≡ over s d
+pub stored_1 : (s d : List ℕ) → length s ≡ 1 → length s ≤ length d → set d 0 (get_or s 0 0) ≡ over s d
 unfolding over
-stored-1 [] d e h = absurd (omega arith)
-stored-1 (x0 ∷ []) [] e h = absurd (omega arith)
-stored-1 (x0 ∷ []) (y0 ∷ d) e h = refl
-stored-1 (x0 ∷ x1 ∷ s) d e h = absurd (omega arith)
+stored_1 [] d e h = absurd (omega arith)
+stored_1 (x0 ∷ []) [] e h = absurd (omega arith)
+stored_1 (x0 ∷ []) (y0 ∷ d) e h = refl
+stored_1 (x0 ∷ x1 ∷ s) d e h = absurd (omega arith)
 
-pub stored-2 : (s d : List ℕ) → length s ≡ 2 → length s ≤ length d → set (set d 0 (get_or s 0 0)) 1 (get_or s 1 0) ≡ over s d
+pub stored_2 : (s d : List ℕ) → length s ≡ 2 → length s ≤ length d → set (set d 0 (get_or s 0 0)) 1 (get_or s 1 0) ≡ over s d
 unfolding over
-stored-2 [] d e h = absurd (omega arith)
-stored-2 (x0 ∷ []) d e h = absurd (omega arith)
-stored-2 (x0 ∷ x1 ∷ []) [] e h = absurd (omega arith)
-stored-2 (x0 ∷ x1 ∷ []) (y0 ∷ []) e h = absurd (omega arith)
-stored-2 (x0 ∷ x1 ∷ []) (y0 ∷ y1 ∷ d) e h = refl
-stored-2 (x0 ∷ x1 ∷ x2 ∷ s) d e h = absurd (omega arith)
+stored_2 [] d e h = absurd (omega arith)
+stored_2 (x0 ∷ []) d e h = absurd (omega arith)
+stored_2 (x0 ∷ x1 ∷ []) [] e h = absurd (omega arith)
+stored_2 (x0 ∷ x1 ∷ []) (y0 ∷ []) e h = absurd (omega arith)
+stored_2 (x0 ∷ x1 ∷ []) (y0 ∷ y1 ∷ d) e h = refl
+stored_2 (x0 ∷ x1 ∷ x2 ∷ s) d e h = absurd (omega arith)
 
-pub stored-3 : (s d : List ℕ) → length s ≡ 3 → length s ≤ length d → set (set (set d 0 (get_or s 0 0)) 1 (get_or s 1 0)) 2 (get_or s 2 0) ≡ over s d
+pub stored_3 : (s d : List ℕ) → length s ≡ 3 → length s ≤ length d → set (set (set d 0 (get_or s 0 0)) 1 (get_or s 1 0)) 2 (get_or s 2 0) ≡ over s d
 unfolding over
-stored-3 [] d e h = absurd (omega arith)
-stored-3 (x0 ∷ []) d e h = absurd (omega arith)
-stored-3 (x0 ∷ x1 ∷ []) d e h = absurd (omega arith)
-stored-3 (x0 ∷ x1 ∷ x2 ∷ []) [] e h = absurd (omega arith)
-stored-3 (x0 ∷ x1 ∷ x2 ∷ []) (y0 ∷ []) e h = absurd (omega arith)
-stored-3 (x0 ∷ x1 ∷ x2 ∷ []) (y0 ∷ y1 ∷ []) e h = absurd (omega arith)
-stored-3 (x0 ∷ x1 ∷ x2 ∷ []) (y0 ∷ y1 ∷ y2 ∷ d) e h = refl
-stored-3 (x0 ∷ x1 ∷ x2 ∷ x3 ∷ s) d e h = absurd (omega arith)
+stored_3 [] d e h = absurd (omega arith)
+stored_3 (x0 ∷ []) d e h = absurd (omega arith)
+stored_3 (x0 ∷ x1 ∷ []) d e h = absurd (omega arith)
+stored_3 (x0 ∷ x1 ∷ x2 ∷ []) [] e h = absurd (omega arith)
+stored_3 (x0 ∷ x1 ∷ x2 ∷ []) (y0 ∷ []) e h = absurd (omega arith)
+stored_3 (x0 ∷ x1 ∷ x2 ∷ []) (y0 ∷ y1 ∷ []) e h = absurd (omega arith)
+stored_3 (x0 ∷ x1 ∷ x2 ∷ []) (y0 ∷ y1 ∷ y2 ∷ d) e h = refl
+stored_3 (x0 ∷ x1 ∷ x2 ∷ x3 ∷ s) d e h = absurd (omega arith)
 
--- ---- `laidIf`
+-- ---- `laid_if`
 
 module _ (d s : List ℕ) (k : ℕ) where
-  pub laid_none : length d < k + length s → laidIf d k s ≡ d
-  unfolding laidIf pick
+  pub laid_none : length d < k + length s → laid_if d k s ≡ d
+  unfolding laid_if pick
   laid_none h = simp (lt-ltb _ _ h)
 
-  pub laid-some : k + length s ≤ length d → laidIf d k s ≡ laid d k s
-  unfolding laidIf pick
-  laid-some h = simp (le-ltb _ _ h)
+  pub laid_some : k + length s ≤ length d → laid_if d k s ≡ laid d k s
+  unfolding laid_if pick
+  laid_some h = simp (le-ltb _ _ h)
 
 -- ---- `same`
 
@@ -189,79 +189,79 @@ same_false s t h = go (same s t) refl
     go false e = refl
 
 -- past a byte that both have
-pub same-past : (s t : List ℕ) (i : ℕ) → i < length s → i < length t → get_or s i 0 ≡ get_or t i 0
+pub same_past : (s t : List ℕ) (i : ℕ) → i < length s → i < length t → get_or s i 0 ≡ get_or t i 0
     → same (drop i s) (drop i t) ≡ same (drop (i + 1) s) (drop (i + 1) t)
 unfolding same pick
-same-past s t i hs ht e = rw (add-one i, drop-cons s i 0, drop-cons t i 0, eq-eqb _ _ e)
+same_past s t i hs ht e = rw (add-one i, drop-cons s i 0, drop-cons t i 0, eq-eqb _ _ e)
 
-pub same-other : (s t : List ℕ) (i : ℕ) → (get_or s i 0 ≡ get_or t i 0 → ⊥) → same s t ≡ false
-same-other s t i h = same_false s t (λ e. h (ap (λ (l : List ℕ). get_or l i 0) e))
+pub same_other : (s t : List ℕ) (i : ℕ) → (get_or s i 0 ≡ get_or t i 0 → ⊥) → same s t ≡ false
+same_other s t i h = same_false s t (λ e. h (ap (λ (l : List ℕ). get_or l i 0) e))
 
 -- ---- `common`
 
-pub common-past : (s t : List ℕ) (i : ℕ) → i < length s → i < length t → get_or s i 0 ≡ get_or t i 0
+pub common_past : (s t : List ℕ) (i : ℕ) → i < length s → i < length t → get_or s i 0 ≡ get_or t i 0
     → common (drop i s) (drop i t) ≡ 1 + common (drop (i + 1) s) (drop (i + 1) t)
 unfolding common pick
-common-past s t i hs ht e = rw (add-one i, drop-cons s i 0, drop-cons t i 0, eq-eqb _ _ e) (omega arith)
+common_past s t i hs ht e = rw (add-one i, drop-cons s i 0, drop-cons t i 0, eq-eqb _ _ e) (omega arith)
 
 -- past bytes that both begin with
-pub common-front : (f s t : List ℕ) → common (f ++ s) (f ++ t) ≡ length f + common s t
+pub common_front : (f s t : List ℕ) → common (f ++ s) (f ++ t) ≡ length f + common s t
 unfolding common pick
-common-front [] s t = omega arith
-common-front (x ∷ f) s t = rw (eq-eqb x x refl) (let e = common-front f s t in omega arith)
+common_front [] s t = omega arith
+common_front (x ∷ f) s t = rw (eq-eqb x x refl) (let e = common_front f s t in omega arith)
 
 -- past k bytes of eight
-pub common-eights : (s t : List ℕ) (i k : ℕ) → i + 8 ≤ length s → i + 8 ≤ length t → k ≤ 8 → k ≤ common (take 8 (drop i s)) (take 8 (drop i t))
+pub common_eights : (s t : List ℕ) (i k : ℕ) → i + 8 ≤ length s → i + 8 ≤ length t → k ≤ 8 → k ≤ common (take 8 (drop i s)) (take 8 (drop i t))
     → common (drop i s) (drop i t) ≡ k + common (drop (i + k) s) (drop (i + k) t)
-common-eights s t i k hs ht h8 h =
+common_eights s t i k hs ht h8 h =
     let c : ℕ = common (take 8 (drop i s)) (take 8 (drop i t)) in
     let e : take k (take 8 (drop i s)) ≡ take k (take 8 (drop i t)) =
-    sym (take-take k c (take 8 (drop i s)) h) ∙ ap (take k) (common-take (take 8 (drop i s)) (take 8 (drop i t))) ∙ take-take k c (take 8 (drop i t)) h in
+    sym (take-take k c (take 8 (drop i s)) h) ∙ ap (take k) (common_take (take 8 (drop i s)) (take 8 (drop i t))) ∙ take-take k c (take 8 (drop i t)) h in
     let q : take k (drop i s) ≡ take k (drop i t) = sym (take-take k 8 (drop i s) h8) ∙ e ∙ take-take k 8 (drop i t) h8 in
     let n : length (take k (drop i t)) ≡ k = length-take-le k (drop i t) (simp length-drop (omega arith)) in
     let l : take k (drop i s) ++ drop k (drop i s) ≡ drop i s = take-append-drop k (drop i s) in
     let r : take k (drop i t) ++ drop k (drop i t) ≡ drop i t = take-append-drop k (drop i t) in
-    sym (ap₂ common l r) ∙ rw (q, common-front, n, drop-drop k i s, drop-drop k i t)
+    sym (ap₂ common l r) ∙ rw (q, common_front, n, drop-drop k i s, drop-drop k i t)
 
-pub common-here : (s t : List ℕ) (i : ℕ) → i < length s → i < length t → (get_or s i 0 ≡ get_or t i 0 → ⊥) → common (drop i s) (drop i t) ≡ 0
+pub common_here : (s t : List ℕ) (i : ℕ) → i < length s → i < length t → (get_or s i 0 ≡ get_or t i 0 → ⊥) → common (drop i s) (drop i t) ≡ 0
 unfolding common pick
-common-here s t i hs ht e = rw (drop-cons s i 0, drop-cons t i 0, ne_eqb _ _ e)
+common_here s t i hs ht e = rw (drop-cons s i 0, drop-cons t i 0, ne_eqb _ _ e)
 
 -- nothing is left of one of them
-pub common-spent : (s t : List ℕ) → min (length s) (length t) ≡ 0 → common s t ≡ 0
+pub common_spent : (s t : List ℕ) → min (length s) (length t) ≡ 0 → common s t ≡ 0
 unfolding common
-common-spent [] t h = refl
-common-spent (x ∷ s) [] h = refl
-common-spent (x ∷ s) (y ∷ t) h = absurd (omega arith)
+common_spent [] t h = refl
+common_spent (x ∷ s) [] h = refl
+common_spent (x ∷ s) (y ∷ t) h = absurd (omega arith)
 
 -- no more bytes are common than either has
-pub common-within : (s t : List ℕ) → (common s t ≤ length s) × (common s t ≤ length t)
+pub common_within : (s t : List ℕ) → (common s t ≤ length s) × (common s t ≤ length t)
 unfolding common
-common-within [] t = (omega arith, omega arith)
-common-within (x ∷ s) [] = (omega arith, omega arith)
-common-within (x ∷ s) (y ∷ t) =
-    let r = common-within s t in
-    pick-case (λ (n : ℕ). (n ≤ suc (length s)) × (n ≤ suc (length t))) _ _ _ (λ e. (omega arith, omega arith)) (λ e. (omega arith, omega arith))
+common_within [] t = (omega arith, omega arith)
+common_within (x ∷ s) [] = (omega arith, omega arith)
+common_within (x ∷ s) (y ∷ t) =
+    let r = common_within s t in
+    pick_case (λ (n : ℕ). (n ≤ suc (length s)) × (n ≤ suc (length t))) _ _ _ (λ e. (omega arith, omega arith)) (λ e. (omega arith, omega arith))
 
--- ---- `lineEnd`
+-- ---- `line_end`
 
-pub line-past : (s : List ℕ) (i : ℕ) → i < length s → (get_or s i 0 ≡ 10 → ⊥) → lineEnd (drop i s) ≡ 1 + lineEnd (drop (i + 1) s)
-unfolding lineEnd pick
-line-past s i h e = rw (add-one i, drop-cons s i 0, ne_eqb _ _ e) (omega arith)
+pub line_past : (s : List ℕ) (i : ℕ) → i < length s → (get_or s i 0 ≡ 10 → ⊥) → line_end (drop i s) ≡ 1 + line_end (drop (i + 1) s)
+unfolding line_end pick
+line_past s i h e = rw (add-one i, drop-cons s i 0, ne_eqb _ _ e) (omega arith)
 
-pub line-here : (s : List ℕ) (i : ℕ) → i < length s → get_or s i 0 ≡ 10 → lineEnd (drop i s) ≡ 0
-unfolding lineEnd pick
-line-here s i h e = rw (drop-cons s i 0, eq-eqb _ _ e)
+pub line_here : (s : List ℕ) (i : ℕ) → i < length s → get_or s i 0 ≡ 10 → line_end (drop i s) ≡ 0
+unfolding line_end pick
+line_here s i h e = rw (drop-cons s i 0, eq-eqb _ _ e)
 
-pub line-none : (s : List ℕ) → length s ≡ 0 → lineEnd s ≡ 0
-unfolding lineEnd
-line-none [] h = refl
-line-none (x ∷ s) h = absurd (omega arith)
+pub line_none : (s : List ℕ) → length s ≡ 0 → line_end s ≡ 0
+unfolding line_end
+line_none [] h = refl
+line_none (x ∷ s) h = absurd (omega arith)
 
 -- a line ends within
-pub line-within : (s : List ℕ) → lineEnd s ≤ length s
-unfolding lineEnd
-line-within [] = omega arith
-line-within (b ∷ s) =
-    let r = line-within s in
-    pick-case (λ (n : ℕ). n ≤ suc (length s)) _ _ _ (λ e. omega arith) (λ e. omega arith)
+pub line_within : (s : List ℕ) → line_end s ≤ length s
+unfolding line_end
+line_within [] = omega arith
+line_within (b ∷ s) =
+    let r = line_within s in
+    pick_case (λ (n : ℕ). n ≤ suc (length s)) _ _ _ (λ e. omega arith) (λ e. omega arith)

@@ -9,12 +9,12 @@ use lib.Count.{count_trailing_zeros, under}
 use borrow.Author.Tests.{eq-eqb, ne_eqb}
 use Rattle.format.specs.Bytes.{pick}
 use Rattle.format.specs.Codes.{common}
-use Rattle.format.proofs.Basics.{less-or-not}
-use Rattle.number.specs.Four.{toLe64}
+use Rattle.format.proofs.Basics.{less_or_not}
+use Rattle.number.specs.Four.{to_le64}
 
-eq-case : (x y : ℕ) {P : Type 0} → (x ≡ y → P) → ((x ≡ y → ⊥) → P) → P
-eq-case x y f g =
-    less-or-not x y (λ h. g (λ e. omega (arith, h, e))) λ h. less-or-not y x (λ k. g (λ e. omega (arith, k, e))) λ k. f (omega (arith, h, k))
+eq_case : (x y : ℕ) {P : Type 0} → (x ≡ y → P) → ((x ≡ y → ⊥) → P) → P
+eq_case x y f g =
+    less_or_not x y (λ h. g (λ e. omega (arith, h, e))) λ h. less_or_not y x (λ k. g (λ e. omega (arith, k, e))) λ k. f (omega (arith, h, k))
 
 -- ---- bits
 
@@ -28,18 +28,18 @@ two (suc zero) h (suc zero) k = omega arith
 two (suc zero) h (suc (suc y)) k = absurd (omega (arith, k))
 two (suc (suc x)) h (suc y) k = absurd (omega (arith, h))
 
-zeros-step : (k a b : ℕ) → zeros (suc k) a b ≡ under (differ (a % 2) (b % 2)) (zeros k (a / 2) (b / 2))
+zeros_step : (k a b : ℕ) → zeros (suc k) a b ≡ under (differ (a % 2) (b % 2)) (zeros k (a / 2) (b / 2))
 unfolding count_trailing_zeros
-zeros-step k a b =
+zeros_step k a b =
     let d = two (a % 2) (omega arith) (b % 2) (omega arith) in
     let s = xor_step a b in
     let m : bit_xor a b % 2 ≡ differ (a % 2) (b % 2) = omega (arith, d, s) in
     let h : bit_xor a b / 2 ≡ bit_xor (a / 2) (b / 2) = omega (arith, d, s) in
     rw (m, h)
 
-under-most : (r t : ℕ) → under r t ≤ 1 + t
-under-most zero t = omega arith
-under-most (suc r) t = omega arith
+under_most : (r t : ℕ) → under r t ≤ 1 + t
+under_most zero t = omega arith
+under_most (suc r) t = omega arith
 
 unlike : (x y t : ℕ) → x < 2 → y < 2 → (x ≡ y → ⊥) → under (differ x y) t ≡ 0
 unlike zero zero t h k e = absurd (e refl)
@@ -51,52 +51,52 @@ unlike (suc (suc x)) (suc y) t h k e = absurd (omega (arith, h))
 
 -- ---- each bit adds at most one
 
-most-1 : (k a b : ℕ) → zeros (suc k) a b ≤ 1 + zeros k (a / 2) (b / 2)
-most-1 k a b = rw (zeros-step k a b) (under-most (differ (a % 2) (b % 2)) (zeros k (a / 2) (b / 2)))
+most_1 : (k a b : ℕ) → zeros (suc k) a b ≤ 1 + zeros k (a / 2) (b / 2)
+most_1 k a b = rw (zeros_step k a b) (under_most (differ (a % 2) (b % 2)) (zeros k (a / 2) (b / 2)))
 
-most-2 : (k a b : ℕ) → zeros (suc (suc k)) a b ≤ 2 + zeros k (a / 4) (b / 4)
-most-2 k a b =
+most_2 : (k a b : ℕ) → zeros (suc (suc k)) a b ≤ 2 + zeros k (a / 4) (b / 4)
+most_2 k a b =
     let x : a / 2 / 2 ≡ a / 4 = omega arith in
     let y : b / 2 / 2 ≡ b / 4 = omega arith in
-    let p = rw (x, y) at (most-1 k (a / 2) (b / 2)) in
-    omega (arith, most-1 (suc k) a b, p)
+    let p = rw (x, y) at (most_1 k (a / 2) (b / 2)) in
+    omega (arith, most_1 (suc k) a b, p)
 
-most-4 : (k a b : ℕ) → zeros (suc (suc (suc (suc k)))) a b ≤ 4 + zeros k (a / 16) (b / 16)
-most-4 k a b =
+most_4 : (k a b : ℕ) → zeros (suc (suc (suc (suc k)))) a b ≤ 4 + zeros k (a / 16) (b / 16)
+most_4 k a b =
     let x : a / 4 / 4 ≡ a / 16 = omega arith in
     let y : b / 4 / 4 ≡ b / 16 = omega arith in
-    let p = rw (x, y) at (most-2 k (a / 4) (b / 4)) in
-    omega (arith, most-2 (suc (suc k)) a b, p)
+    let p = rw (x, y) at (most_2 k (a / 4) (b / 4)) in
+    omega (arith, most_2 (suc (suc k)) a b, p)
 
-most-8 : (k a b : ℕ) → zeros (suc (suc (suc (suc (suc (suc (suc (suc k)))))))) a b ≤ 8 + zeros k (a / 256) (b / 256)
-most-8 k a b =
+most_8 : (k a b : ℕ) → zeros (suc (suc (suc (suc (suc (suc (suc (suc k)))))))) a b ≤ 8 + zeros k (a / 256) (b / 256)
+most_8 k a b =
     let x : a / 16 / 16 ≡ a / 256 = omega arith in
     let y : b / 16 / 16 ≡ b / 256 = omega arith in
-    let p = rw (x, y) at (most-4 k (a / 16) (b / 16)) in
-    omega (arith, most-4 (suc (suc (suc (suc k)))) a b, p)
+    let p = rw (x, y) at (most_4 k (a / 16) (b / 16)) in
+    omega (arith, most_4 (suc (suc (suc (suc k)))) a b, p)
 
 -- ---- a bit that differs ends them
 
-ends-1 : (k a b : ℕ) → (a % 2 ≡ b % 2 → ⊥) → zeros (suc k) a b < 1
-ends-1 k a b h = let z = zeros-step k a b ∙ unlike (a % 2) (b % 2) (zeros k (a / 2) (b / 2)) (omega arith) (omega arith) h in omega (arith, z)
+ends_1 : (k a b : ℕ) → (a % 2 ≡ b % 2 → ⊥) → zeros (suc k) a b < 1
+ends_1 k a b h = let z = zeros_step k a b ∙ unlike (a % 2) (b % 2) (zeros k (a / 2) (b / 2)) (omega arith) (omega arith) h in omega (arith, z)
 
-ends-2 : (k a b : ℕ) → (a % 4 ≡ b % 4 → ⊥) → zeros (suc (suc k)) a b < 2
-ends-2 k a b h =
-    eq-case (a % 2) (b % 2)
-    (λ e. omega (arith, most-1 (suc k) a b, ends-1 k (a / 2) (b / 2) (λ f. h (omega (arith, e, f)))))
-    λ e. omega (arith, ends-1 (suc k) a b e)
+ends_2 : (k a b : ℕ) → (a % 4 ≡ b % 4 → ⊥) → zeros (suc (suc k)) a b < 2
+ends_2 k a b h =
+    eq_case (a % 2) (b % 2)
+    (λ e. omega (arith, most_1 (suc k) a b, ends_1 k (a / 2) (b / 2) (λ f. h (omega (arith, e, f)))))
+    λ e. omega (arith, ends_1 (suc k) a b e)
 
-ends-4 : (k a b : ℕ) → (a % 16 ≡ b % 16 → ⊥) → zeros (suc (suc (suc (suc k)))) a b < 4
-ends-4 k a b h =
-    eq-case (a % 4) (b % 4)
-    (λ e. omega (arith, most-2 (suc (suc k)) a b, ends-2 k (a / 4) (b / 4) (λ f. h (omega (arith, e, f)))))
-    λ e. omega (arith, ends-2 (suc (suc k)) a b e)
+ends_4 : (k a b : ℕ) → (a % 16 ≡ b % 16 → ⊥) → zeros (suc (suc (suc (suc k)))) a b < 4
+ends_4 k a b h =
+    eq_case (a % 4) (b % 4)
+    (λ e. omega (arith, most_2 (suc (suc k)) a b, ends_2 k (a / 4) (b / 4) (λ f. h (omega (arith, e, f)))))
+    λ e. omega (arith, ends_2 (suc (suc k)) a b e)
 
-ends-8 : (k a b : ℕ) → (a % 256 ≡ b % 256 → ⊥) → zeros (suc (suc (suc (suc (suc (suc (suc (suc k)))))))) a b < 8
-ends-8 k a b h =
-    eq-case (a % 16) (b % 16)
-    (λ e. omega (arith, most-4 (suc (suc (suc (suc k)))) a b, ends-4 k (a / 16) (b / 16) (λ f. h (omega (arith, e, f)))))
-    λ e. omega (arith, ends-4 (suc (suc (suc (suc k)))) a b e)
+ends_8 : (k a b : ℕ) → (a % 256 ≡ b % 256 → ⊥) → zeros (suc (suc (suc (suc (suc (suc (suc (suc k)))))))) a b < 8
+ends_8 k a b h =
+    eq_case (a % 16) (b % 16)
+    (λ e. omega (arith, most_4 (suc (suc (suc (suc k)))) a b, ends_4 k (a / 16) (b / 16) (λ f. h (omega (arith, e, f)))))
+    λ e. omega (arith, ends_4 (suc (suc (suc (suc k)))) a b e)
 
 -- ---- bytes
 
@@ -104,44 +104,44 @@ byte : (k a b q r : ℕ) (l m : List ℕ) → a / 256 ≡ q → b / 256 ≡ r �
     → zeros (suc (suc (suc (suc (suc (suc (suc (suc k)))))))) a b / 8 ≤ common (a % 256 ∷ l) (b % 256 ∷ m)
 unfolding common pick
 byte k a b q r l m x y h =
-    eq-case (a % 256) (b % 256)
-    (λ e. let p = rw (x, y) at (most-8 k a b) in rw (eq-eqb (a % 256) (b % 256) e) (omega (arith, p, h)))
-    λ e. rw (ne_eqb (a % 256) (b % 256) e) (omega (arith, ends-8 k a b e))
+    eq_case (a % 256) (b % 256)
+    (λ e. let p = rw (x, y) at (most_8 k a b) in rw (eq-eqb (a % 256) (b % 256) e) (omega (arith, p, h)))
+    λ e. rw (ne_eqb (a % 256) (b % 256) e) (omega (arith, ends_8 k a b e))
 
 none : (q r : ℕ) → zeros 0 q r / 8 ≤ common [] []
 unfolding count_trailing_zeros common
 none q r = omega arith
 
-abbrev rest-7 : ℕ → List ℕ
-rest-7 a = a / 72057594037927936 % 256 ∷ []
+abbrev rest_7 : ℕ → List ℕ
+rest_7 a = a / 72057594037927936 % 256 ∷ []
 
-abbrev rest-6 : ℕ → List ℕ
-rest-6 a = a / 281474976710656 % 256 ∷ rest-7 a
+abbrev rest_6 : ℕ → List ℕ
+rest_6 a = a / 281474976710656 % 256 ∷ rest_7 a
 
-abbrev rest-5 : ℕ → List ℕ
-rest-5 a = a / 1099511627776 % 256 ∷ rest-6 a
+abbrev rest_5 : ℕ → List ℕ
+rest_5 a = a / 1099511627776 % 256 ∷ rest_6 a
 
-abbrev rest-4 : ℕ → List ℕ
-rest-4 a = a / 4294967296 % 256 ∷ rest-5 a
+abbrev rest_4 : ℕ → List ℕ
+rest_4 a = a / 4294967296 % 256 ∷ rest_5 a
 
-abbrev rest-3 : ℕ → List ℕ
-rest-3 a = a / 16777216 % 256 ∷ rest-4 a
+abbrev rest_3 : ℕ → List ℕ
+rest_3 a = a / 16777216 % 256 ∷ rest_4 a
 
-abbrev rest-2 : ℕ → List ℕ
-rest-2 a = a / 65536 % 256 ∷ rest-3 a
+abbrev rest_2 : ℕ → List ℕ
+rest_2 a = a / 65536 % 256 ∷ rest_3 a
 
-abbrev rest-1 : ℕ → List ℕ
-rest-1 a = a / 256 % 256 ∷ rest-2 a
+abbrev rest_1 : ℕ → List ℕ
+rest_1 a = a / 256 % 256 ∷ rest_2 a
 
-pub eight-tell : (a b : ℕ) → count_trailing_zeros 64 (bit_xor a b) / 8 ≤ common (toLe64 a) (toLe64 b)
-unfolding toLe64
-eight-tell a b =
-    byte 56 a b (a / 256) (b / 256) (rest-1 a) (rest-1 b) refl refl
-    (byte 48 (a / 256) (b / 256) (a / 65536) (b / 65536) (rest-2 a) (rest-2 b) (omega arith) (omega arith)
-    (byte 40 (a / 65536) (b / 65536) (a / 16777216) (b / 16777216) (rest-3 a) (rest-3 b) (omega arith) (omega arith)
-    (byte 32 (a / 16777216) (b / 16777216) (a / 4294967296) (b / 4294967296) (rest-4 a) (rest-4 b) (omega arith) (omega arith)
-    (byte 24 (a / 4294967296) (b / 4294967296) (a / 1099511627776) (b / 1099511627776) (rest-5 a) (rest-5 b) (omega arith) (omega arith)
-    (byte 16 (a / 1099511627776) (b / 1099511627776) (a / 281474976710656) (b / 281474976710656) (rest-6 a) (rest-6 b) (omega arith) (omega arith)
-    (byte 8 (a / 281474976710656) (b / 281474976710656) (a / 72057594037927936) (b / 72057594037927936) (rest-7 a) (rest-7 b) (omega arith) (omega arith)
+pub eight_tell : (a b : ℕ) → count_trailing_zeros 64 (bit_xor a b) / 8 ≤ common (to_le64 a) (to_le64 b)
+unfolding to_le64
+eight_tell a b =
+    byte 56 a b (a / 256) (b / 256) (rest_1 a) (rest_1 b) refl refl
+    (byte 48 (a / 256) (b / 256) (a / 65536) (b / 65536) (rest_2 a) (rest_2 b) (omega arith) (omega arith)
+    (byte 40 (a / 65536) (b / 65536) (a / 16777216) (b / 16777216) (rest_3 a) (rest_3 b) (omega arith) (omega arith)
+    (byte 32 (a / 16777216) (b / 16777216) (a / 4294967296) (b / 4294967296) (rest_4 a) (rest_4 b) (omega arith) (omega arith)
+    (byte 24 (a / 4294967296) (b / 4294967296) (a / 1099511627776) (b / 1099511627776) (rest_5 a) (rest_5 b) (omega arith) (omega arith)
+    (byte 16 (a / 1099511627776) (b / 1099511627776) (a / 281474976710656) (b / 281474976710656) (rest_6 a) (rest_6 b) (omega arith) (omega arith)
+    (byte 8 (a / 281474976710656) (b / 281474976710656) (a / 72057594037927936) (b / 72057594037927936) (rest_7 a) (rest_7 b) (omega arith) (omega arith)
     (byte 0 (a / 72057594037927936) (b / 72057594037927936) (a / 72057594037927936 / 256) (b / 72057594037927936 / 256) [] [] refl refl
     (none (a / 72057594037927936 / 256) (b / 72057594037927936 / 256)))))))))

@@ -7,5 +7,5 @@ unfoldable pub laid : List ℕ → ℕ → List ℕ → List ℕ
 laid d k s = take k d ++ (s ++ drop (k + length s) d)
 
 -- the same where s fits
-unfoldable pub laidIf : List ℕ → ℕ → List ℕ → List ℕ
-laidIf d k s = pick (ltb (length d) (k + length s)) d (laid d k s)
+unfoldable pub laid_if : List ℕ → ℕ → List ℕ → List ℕ
+laid_if d k s = pick (ltb (length d) (k + length s)) d (laid d k s)

@@ -1,7 +1,7 @@
 // Slices of bytes: copied, compared and searched.
 ghost use Rattle.std.specs.Prelude.{◌≡◌, ◌≤◌, ◌<◌, min, length, take};
 ghost use Rattle.format.specs.Bytes.{same, over};
-ghost use Rattle.format.specs.Header.{lineEnd};
+ghost use Rattle.format.specs.Header.{line_end};
 ghost use Rattle.format.specs.Codes.{common};
 ghost use Rattle.wire.specs.Begun.{Begun};
 
@@ -202,7 +202,7 @@ pub fn common_start(l: &[u8], m: &[u8]) -> usize
 
 // How many bytes stand before the first linefeed of s; all of them where it has none.
 pub fn line_end(s: &[u8]) -> usize
-    ensures { result ≡ lineEnd s.now }
+    ensures { result ≡ line_end s.now }
 {
     let mut i = 0;
     while i < s.len() {

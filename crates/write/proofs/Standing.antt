@@ -7,34 +7,34 @@ use mathlib.Core.List.{List}
 use native.Mathlib.Omega.{arith}
 use lib.ListN.{length, take, drop}
 use Rattle.format.specs.State.{State, start, Record}
-use Rattle.format.specs.Sheet.{recordsFrom, recordsOf}
+use Rattle.format.specs.Sheet.{records_from, records_of}
 use Rattle.format.specs.Refusals.{Result, stop, also, refused}
 use Rattle.format.specs.declared.Verdict.{Verdict}
 use Rattle.format.specs.declared.Verdict.TheVariants.{Good, Refusal}
-use Rattle.format.specs.Writing.{Writer, headedBy}
-use Rattle.format.specs.Header.{fileLimit}
-use Rattle.format.specs.Fields.{recordOf}
+use Rattle.format.specs.Writing.{Writer, headed_by}
+use Rattle.format.specs.Header.{file_limit}
+use Rattle.format.specs.Fields.{record_of}
 use Rattle.format.specs.declared.Fields.{Fields}
 use Rattle.sheet.specs.Seen.{EntryTold}
 use Rattle.sheet.specs.declared.Entry.TheVariants.{Flawed, Whole}
-use Rattle.sheet.proofs.EntryAt.{part, none-at, flawed-at, found_at, found-size}
-use Rattle.counts.specs.Tallies.{bounded, Adds, restOutcome}
+use Rattle.sheet.proofs.EntryAt.{part, none_at, flawed_at, found_at, found_size}
+use Rattle.counts.specs.Tallies.{bounded, Adds, rest_outcome}
 use Rattle.counts.specs.declared.Tally.{Tally}
-use Rattle.counts.proofs.Left.{Left, left-none, left-more, left-flawed, adds-few}
+use Rattle.counts.proofs.Left.{Left, left_none, left_more, left_flawed, adds_few}
 
 -- ---- a header that cannot be written
 
-pub headed-also : (barred : Bool) (k : ℕ) (r : Record) (x : Result) → headedBy barred k (also r x) ≡ also r (headedBy barred k x)
-headed-also true k r x = refl
-headed-also false k r x = refl
+pub headed_also : (barred : Bool) (k : ℕ) (r : Record) (x : Result) → headed_by barred k (also r x) ≡ also r (headed_by barred k x)
+headed_also true k r x = refl
+headed_also false k r x = refl
 
-pub headed-stop : (barred : Bool) (k m p : ℕ) → headedBy barred k (stop (Refusal m p)) ≡ stop (Refusal m p)
-headed-stop true k m p = refl
-headed-stop false k m p = refl
+pub headed_stop : (barred : Bool) (k m p : ℕ) → headed_by barred k (stop (Refusal m p)) ≡ stop (Refusal m p)
+headed_stop true k m p = refl
+headed_stop false k m p = refl
 
-pub headed-records : (barred : Bool) (k : ℕ) (x : Result) → (headedBy barred k x).records ≡ x.records
-headed-records true k x = refl
-headed-records false k x = refl
+pub headed_records : (barred : Bool) (k : ℕ) (x : Result) → (headed_by barred k x).records ≡ x.records
+headed_records true k x = refl
+headed_records false k x = refl
 
 -- ---- where in the sheet the loop stands
 
@@ -46,65 +46,65 @@ pub record Standing (w : Writer) (barred : Bool) (version : ℕ) (sheet : List �
     (st : State) : Type 0 where
   pub place : ℕ
   pub inside : at ≤ length sheet
-  pub few-records : number ≤ at
-  pub few : total ≤ fileLimit + w.longest
+  pub few_records : number ≤ at
+  pub few : total ≤ file_limit + w.longest
   pub kept : length d ≡ length d₀
-  pub left : Left w (headedBy barred w.number (recordsOf version (drop begin sheet))) head d₀ d (counted total number fault) st
-      (headedBy barred w.number (recordsFrom version place (drop at sheet) number))
+  pub left : Left w (headed_by barred w.number (records_of version (drop begin sheet))) head d₀ d (counted total number fault) st
+      (headed_by barred w.number (records_from version place (drop at sheet) number))
 
-pub standing-none : (w : Writer) (barred : Bool) (version : ℕ) (sheet : List ℕ) (begin head : ℕ) (d : List ℕ) → begin ≤ length sheet → head ≤ 8192
+pub standing_none : (w : Writer) (barred : Bool) (version : ℕ) (sheet : List ℕ) (begin head : ℕ) (d : List ℕ) → begin ≤ length sheet → head ≤ 8192
     → Standing w barred version sheet begin head d d begin head 0 Good start
-unfolding recordsOf
-standing-none w barred version sheet begin head d hb hh =
+unfolding records_of
+standing_none w barred version sheet begin head d hb hh =
     record {
       place = 0;
       inside = hb;
-      few-records = omega arith;
+      few_records = omega arith;
       few = omega arith;
       kept = refl;
-      left = left-none w (headedBy barred w.number (recordsOf version (drop begin sheet))) head d (omega arith);
+      left = left_none w (headed_by barred w.number (records_of version (drop begin sheet))) head d (omega arith);
     }
 
 module _ (w : Writer) (barred : Bool) (version : ℕ) (sheet : List ℕ) (begin head : ℕ) (d₀ d : List ℕ) (at total number : ℕ) (fault : Verdict) (st : State)
     (S : Standing w barred version sheet begin head d₀ d at total number fault st) where
   abbrev x₀ : Result
-  x₀ = headedBy barred w.number (recordsOf version (drop begin sheet))
+  x₀ = headed_by barred w.number (records_of version (drop begin sheet))
 
   abbrev t : Tally
   t = counted total number fault
 
   -- no record is left
-  pub standing-end : length sheet ≤ at → Left w x₀ head d₀ d t st (headedBy barred w.number (stop Good))
-  standing-end h = rw (none-at version sheet at S.place number h) at S.left
+  pub standing_end : length sheet ≤ at → Left w x₀ head d₀ d t st (headed_by barred w.number (stop Good))
+  standing_end h = rw (none_at version sheet at S.place number h) at S.left
 
   module _ (h : at < length sheet) where
     -- no well-formed record is there
-    pub standing-flawed : EntryTold Flawed version (take (length sheet - at) (drop at sheet)) → refused 12 number ≡ restOutcome w head x₀
-    standing-flawed T =
-        let e : headedBy barred w.number (recordsFrom version S.place (drop at sheet) number) ≡ stop (Refusal 12 number)
-        = rw (flawed-at version sheet at h T S.place number) (headed-stop barred w.number 12 number) in
-        left-flawed w x₀ head d₀ d t st number (rw e at S.left)
+    pub standing_flawed : EntryTold Flawed version (take (length sheet - at) (drop at sheet)) → refused 12 number ≡ rest_outcome w head x₀
+    standing_flawed T =
+        let e : headed_by barred w.number (records_from version S.place (drop at sheet) number) ≡ stop (Refusal 12 number)
+        = rw (flawed_at version sheet at h T S.place number) (headed_stop barred w.number 12 number) in
+        left_flawed w x₀ head d₀ d t st number (rw e at S.left)
 
     -- one is, and its codes are added
     module _ (n : ℕ) (f : Fields) (k : ℕ) (T : EntryTold (Whole n f k) version (take (length sheet - at) (drop at sheet))) (d' : List ℕ) (size : ℕ) (fault' : Verdict)
-        (A : Adds w st (recordOf f (part sheet (at + k) (at + n))) d d' t (counted (bounded total size) (number + 1) fault')) where
+        (A : Adds w st (record_of f (part sheet (at + k) (at + n))) d d' t (counted (bounded total size) (number + 1) fault')) where
       abbrev r : Record
-      r = recordOf f (part sheet (at + k) (at + n))
+      r = record_of f (part sheet (at + k) (at + n))
 
       abbrev t' : Tally
       t' = counted (bounded total size) (number + 1) fault'
 
-      pub standing-more : Standing w barred version sheet begin head d₀ d' (at + n) (bounded total size) (number + 1) fault' (w.after st r)
-      standing-more =
-          let z = found-size version sheet at h n f k T in
-          let more = headedBy barred w.number (recordsFrom version (S.place + n) (drop (at + n) sheet) (number + 1)) in
-          let e : headedBy barred w.number (recordsFrom version S.place (drop at sheet) number) ≡ also r more
-          = rw (found_at version sheet at h n f k T S.place number) (headed-also barred w.number r _) in
+      pub standing_more : Standing w barred version sheet begin head d₀ d' (at + n) (bounded total size) (number + 1) fault' (w.after st r)
+      standing_more =
+          let z = found_size version sheet at h n f k T in
+          let more = headed_by barred w.number (records_from version (S.place + n) (drop (at + n) sheet) (number + 1)) in
+          let e : headed_by barred w.number (records_from version S.place (drop at sheet) number) ≡ also r more
+          = rw (found_at version sheet at h n f k T S.place number) (headed_also barred w.number r _) in
           record {
             place = S.place + n;
             inside = z.1;
-            few-records = omega (arith, S.few-records, z.0);
-            few = adds-few w st r d d' t t' A S.few;
+            few_records = omega (arith, S.few_records, z.0);
+            few = adds_few w st r d d' t t' A S.few;
             kept = A.kept ∙ S.kept;
-            left = left-more w x₀ head d₀ d d' t t' st r more (rw e at S.left) S.kept A;
+            left = left_more w x₀ head d₀ d d' t t' st r more (rw e at S.left) S.kept A;
           }

@@ -1,43 +1,43 @@
 -- A turn of the loop over a sheet's records, on plain values. What the loop keeps (`Going`) is what a loop of any writer keeps (`Standing`), with
 -- the state in a hand and a position: it holds at first, at the end it gives the answer, a record that is not well-formed gives refusal 12, and it
--- goes on over a record that is read the general way (`going-told`) and over one that goes on from the last (`going-plain`). Assumes nothing.
+-- goes on over a record that is read the general way (`going_told`) and over one that goes on from the last (`going_plain`). Assumes nothing.
 use Prim.Native.Nat.{ℕ, ◌+◌, ◌-◌, ◌≤◌, ◌<◌}
 use mathlib.Core.Path.{◌≡◌, refl, sym, ap, ◌∙◌}
 use mathlib.Core.Bool.{false}
 use mathlib.Core.List.{List, [], ◌++◌}
 use native.Mathlib.Omega.{arith}
 use lib.ListN.{length, take, drop, length-append, length-take, length-drop}
-use Rattle.format.specs.State.{State, startSetting, Record}
-use Rattle.format.specs.Sheet.{recordsFrom, recordsOf}
+use Rattle.format.specs.State.{State, start_setting, Record}
+use Rattle.format.specs.Sheet.{records_from, records_of}
 use Rattle.format.specs.Refusals.{or_else, Result, stop, refused}
 use Rattle.format.specs.declared.Verdict.TheVariants.{Good, Refusal}
-use Rattle.format.specs.Codes.{codesLimit, codes, after, settingAfter, unsayable}
+use Rattle.format.specs.Codes.{codes_limit, codes, after, setting_after, unsayable}
 use Rattle.format.specs.Writing.{v8}
-use Rattle.format.specs.Header.{fileLimit}
+use Rattle.format.specs.Header.{file_limit}
 use Rattle.format.specs.Bytes.{pick, over}
-use Rattle.format.specs.Fields.{recordOf}
+use Rattle.format.specs.Fields.{record_of}
 use Rattle.format.specs.declared.Position.{Position}
 use Rattle.format.specs.declared.Position.TheVariants.{Unset}
 use Rattle.format.specs.declared.Setting.{Setting}
 use Rattle.format.specs.declared.Fields.{Fields}
 use Rattle.format.specs.declared.Fields.TheVariants.{Leg, Station, Section, Error}
 use Rattle.format.specs.declared.Verdict.{Verdict}
-use Rattle.format.proofs.Basics.{pick-false}
-use Rattle.plain.specs.Plainly.{label_at, positionAfter, Goes, Plainly, plainCodes}
+use Rattle.format.proofs.Basics.{pick_false}
+use Rattle.plain.specs.Plainly.{label_at, position_after, Goes, Plainly, plain_codes}
 use Rattle.plain.specs.declared.Item.{Item}
-use Rattle.plain.proofs.Finds.{plain-item}
-use Rattle.plain.proofs.InSheet.{last-long, name-is}
+use Rattle.plain.proofs.Finds.{plain_item}
+use Rattle.plain.proofs.InSheet.{last_long, name_is}
 use Rattle.sheet.specs.Seen.{EntryTold}
 use Rattle.sheet.specs.declared.Entry.TheVariants.{Flawed, Whole}
-use Rattle.sheet.proofs.EntryAt.{part, found-formed}
+use Rattle.sheet.proofs.EntryAt.{part, found_formed}
 use Rattle.part.specs.Lays.{Puts}
-use Rattle.counts.specs.Tallies.{bounded, Adds, restOutcome}
+use Rattle.counts.specs.Tallies.{bounded, Adds, rest_outcome}
 use Rattle.counts.specs.declared.Tally.{Tally}
-use Rattle.counts.proofs.Left.{Left, left-none, adds-next}
+use Rattle.counts.proofs.Left.{Left, left_none, adds-next}
 use Rattle.format.specs.WellFormed.{WellFormed}
-use Rattle.write.specs.Passing.{handOf, settingIn, handAfter, stateIn, Named}
+use Rattle.write.specs.Passing.{hand_of, setting_in, hand_after, state_in, Named}
 use Rattle.write.specs.declared.Hand.{Hand}
-use Rattle.write.proofs.Standing.{counted, Standing, standing-end, standing-flawed, standing-more}
+use Rattle.write.proofs.Standing.{counted, Standing, standing_end, standing_flawed, standing_more}
 
 -- ---- where in the sheet the loop stands
 
@@ -45,130 +45,130 @@ pub record Going (version : ℕ) (sheet : List ℕ) (begin head : ℕ) (d₀ d :
     (position : Position) : Type 0 where
   pub place : ℕ
   pub inside : at ≤ length sheet
-  pub few-records : number ≤ at
-  pub few : total ≤ fileLimit + codesLimit
+  pub few_records : number ≤ at
+  pub few : total ≤ file_limit + codes_limit
   pub kept : length d ≡ length d₀
   pub named : Named sheet hand
-  pub left : Left v8 (recordsOf version (drop begin sheet)) head d₀ d (counted total number fault) (stateIn sheet hand (settingIn hand position))
-      (recordsFrom version place (drop at sheet) number)
+  pub left : Left v8 (records_of version (drop begin sheet)) head d₀ d (counted total number fault) (state_in sheet hand (setting_in hand position))
+      (records_from version place (drop at sheet) number)
 
 -- the label in the sheet is short enough to go on with
-pub named-short : (sheet : List ℕ) (hand : Hand) → Named sheet hand → length (part sheet hand.from hand.to) ≤ 4096
-named-short sheet hand n = simp (length-take, length-drop) (omega (arith, n.short))
+pub named_short : (sheet : List ℕ) (hand : Hand) → Named sheet hand → length (part sheet hand.from hand.to) ≤ 4096
+named_short sheet hand n = simp (length-take, length-drop) (omega (arith, n.short))
 
-pub going-none : (version : ℕ) (sheet : List ℕ) (begin head : ℕ) (d : List ℕ) → begin ≤ length sheet → head ≤ 8192
-    → Going version sheet begin head d d begin head 0 Good (handOf startSetting 0 0) Unset
-unfolding recordsOf
-going-none version sheet begin head d hb hh =
+pub going_none : (version : ℕ) (sheet : List ℕ) (begin head : ℕ) (d : List ℕ) → begin ≤ length sheet → head ≤ 8192
+    → Going version sheet begin head d d begin head 0 Good (hand_of start_setting 0 0) Unset
+unfolding records_of
+going_none version sheet begin head d hb hh =
     record {
       place = 0;
       inside = hb;
-      few-records = omega arith;
+      few_records = omega arith;
       few = omega arith;
       kept = refl;
-      named = record { ordered = omega arith; inside = omega arith; short = omega arith; style-fits = omega arith; date-fits = tt; marked = refl };
-      left = left-none v8 (recordsOf version (drop begin sheet)) head d (omega arith);
+      named = record { ordered = omega arith; inside = omega arith; short = omega arith; style_fits = omega arith; date_fits = tt; marked = refl };
+      left = left_none v8 (records_of version (drop begin sheet)) head d (omega arith);
     }
 
 -- what a record leaves
-state-after : (sheet : List ℕ) (hand : Hand) (position : Position) (f : Fields) (a b : ℕ) → let x = settingAfter (settingIn hand position) (recordOf f []) in
-    after (stateIn sheet hand (settingIn hand position)) (recordOf f (part sheet a b)) ≡ stateIn sheet (handAfter hand x f a b)
-    (settingIn (handAfter hand x f a b) x.position)
-state-after sheet hand position (Leg flags style date from to) a b = refl
-state-after sheet hand position (Station s) a b = refl
-state-after sheet hand position (Section last unused date size) a b = refl
-state-after sheet hand position (Error traverse) a b = refl
+state_after : (sheet : List ℕ) (hand : Hand) (position : Position) (f : Fields) (a b : ℕ) → let x = setting_after (setting_in hand position) (record_of f []) in
+    after (state_in sheet hand (setting_in hand position)) (record_of f (part sheet a b)) ≡ state_in sheet (hand_after hand x f a b)
+    (setting_in (hand_after hand x f a b) x.position)
+state_after sheet hand position (Leg flags style date from to) a b = refl
+state_after sheet hand position (Station s) a b = refl
+state_after sheet hand position (Section last unused date size) a b = refl
+state_after sheet hand position (Error traverse) a b = refl
 
-named-after : (sheet : List ℕ) (hand : Hand) (position : Position) (f : Fields) (a b : ℕ) → Named sheet hand → a ≤ b → b ≤ length sheet → b ≤ a + 4096
-    → WellFormed (recordOf f (part sheet a b)) → Named sheet (handAfter hand (settingAfter (settingIn hand position) (recordOf f [])) f a b)
-named-after sheet hand position (Leg flags style date from to) a b n h i j w =
-    record { ordered = h; inside = i; short = j; style-fits = w.style-fits; date-fits = w.date-fits; marked = refl }
-named-after sheet hand position (Station s) a b n h i j w =
-    record { ordered = h; inside = i; short = j; style-fits = n.style-fits; date-fits = n.date-fits; marked = refl }
-named-after sheet hand position (Section last unused date size) a b n h i j w =
-    record { ordered = h; inside = i; short = j; style-fits = n.style-fits; date-fits = w.date-fits; marked = refl }
-named-after sheet hand position (Error traverse) a b n h i j w = n
+named_after : (sheet : List ℕ) (hand : Hand) (position : Position) (f : Fields) (a b : ℕ) → Named sheet hand → a ≤ b → b ≤ length sheet → b ≤ a + 4096
+    → WellFormed (record_of f (part sheet a b)) → Named sheet (hand_after hand (setting_after (setting_in hand position) (record_of f [])) f a b)
+named_after sheet hand position (Leg flags style date from to) a b n h i j w =
+    record { ordered = h; inside = i; short = j; style_fits = w.style_fits; date_fits = w.date_fits; marked = refl }
+named_after sheet hand position (Station s) a b n h i j w =
+    record { ordered = h; inside = i; short = j; style_fits = n.style_fits; date_fits = n.date_fits; marked = refl }
+named_after sheet hand position (Section last unused date size) a b n h i j w =
+    record { ordered = h; inside = i; short = j; style_fits = n.style_fits; date_fits = w.date_fits; marked = refl }
+named_after sheet hand position (Error traverse) a b n h i j w = n
 
 -- a part that was lent comes back as long as it was
 pub rejoined : (d y : List ℕ) (from : ℕ) → from ≤ length d → length y ≡ length (take (length d - from) (drop from d))
     → length (take from d ++ (y ++ drop (length d - from) (drop from d))) ≡ length d
 rejoined d y from h k = let l = simp (length-take, length-drop) at k in simp (length-append, length-take, length-drop) (omega (arith, l))
 
-or-good : (v : Verdict) → v ≡ or_else v Good
-or-good Good = refl
-or-good (Refusal n p) = refl
+or_good : (v : Verdict) → v ≡ or_else v Good
+or_good Good = refl
+or_good (Refusal n p) = refl
 
 module _ (version : ℕ) (sheet : List ℕ) (begin head : ℕ) (d₀ d : List ℕ) (at total number : ℕ) (fault : Verdict) (hand : Hand) (position : Position)
     (G : Going version sheet begin head d₀ d at total number fault hand position) where
   abbrev x₀ : Result
-  x₀ = recordsOf version (drop begin sheet)
+  x₀ = records_of version (drop begin sheet)
 
   abbrev st : State
-  st = stateIn sheet hand (settingIn hand position)
+  st = state_in sheet hand (setting_in hand position)
 
   abbrev t : Tally
   t = counted total number fault
 
   standing : Standing v8 false version sheet begin head d₀ d at total number fault st
-  standing = record { place = G.place; inside = G.inside; few-records = G.few-records; few = G.few; kept = G.kept; left = G.left }
+  standing = record { place = G.place; inside = G.inside; few_records = G.few_records; few = G.few; kept = G.kept; left = G.left }
 
   -- no record is left
   pub going_end : length sheet ≤ at → Left v8 x₀ head d₀ d t st (stop Good)
-  going_end h = standing-end v8 false version sheet begin head d₀ d at total number fault st standing h
+  going_end h = standing_end v8 false version sheet begin head d₀ d at total number fault st standing h
 
   module _ (h : at < length sheet) where
     -- no well-formed record is there
-    pub going-flawed : EntryTold Flawed version (take (length sheet - at) (drop at sheet)) → refused 12 number ≡ restOutcome v8 head x₀
-    going-flawed T = standing-flawed v8 false version sheet begin head d₀ d at total number fault st standing h T
+    pub going_flawed : EntryTold Flawed version (take (length sheet - at) (drop at sheet)) → refused 12 number ≡ rest_outcome v8 head x₀
+    going_flawed T = standing_flawed v8 false version sheet begin head d₀ d at total number fault st standing h T
 
     -- the codes of the one that is are written into the part of d from `from` on
     module _ (n : ℕ) (f : Fields) (k : ℕ) (T : EntryTold (Whole n f k) version (take (length sheet - at) (drop at sheet))) (from : ℕ) (y : List ℕ)
         (size : ℕ) (fault' : Verdict)
         (inside : from ≤ length d) (q : total ≤ length d → from ≡ total)
-        (P : Puts (take (length d - from) (drop from d)) y (codes st (recordOf f (part sheet (at + k) (at + n)))) codesLimit size)
-        (e : fault' ≡ or_else fault (pick (unsayable hand.style (recordOf f [])) (Refusal 13 number) Good)) where
+        (P : Puts (take (length d - from) (drop from d)) y (codes st (record_of f (part sheet (at + k) (at + n)))) codes_limit size)
+        (e : fault' ≡ or_else fault (pick (unsayable hand.style (record_of f [])) (Refusal 13 number) Good)) where
       abbrev d' : List ℕ
       d' = take from d ++ (y ++ drop (length d - from) (drop from d))
 
       abbrev r : Record
-      r = recordOf f (part sheet (at + k) (at + n))
+      r = record_of f (part sheet (at + k) (at + n))
 
       abbrev t' : Tally
       t' = counted (bounded total size) (number + 1) fault'
 
       adds : Adds v8 st r d d' t t'
-      adds = adds-next d t (settingIn hand position) (part sheet hand.from hand.to) (part sheet (at + k) (at + n)) f from y size
+      adds = adds-next d t (setting_in hand position) (part sheet hand.from hand.to) (part sheet (at + k) (at + n)) f from y size
           (bounded total size) fault' inside q P refl e
 
       abbrev x : Setting
-      x = settingAfter (settingIn hand position) (recordOf f [])
+      x = setting_after (setting_in hand position) (record_of f [])
 
-      going_more : Going version sheet begin head d₀ d' (at + n) (bounded total size) (number + 1) fault' (handAfter hand x f (at + k) (at + n))
+      going_more : Going version sheet begin head d₀ d' (at + n) (bounded total size) (number + 1) fault' (hand_after hand x f (at + k) (at + n))
           x.position
       going_more =
           let i = T.inside in
-          let S = standing-more v8 false version sheet begin head d₀ d at total number fault st standing h n f k T d' size fault' adds in
+          let S = standing_more v8 false version sheet begin head d₀ d at total number fault st standing h n f k T d' size fault' adds in
           record {
             place = S.place;
             inside = S.inside;
-            few-records = S.few-records;
+            few_records = S.few_records;
             few = S.few;
             kept = S.kept;
-            named = named-after sheet hand position f (at + k) (at + n) G.named (omega (arith, i.from-within)) S.inside (omega (arith, i.short))
-                (found-formed version sheet at h n f k T);
-            left = rw (← (state-after sheet hand position f (at + k) (at + n))) S.left;
+            named = named_after sheet hand position f (at + k) (at + n) G.named (omega (arith, i.from_within)) S.inside (omega (arith, i.short))
+                (found_formed version sheet at h n f k T);
+            left = rw (← (state_after sheet hand position f (at + k) (at + n))) S.left;
           }
 
       -- the same where what it leaves is told
-      pub going-told : (hand' : Hand) (position' : Position) → hand' ≡ handAfter hand x f (at + k) (at + n) → position' ≡ x.position
+      pub going_told : (hand' : Hand) (position' : Position) → hand' ≡ hand_after hand x f (at + k) (at + n) → position' ≡ x.position
           → Going version sheet begin head d₀ d' (at + n) (bounded total size) (number + 1) fault' hand' position'
-      going-told hand' position' l p = rw (l, p) going_more
+      going_told hand' position' l p = rw (l, p) going_more
 
     -- the plain arm: the same for a record that goes on, whose codes are known
     module _ (item : Item) (P : Plainly version (take (length sheet - at) (drop at sheet)) hand.mark position (part sheet hand.from hand.to)
         item.size item.kept item.code item.form)
         (from : ℕ) (y : List ℕ) (bytes : ℕ) (inside : from ≤ length d) (q : total ≤ length d → from ≡ total)
-        (W : Puts (take (length d - from) (drop from d)) y (plainCodes item (hand.to - hand.from) (take (length sheet - at) (drop at sheet))) 33 bytes) where
+        (W : Puts (take (length d - from) (drop from d)) y (plain_codes item (hand.to - hand.from) (take (length sheet - at) (drop at sheet))) 33 bytes) where
       abbrev s : List ℕ
       s = take (length sheet - at) (drop at sheet)
 
@@ -178,56 +178,56 @@ module _ (version : ℕ) (sheet : List ℕ) (begin head : ℕ) (d₀ d : List �
       abbrev b : ℕ
       b = at + item.size
 
-      G' : Goes version s (settingIn hand position) item.size item.code item.form
-      G' = P.headed.goes hand.style hand.date G.named.style-fits G.named.date-fits G.named.marked
+      G' : Goes version s (setting_in hand position) item.size item.code item.form
+      G' = P.headed.goes hand.style hand.date G.named.style_fits G.named.date_fits G.named.marked
 
       abbrev f : Fields
       f = G'.fields
 
-      codes-are : codes st (recordOf f (part sheet a b)) ≡ plainCodes item (hand.to - hand.from) s
-      codes-are =
+      codes_are : codes st (record_of f (part sheet a b)) ≡ plain_codes item (hand.to - hand.from) s
+      codes_are =
           let last = part sheet hand.from hand.to in
           let i = G.named.inside in
-          let n = last-long version sheet at hand.mark position hand.from hand.to _ _ _ _ h i P in
-          let m = name-is version sheet at hand.mark position hand.from hand.to _ _ _ _ h i P in
-          rw (m, n) at (plain-item version s hand.mark position last _ _ _ _ P (settingIn hand position) G')
+          let n = last_long version sheet at hand.mark position hand.from hand.to _ _ _ _ h i P in
+          let m = name_is version sheet at hand.mark position hand.from hand.to _ _ _ _ h i P in
+          rw (m, n) at (plain_item version s hand.mark position last _ _ _ _ P (setting_in hand position) G')
 
       abbrev d'' : List ℕ
       d'' = take from d ++ (y ++ drop (length d - from) (drop from d))
 
-      no-fault : fault ≡ or_else fault (pick (unsayable hand.style (recordOf f [])) (Refusal 13 number) Good)
-      no-fault = rw (pick-false (Refusal 13 number) Good (G'.sayable [])) (or-good fault)
+      no_fault : fault ≡ or_else fault (pick (unsayable hand.style (record_of f [])) (Refusal 13 number) Good)
+      no_fault = rw (pick_false (Refusal 13 number) Good (G'.sayable [])) (or_good fault)
 
-      plain-adds : Adds v8 st (recordOf f (part sheet a b)) d d'' t (counted (bounded total bytes) (number + 1) fault)
-      plain-adds =
-          adds-next d t (settingIn hand position) (part sheet hand.from hand.to) (part sheet a b) f from y bytes (bounded total bytes) fault inside q
+      plain_adds : Adds v8 st (record_of f (part sheet a b)) d d'' t (counted (bounded total bytes) (number + 1) fault)
+      plain_adds =
+          adds-next d t (setting_in hand position) (part sheet hand.from hand.to) (part sheet a b) f from y bytes (bounded total bytes) fault inside q
           (record {
-            size = W.size ∙ ap length (sym codes-are);
+            size = W.size ∙ ap length (sym codes_are);
             most = omega (arith, W.most);
             kept = W.kept;
-            written = λ z. W.written z ∙ ap (λ (x : List ℕ). over x (take (length d - from) (drop from d))) (sym codes-are);
+            written = λ z. W.written z ∙ ap (λ (x : List ℕ). over x (take (length d - from) (drop from d))) (sym codes_are);
           })
-          refl no-fault
+          refl no_fault
 
-      pub going-plain : Going version sheet begin head d₀ d'' b (bounded total bytes) (number + 1) fault
-          (record { style = hand.style; date = hand.date; mark = hand.mark; from = a; to = b }) (positionAfter item.form s position)
-      going-plain =
+      pub going_plain : Going version sheet begin head d₀ d'' b (bounded total bytes) (number + 1) fault
+          (record { style = hand.style; date = hand.date; mark = hand.mark; from = a; to = b }) (position_after item.form s position)
+      going_plain =
           let i = G'.told.inside in
-          let S = standing-more v8 false version sheet begin head d₀ d at total number fault st standing h item.size f (label_at item.form) G'.told d''
-          bytes fault plain-adds in
+          let S = standing_more v8 false version sheet begin head d₀ d at total number fault st standing h item.size f (label_at item.form) G'.told d''
+          bytes fault plain_adds in
           record {
             place = S.place;
             inside = S.inside;
-            few-records = S.few-records;
+            few_records = S.few_records;
             few = S.few;
             kept = S.kept;
             named =
                 record {
-                  ordered = omega (arith, i.from-within);
+                  ordered = omega (arith, i.from_within);
                   inside = S.inside;
                   short = omega (arith, i.short);
-                  style-fits = G.named.style-fits;
-                  date-fits = G.named.date-fits;
+                  style_fits = G.named.style_fits;
+                  date_fits = G.named.date_fits;
                   marked = G.named.marked;
                 };
             left = rw (← (G'.leaves (part sheet hand.from hand.to) (part sheet a b))) S.left;

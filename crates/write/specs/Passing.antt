@@ -1,8 +1,8 @@
 -- What a pass over a sheet keeps from record to record. Assumes nothing.
 use Rattle.std.specs.Prelude.{ℕ, ◌+◌, ◌-◌, ◌≤◌, ◌≡◌, List, [], length, take, drop}
 use Rattle.format.specs.State.{State}
-use Rattle.format.specs.Fields.{recordOf, state_of}
-use Rattle.format.specs.Codes.{codesLimit, codes, settingAfter}
+use Rattle.format.specs.Fields.{record_of, state_of}
+use Rattle.format.specs.Codes.{codes_limit, codes, setting_after}
 use Rattle.format.specs.WellFormed.{GoodDated}
 use Rattle.format.specs.declared.Position.{Position}
 use Rattle.format.specs.declared.Setting.{Setting}
@@ -17,44 +17,44 @@ use Rattle.write.specs.declared.Coded.{Coded}
 use Rattle.write.specs.declared.Entered.{Entered}
 use Rattle.write.specs.declared.Entered.TheVariants.{Flawed, Put}
 
-abbrev pub handOf : Setting → ℕ → ℕ → Hand
-handOf setting a b = record { style = setting.style; date = setting.date; mark = mark_of setting.style setting.date; from = a; to = b }
+abbrev pub hand_of : Setting → ℕ → ℕ → Hand
+hand_of setting a b = record { style = setting.style; date = setting.date; mark = mark_of setting.style setting.date; from = a; to = b }
 
-abbrev pub settingIn : Hand → Position → Setting
-settingIn hand position = record { style = hand.style; date = hand.date; position = position }
+abbrev pub setting_in : Hand → Position → Setting
+setting_in hand position = record { style = hand.style; date = hand.date; position = position }
 
 -- what a record leaves together with this setting, whose label stands from a to b; a traverse error leaves all as it is
-abbrev pub handAfter : Hand → Setting → Fields → ℕ → ℕ → Hand
-handAfter hand setting (Leg flags style date from to) a b = handOf setting a b
-handAfter hand setting (Station s) a b = handOf setting a b
-handAfter hand setting (Section last unused date size) a b = handOf setting a b
-handAfter hand setting (Error traverse) a b = hand
+abbrev pub hand_after : Hand → Setting → Fields → ℕ → ℕ → Hand
+hand_after hand setting (Leg flags style date from to) a b = hand_of setting a b
+hand_after hand setting (Station s) a b = hand_of setting a b
+hand_after hand setting (Section last unused date size) a b = hand_of setting a b
+hand_after hand setting (Error traverse) a b = hand
 
 -- the state, whose label stands in the sheet
-abbrev pub stateIn : List ℕ → Hand → Setting → State
-stateIn sheet hand setting = state_of setting (take (hand.to - hand.from) (drop hand.from sheet))
+abbrev pub state_in : List ℕ → Hand → Setting → State
+state_in sheet hand setting = state_of setting (take (hand.to - hand.from) (drop hand.from sheet))
 
 -- the label is in the sheet and not too long, style and date are good, and the mark is theirs
 pub record Named (sheet : List ℕ) (hand : Hand) : Type 0 where
   pub ordered : hand.from ≤ hand.to
   pub inside : hand.to ≤ length sheet
   pub short : hand.to ≤ hand.from + 4096
-  pub style-fits : hand.style ≤ 5
-  pub date-fits : GoodDated hand.date
+  pub style_fits : hand.style ≤ 5
+  pub date_fits : GoodDated hand.date
   pub marked : hand.mark ≡ mark_of hand.style hand.date
 
 -- what the record leaves of a setting
 abbrev pub left : Hand → Position → Fields → Setting
-left hand position f = settingAfter (settingIn hand position) (recordOf f [])
+left hand position f = setting_after (setting_in hand position) (record_of f [])
 
 -- the record at a place of the sheet, whose label starts at `from` of it: its codes over the front of d where they fit, which leaves d', and what it
 -- leaves
 pub record Written (version : ℕ) (sheet : List ℕ) (at : ℕ) (hand : Hand) (position : Position) (d d' : List ℕ) (coded : Coded) (f : Fields) : Type 0 where
   pub from : ℕ
   pub told : EntryTold (Whole coded.size f from) version (take (length sheet - at) (drop at sheet))
-  pub puts : Puts d d' (codes (stateIn sheet hand (settingIn hand position))
-      (recordOf f (take (at + coded.size - (at + from)) (drop (at + from) sheet)))) codesLimit coded.bytes
-  pub leaves : coded.hand ≡ handAfter hand (left hand position f) f (at + from) (at + coded.size)
+  pub puts : Puts d d' (codes (state_in sheet hand (setting_in hand position))
+      (record_of f (take (at + coded.size - (at + from)) (drop (at + from) sheet)))) codes_limit coded.bytes
+  pub leaves : coded.hand ≡ hand_after hand (left hand position f) f (at + from) (at + coded.size)
   pub stands : coded.position ≡ (left hand position f).position
 
 abbrev pub EnteredTold : Entered → ℕ → List ℕ → ℕ → Hand → Position → List ℕ → List ℕ → Type 0

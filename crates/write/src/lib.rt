@@ -1,12 +1,12 @@
 // The v8 file of a sheet, in two passes. The codes are written where they fit, so the
 // same pass measures when it is lent no bytes.
 ghost use Rattle.std.specs.Prelude.{◌≡◌, ◌≤◌, ◌<◌, length, drop};
-ghost use Rattle.format.specs.Sheet.{recordsOf, frontHeader, sheetResult};
+ghost use Rattle.format.specs.Sheet.{records_of, front_header, sheet_result};
 ghost use Rattle.format.specs.Answers.{answer_of};
 ghost use Rattle.format.specs.declared.Answer.TheVariants.{Refused};
-ghost use Rattle.format.specs.Writing.{v8, writeOutcome, writeBuffer};
+ghost use Rattle.format.specs.Writing.{v8, write_outcome, write_buffer};
 ghost use Rattle.counts.specs.Tallies.{Rest, Passed};
-ghost use Rattle.write.specs.Passing.{settingIn, handOf, handAfter, Named, EnteredTold};
+ghost use Rattle.write.specs.Passing.{setting_in, hand_of, hand_after, Named, EnteredTold};
 
 use format::{Answer, Fields, Position, Setting};
 
@@ -24,7 +24,7 @@ struct Hand {
 }
 
 fn hand_of(setting: Setting, from: usize, to: usize) -> Hand
-    ensures { result ≡ handOf setting from to }
+    ensures { result ≡ hand_of setting from to }
 {
     let style = setting.style;
     let date = setting.date;
@@ -39,7 +39,7 @@ fn hand_of(setting: Setting, from: usize, to: usize) -> Hand
 }
 
 fn setting_of(hand: Hand, position: Position) -> Setting
-    ensures { result ≡ settingIn hand position }
+    ensures { result ≡ setting_in hand position }
 {
     let date = hand.date;
     Setting {
@@ -52,7 +52,7 @@ fn setting_of(hand: Hand, position: Position) -> Setting
 // What a record leaves together with this setting, whose label stands from `from` to
 // `to`.
 fn hand_after(hand: Hand, setting: Setting, fields: Fields, from: usize, to: usize) -> Hand
-    ensures { result ≡ handAfter hand setting fields from to }
+    ensures { result ≡ hand_after hand setting fields from to }
 {
     match fields {
         Fields::Leg {
@@ -134,7 +134,7 @@ fn refused(number: u8, place: usize) -> Answer
 // where they fit into out from `head` on: the answer, for room enough.
 fn put_records(sheet: &[u8], version: u8, begin: usize, out: &mut [u8], head: usize) -> Answer
     requires { (begin ≤ length sheet.now) × (head ≤ 8192) }
-    ensures { Rest v8 (recordsOf version (drop begin sheet.now)) head out.old out.new result }
+    ensures { Rest v8 (records_of version (drop begin sheet.now)) head out.old out.new result }
 {
     let mut at = begin;
     let mut total = head;
@@ -176,7 +176,7 @@ fn put_records(sheet: &[u8], version: u8, begin: usize, out: &mut [u8], head: us
 // A pass over the sheet: the answer, for room enough, and each piece written where
 // it fits.
 fn pass(sheet: &[u8], out: &mut [u8]) -> format::Answer
-    ensures { Passed v8 (frontHeader sheet.now) (sheetResult sheet.now) out.old out.new result }
+    ensures { Passed v8 (front_header sheet.now) (sheet_result sheet.now) out.old out.new result }
 {
     let version = sheet::version_of(sheet);
     let front = sheet::read_front(sheet, version);
@@ -201,8 +201,8 @@ fn pass(sheet: &[u8], out: &mut [u8]) -> format::Answer
 // Writes the v8 file of a sheet to the front of out. The first pass, lent no bytes,
 // gives the answer; the second is lent the bytes that are needed.
 pub fn write(sheet: &[u8], out: &mut [u8]) -> format::Answer
-    ensures answer { answer_of result ≡ writeOutcome v8 sheet.now (length out.old) }
-    ensures file { out.new ≡ writeBuffer v8 sheet.now out.old }
+    ensures answer { answer_of result ≡ write_outcome v8 sheet.now (length out.old) }
+    ensures file { out.new ≡ write_buffer v8 sheet.now out.old }
 {
     let answer = pass(sheet, &mut out[..0]);
     match answer {

@@ -2,16 +2,16 @@
 // codes, the closing and what cannot be written.
 ghost use Rattle.std.specs.Prelude.{◌≡◌, ◌∷◌, ◌++◌, ◌+◌, ◌≤◌, ◌<◌, eqb, length, drop};
 ghost use Rattle.format.specs.Answers.{answer_of};
-ghost use Rattle.format.specs.Header.{fileLimit};
-ghost use Rattle.format.specs.Sheet.{recordsOf, frontHeader, sheetResult};
-ghost use Rattle.format.specs.V7Codes.{v7CodesLimit, v7Closing};
-ghost use Rattle.format.specs.Writing.{v7, headedBy, headed, writeOutcome, writeBuffer};
+ghost use Rattle.format.specs.Header.{file_limit};
+ghost use Rattle.format.specs.Sheet.{records_of, front_header, sheet_result};
+ghost use Rattle.format.specs.V7Codes.{v7_codes_limit, v7_closing};
+ghost use Rattle.format.specs.Writing.{v7, headed_by, headed, write_outcome, write_buffer};
 ghost use Rattle.part.specs.Lays.{Lays};
-ghost use Rattle.plain.specs.Plainly.{label_at, tailOf, v7Code};
+ghost use Rattle.plain.specs.Plainly.{label_at, tail_of, v7_code};
 ghost use Rattle.plain.specs.Placed.{Placed};
 ghost use Rattle.format.specs.declared.Answer.TheVariants.{Refused};
 ghost use Rattle.counts.specs.Tallies.{Finished, Rest, Passed};
-ghost use Rattle.write_v7.specs.Passing.{handOf, carriedStyle, handAfter, handFound, stateIn, Named, TurnedTold};
+ghost use Rattle.write_v7.specs.Passing.{hand_of, carried_style, hand_after, hand_found, state_in, Named, TurnedTold};
 
 use format::{Answer, Fields, Setting, Verdict};
 
@@ -29,7 +29,7 @@ struct Hand {
 }
 
 fn hand_of(setting: Setting, from: usize, to: usize) -> Hand
-    ensures { result ≡ handOf setting from to }
+    ensures { result ≡ hand_of setting from to }
 {
     let date = setting.date;
     let mark = plain::mark_of(setting.style, date);
@@ -43,7 +43,7 @@ fn hand_of(setting: Setting, from: usize, to: usize) -> Hand
 
 // The style of a leg, which v7 carries where it is normal or not said.
 fn carried(style: u8) -> u8
-    ensures { result ≡ carriedStyle style }
+    ensures { result ≡ carried_style style }
 {
     if style == 0 {
         return 0;
@@ -53,7 +53,7 @@ fn carried(style: u8) -> u8
 
 // What a record leaves, whose label stands from `from` to `to`.
 fn hand_after(hand: Hand, fields: Fields, from: usize, to: usize) -> Hand
-    ensures { result ≡ handAfter hand fields from to }
+    ensures { result ≡ hand_after hand fields from to }
 {
     match fields {
         Fields::Leg {
@@ -131,7 +131,7 @@ fn put_entry(sheet: &[u8], version: u8, at: usize, hand: Hand, out: &mut [u8]) -
 // The code of a leg or a station in v7, by its code in v8.
 fn old_code(form: plain::Form, code: u8) -> u8
     requires { (0x40 ≤ code) × (code ≤ 0x9f) }
-    ensures { result ≡ v7Code form code }
+    ensures { result ≡ v7_code form code }
 {
     match form {
         plain::Form::Leg => code + 0x40,
@@ -145,7 +145,7 @@ fn old_code(form: plain::Form, code: u8) -> u8
 // out from `at` on where it fits; answers where it ends.
 fn put_item(out: &mut [u8], at: usize, code: u8, added: &[u8], form: plain::Form, s: &[u8]) -> usize
     requires { (at ≤ 65536) × Placed form × (length added.now ≤ 15) × (label_at form ≤ length s.now) }
-    ensures { Lays out.old out.new at (code ∷ length added.now ∷ (added.now ++ tailOf form s.now)) 33 result }
+    ensures { Lays out.old out.new at (code ∷ length added.now ∷ (added.now ++ tail_of form s.now)) 33 result }
 {
     let start = counts::within(at, out.len());
     let n = plain::put_placed(&mut out[start..], code, added, form, s);
@@ -155,7 +155,7 @@ fn put_item(out: &mut [u8], at: usize, code: u8, added: &[u8], form: plain::Form
 // What the leg or station s leaves, whose label stands from `from` to `to`.
 fn hand_found(hand: Hand, form: plain::Form, s: &[u8], from: usize, to: usize) -> Hand
     requires { label_at form ≤ length s.now }
-    ensures { result ≡ handFound hand form s.now from to }
+    ensures { result ≡ hand_found hand form s.now from to }
 {
     let old = hand.setting;
     let date = old.date;
@@ -216,8 +216,8 @@ fn finish(
     number: usize,
     fault: Verdict,
 ) -> Answer
-    requires { (total ≤ fileLimit + v7CodesLimit) × Named sheet.now hand }
-    ensures { Finished v7 out.old out.new (v7Closing (stateIn sheet.now hand).label) (record { bytes = total; records = number; fault = fault }) result }
+    requires { (total ≤ file_limit + v7_codes_limit) × Named sheet.now hand }
+    ensures { Finished v7 out.old out.new (v7_closing (state_in sheet.now hand).label) (record { bytes = total; records = number; fault = fault }) result }
 {
     let first = hand.from;
     let last = hand.to;
@@ -243,7 +243,7 @@ fn put_records(
     head: usize,
 ) -> Answer
     requires { (begin ≤ length sheet.now) × (head ≤ 8192) }
-    ensures { Rest v7 (headedBy (eqb extended 1) 23 (recordsOf version (drop begin sheet.now))) head out.old out.new result }
+    ensures { Rest v7 (headed_by (eqb extended 1) 23 (records_of version (drop begin sheet.now))) head out.old out.new result }
 {
     let mut at = begin;
     let mut total = head;
@@ -277,7 +277,7 @@ fn put_records(
 // A pass over the sheet: the answer, for room enough, and each piece written where
 // it fits.
 fn pass(sheet: &[u8], out: &mut [u8]) -> Answer
-    ensures { Passed v7 (frontHeader sheet.now) (headed v7 (frontHeader sheet.now) (sheetResult sheet.now)) out.old out.new result }
+    ensures { Passed v7 (front_header sheet.now) (headed v7 (front_header sheet.now) (sheet_result sheet.now)) out.old out.new result }
 {
     let version = sheet::version_of(sheet);
     let front = sheet::read_front(sheet, version);
@@ -299,8 +299,8 @@ fn pass(sheet: &[u8], out: &mut [u8]) -> Answer
 // Writes the v7 file of a sheet to the front of out. The first pass, lent no bytes,
 // gives the answer; the second is lent the bytes that are needed.
 pub fn write_v7(sheet: &[u8], out: &mut [u8]) -> Answer
-    ensures answer { answer_of result ≡ writeOutcome v7 sheet.now (length out.old) }
-    ensures file { out.new ≡ writeBuffer v7 sheet.now out.old }
+    ensures answer { answer_of result ≡ write_outcome v7 sheet.now (length out.old) }
+    ensures file { out.new ≡ write_buffer v7 sheet.now out.old }
 {
     let answer = pass(sheet, &mut out[..0]);
     match answer {

@@ -3,8 +3,8 @@ use borrow.Author.Rules.{rules}
 use Rattle.abi.proofs.tell_later.Statement.{statement}
 use Rattle.abi.proofs.tell_later.Tie as tie
 
-pub tell-later-spec : {M : Type 1} → statement M
-tell-later-spec =
+pub tell_later_spec : {M : Type 1} → statement M
+tell_later_spec =
     tie.close
     (tie.spec (λ c. search rules) (λ c κs. search rules) (λ c. search rules) (λ c κs. search rules) (λ c. search rules) (λ c κs. search rules)
     (λ c. search rules) (λ c κs. search rules) (λ c. search rules) (λ c κs. search rules)

@@ -6,9 +6,9 @@ use Rattle.abi.proofs.tell_next.Tie as tie
 returns : tie.Need-returns
 returns c = rw c.before.next.given.1
 
-returns-2 : tie.Need-returns-2
-returns-2 c = rw c.enum_told.given.1
+returns_2 : tie.Need-returns-2
+returns_2 c = rw c.enum_told.given.1
 
 -- the search closes the other needs
-pub tell-next-spec : {M : Type 1} → statement M
-tell-next-spec = tie.close (tie.spec (λ c. search rules) (λ c. search rules) returns returns-2)
+pub tell_next_spec : {M : Type 1} → statement M
+tell_next_spec = tie.close (tie.spec (λ c. search rules) (λ c. search rules) returns returns_2)

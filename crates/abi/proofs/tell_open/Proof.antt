@@ -3,8 +3,8 @@ use borrow.Author.Rules.{rules}
 use Rattle.abi.proofs.tell_open.Statement.{statement}
 use Rattle.abi.proofs.tell_open.Tie as tie
 
-pub tell-open-spec : {M : Type 1} → statement M
-tell-open-spec =
+pub tell_open_spec : {M : Type 1} → statement M
+tell_open_spec =
     tie.close
     (tie.spec (λ c. search rules) (λ c κs. search rules) (λ c. search rules) (λ c κs. search rules)
     (λ c. rw (c.before.before.o.given.1, c.long.ensures))

@@ -3,8 +3,8 @@ use borrow.Author.Rules.{rules}
 use Rattle.abi.proofs.tell_step.Statement.{statement}
 use Rattle.abi.proofs.tell_step.Tie as tie
 
-pub tell-step-spec : {M : Type 1} → statement M
-tell-step-spec =
+pub tell_step_spec : {M : Type 1} → statement M
+tell_step_spec =
     tie.close
     (tie.spec (λ c. search rules) (λ c. search rules) (λ c κs. search rules) (λ c. search rules) (λ c κs. search rules) (λ c. search rules)
     (λ c κs. search rules) (λ c. rw c.before.s.given.1)

@@ -7,5 +7,5 @@ returns : tie.Need-returns
 returns c = rw (c.before.before.compare.ensures, c.before.later-part.ensures) at c.tell-later.ensures
 
 -- the search closes the other needs
-pub cockledrift-compare-spec : {M : Type 1} → statement M
-cockledrift-compare-spec = tie.close (tie.spec (λ c κs. search rules) (λ c κs. search rules) (λ c κs. search rules) returns)
+pub cockledrift_compare_spec : {M : Type 1} → statement M
+cockledrift_compare_spec = tie.close (tie.spec (λ c κs. search rules) (λ c κs. search rules) (λ c κs. search rules) returns)

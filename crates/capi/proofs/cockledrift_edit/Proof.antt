@@ -10,5 +10,5 @@ returns c =
     (tells R.result c.tell.ensures R.ensures.0, R.ensures.1)
 
 -- the search closes the other needs
-pub cockledrift-edit-spec : {M : Type 1} → statement M
-cockledrift-edit-spec = tie.close (tie.spec (λ c κs. search rules) (λ c κs. search rules) (λ c. search rules) returns)
+pub cockledrift_edit_spec : {M : Type 1} → statement M
+cockledrift_edit_spec = tie.close (tie.spec (λ c κs. search rules) (λ c κs. search rules) (λ c. search rules) returns)

@@ -10,6 +10,6 @@ returns c =
     (tells R.result c.tell.ensures R.ensures.0, (R.ensures.1.0, R.ensures.1.1))
 
 -- the search closes the other needs
-pub cockledrift-read-strict-spec : {M : Type 1} → statement M
-cockledrift-read-strict-spec =
+pub cockledrift_read_strict_spec : {M : Type 1} → statement M
+cockledrift_read_strict_spec =
     tie.close (tie.spec (λ c κs. search rules) (λ c κs. search rules) (λ c. search rules) (λ c. search rules) returns)

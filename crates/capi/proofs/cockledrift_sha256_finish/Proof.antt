@@ -7,5 +7,5 @@ returns : tie.Need-returns
 returns c = rw c.before.before.running-of.ensures at c.finish.ensures
 
 -- the search closes the other needs
-pub cockledrift-sha256-finish-spec : {M : Type 1} → statement M
-cockledrift-sha256-finish-spec = tie.close (tie.spec (λ c κs. search rules) (λ c κs. search rules) returns)
+pub cockledrift_sha256_finish_spec : {M : Type 1} → statement M
+cockledrift_sha256_finish_spec = tie.close (tie.spec (λ c κs. search rules) (λ c κs. search rules) returns)

@@ -8,5 +8,5 @@ returns : tie.Need-returns
 returns c = c.Numbers-of.ensures ∙ c.before.start.ensures
 
 -- the search closes the other needs
-pub cockledrift-sha256-start-spec : {M : Type 1} → statement M
-cockledrift-sha256-start-spec = tie.close (tie.spec (λ c κs. search rules) (λ c κs. search rules) returns)
+pub cockledrift_sha256_start_spec : {M : Type 1} → statement M
+cockledrift_sha256_start_spec = tie.close (tie.spec (λ c κs. search rules) (λ c κs. search rules) returns)

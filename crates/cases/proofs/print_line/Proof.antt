@@ -6,10 +6,10 @@ use lib.Seq.{length-take-le}
 use Rattle.cases.proofs.print_line.Statement.{statement}
 use Rattle.cases.proofs.print_line.Tie as tie
 
-slice-aggregate-write-all : tie.Need-slice-aggregate-write-all
-slice-aggregate-write-all c = sym (length-take-le _ _ (omega arith))
+slice_aggregate_write_all : tie.Need-slice-aggregate-write-all
+slice_aggregate_write_all c = sym (length-take-le _ _ (omega arith))
 
 -- the search closes the other needs
-pub print-line-spec : {M : Type 1} → statement M
-print-line-spec =
-    tie.close (tie.spec slice-aggregate-write-all (λ c κs. search rules) (λ c. search rules) (λ c. search rules))
+pub print_line_spec : {M : Type 1} → statement M
+print_line_spec =
+    tie.close (tie.spec slice_aggregate_write_all (λ c κs. search rules) (λ c. search rules) (λ c. search rules))

@@ -4,8 +4,8 @@ use Rattle.codes.proofs.put_new_date_if.Statement.{statement}
 use Rattle.codes.proofs.put_new_date_if.Tie as tie
 
 returns : tie.Need-returns
-returns c = rw c.before.before.before.before.v8-dates.ensures at c.before.before.put-date-if.ensures
+returns c = rw c.before.before.before.before.v8_dates_lem.ensures at c.before.before.put-date-if.ensures
 
 -- the search closes the other needs
-pub put-new-date-if-spec : {M : Type 1} → statement M
-put-new-date-if-spec = tie.close (tie.spec (λ c κs. search rules) (λ c κs. search rules) (λ c. search rules) returns)
+pub put_new_date_if_spec : {M : Type 1} → statement M
+put_new_date_if_spec = tie.close (tie.spec (λ c κs. search rules) (λ c κs. search rules) (λ c. search rules) returns)

@@ -1,13 +1,13 @@
 -- `codes::same_date` meets its contract. Assumes nothing.
-use Rattle.format.specs.Codes.{sameDate}
+use Rattle.format.specs.Codes.{same_date}
 use borrow.Author.Tests.{eq-eqb, ne_eqb}
 use borrow.Author.Rules.{rules}
 use Rattle.codes.proofs.same_date.Statement.{statement}
 use Rattle.codes.proofs.same_date.Tie as tie
 
-pub same-date-spec : {M : Type 1} → statement M
-unfolding sameDate
-same-date-spec =
+pub same_date_spec : {M : Type 1} → statement M
+unfolding same_date
+same_date_spec =
     tie.close
     (tie.spec (λ c. search rules) (λ c. search rules) (λ c. search rules) (λ c. search rules) (λ c. search rules) (λ c. search rules)
     (λ c. search rules) (λ c. search rules) (λ c. search rules) (λ c. search rules) (λ c. search rules) (λ c. search rules)

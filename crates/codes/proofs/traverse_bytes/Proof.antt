@@ -1,14 +1,14 @@
 -- `codes::traverse_bytes` meets its contract. Assumes nothing.
-use Rattle.format.specs.Bytes.{toLe32}
+use Rattle.format.specs.Bytes.{to_le32}
 use borrow.Author.Rules.{rules}
 use Rattle.codes.proofs.traverse_bytes.Statement.{statement}
 use Rattle.codes.proofs.traverse_bytes.Tie as tie
 
 returns : tie.Need-returns
-unfolding toLe32
+unfolding to_le32
 returns c =
     simp (
-      c.before.before.before.before.le32-bytes.ensures,
+      c.before.before.before.before.le32_bytes.ensures,
       c.before.before.before.le32-bytes2.ensures,
       c.before.before.le32-bytes3.ensures,
       c.before.le32-bytes4.ensures,
@@ -16,8 +16,8 @@ returns c =
     )
 
 -- the search closes the other needs
-pub traverse-bytes-spec : {M : Type 1} → statement M
-traverse-bytes-spec = tie.close (tie.spec (λ c κs. search rules) (λ c κs. search rules) (λ c κs. search rules) (λ c κs. search rules) (λ c κs. search rules)
+pub traverse_bytes_spec : {M : Type 1} → statement M
+traverse_bytes_spec = tie.close (tie.spec (λ c κs. search rules) (λ c κs. search rules) (λ c κs. search rules) (λ c κs. search rules) (λ c κs. search rules)
     (λ c. search rules) (λ c. search rules) (λ c. search rules) (λ c. search rules) (λ c. search rules) (λ c. search rules) (λ c. search rules)
     (λ c. search rules) (λ c. search rules) (λ c. search rules) (λ c. search rules) (λ c. search rules) (λ c. search rules)
     (λ c. search rules) (λ c. search rules) (λ c. search rules) (λ c. search rules) (λ c. search rules) (λ c. search rules)

@@ -1,6 +1,6 @@
 -- `counts::finish` meets its contract. Assumes nothing.
 use Rattle.format.specs.Writing.{v8}
-use Rattle.counts.proofs.Left.{finish-closed}
+use Rattle.counts.proofs.Left.{finish_closed}
 use borrow.Author.Rules.{rules}
 use Rattle.counts.proofs.finish.Statement.{statement}
 use Rattle.counts.proofs.finish.Tie as tie
@@ -9,7 +9,7 @@ returns : tie.Need-returns
 returns c =
     let a = c.before.before.before.before.before.before.before.args in
     let W = c.before.before.before.before.before.within.ensures in
-    finish-closed v8 _ _ (record { bytes = a.total; records = a.number; fault = a.fault }) _ _ _ _ W.0 W.1
+    finish_closed v8 _ _ (record { bytes = a.total; records = a.number; fault = a.fault }) _ _ _ _ W.0 W.1
     c.before.before.before.put-closing.ensures _ c.settle.ensures
 
 -- the search closes the other needs

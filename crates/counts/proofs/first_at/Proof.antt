@@ -4,14 +4,14 @@ use borrow.Author.Rules.{rules}
 use Rattle.counts.proofs.first_at.Statement.{statement}
 use Rattle.counts.proofs.first_at.Tie as tie
 
-returns-2 : tie.Need-returns-2
+returns_2 : tie.Need-returns-2
 unfolding pick
-returns-2 c = rw (c.before.enum_told.given.1, c.if1.true)
+returns_2 c = rw (c.before.enum_told.given.1, c.if1.true)
 
-returns-3 : tie.Need-returns-3
+returns_3 : tie.Need-returns-3
 unfolding pick
-returns-3 c = rw (c.before.enum_told.given.1, c.if1.false)
+returns_3 c = rw (c.before.enum_told.given.1, c.if1.false)
 
 -- the search closes the other needs
-pub first-at-spec : {M : Type 1} → statement M
-first-at-spec = tie.close (tie.spec (λ c. search rules) (λ c. search rules) (λ c. search rules) returns-2 returns-3)
+pub first_at_spec : {M : Type 1} → statement M
+first_at_spec = tie.close (tie.spec (λ c. search rules) (λ c. search rules) (λ c. search rules) returns_2 returns_3)

@@ -4,8 +4,8 @@ use Rattle.counts.proofs.first_fault.Statement.{statement}
 use Rattle.counts.proofs.first_fault.Tie as tie
 
 returns : tie.Need-returns
-returns c = rw (c.first-at.ensures, c.before.unsaid.ensures)
+returns c = rw (c.first_at.ensures, c.before.unsaid.ensures)
 
 -- the search closes the other needs
-pub first-fault-spec : {M : Type 1} → statement M
-first-fault-spec = tie.close (tie.spec (λ c κs. search rules) (λ c κs. search rules) returns)
+pub first_fault_spec : {M : Type 1} → statement M
+first_fault_spec = tie.close (tie.spec (λ c κs. search rules) (λ c κs. search rules) returns)

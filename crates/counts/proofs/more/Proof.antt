@@ -10,10 +10,10 @@ returns : tie.Need-returns
 unfolding bounded pick
 returns c = simp (lt-ltb _ _ c.if1.true)
 
-returns-2 : tie.Need-returns-2
+returns_2 : tie.Need-returns-2
 unfolding bounded pick
-returns-2 c = simp (le-ltb _ _ c.if1.false)
+returns_2 c = simp (le-ltb _ _ c.if1.false)
 
 -- the search closes the other needs
-pub more-spec : {M : Type 1} → statement M
-more-spec = tie.close (tie.spec returns (λ c. search rules) returns-2)
+pub more_spec : {M : Type 1} → statement M
+more_spec = tie.close (tie.spec returns (λ c. search rules) returns_2)

@@ -12,8 +12,8 @@ returns c =
     c.before.before.before.before.before.put_record.ensures c.before.before.more.ensures c.first-fault.ensures
 
 -- the search closes the other needs
-pub put-next-spec : {M : Type 1} → statement M
-put-next-spec =
+pub put_next_spec : {M : Type 1} → statement M
+put_next_spec =
     tie.close
     (tie.spec (λ c κs. search rules) (λ c. search rules) (λ c. search rules) (λ c. search rules) (λ c κs. search rules)
     (λ c κs. search rules) (λ c. search rules) (λ c κs. search rules) (λ c. search rules) returns)

@@ -1,19 +1,19 @@
 -- `decode::day_item` meets its contract. Assumes nothing.
 use borrow.Author.Rules.{part_to_end}
-use Rattle.format.specs.Items.{dayItem}
+use Rattle.format.specs.Items.{day_item}
 use Rattle.decode.proofs.Sized.{reads_short, reads_whole}
 use borrow.Author.Rules.{rules}
 use Rattle.decode.proofs.day_item.Statement.{statement}
 use Rattle.decode.proofs.day_item.Tie as tie
 
 returns : tie.Need-returns
-unfolding dayItem
+unfolding day_item
 returns c = reads_short 3 _ _ c.if1.true
 
-returns-2 : tie.Need-returns-2
-unfolding dayItem
-returns-2 c = reads_whole 3 _ _ c.before.before.if1.false (simp (c.get-le16.ensures.0, part_to_end)) tt
+returns_2 : tie.Need-returns-2
+unfolding day_item
+returns_2 c = reads_whole 3 _ _ c.before.before.if1.false (simp (c.get-le16.ensures.0, part_to_end)) tt
 
 -- the search closes the other needs
-pub day-item-spec : {M : Type 1} → statement M
-day-item-spec = tie.close (tie.spec returns (λ c. search rules) (λ c. search rules) (λ c. search rules) (λ c κs. search rules) returns-2)
+pub day_item_spec : {M : Type 1} → statement M
+day_item_spec = tie.close (tie.spec returns (λ c. search rules) (λ c. search rules) (λ c. search rules) (λ c κs. search rules) returns_2)

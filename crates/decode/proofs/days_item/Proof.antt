@@ -1,19 +1,19 @@
 -- `decode::days_item` meets its contract. Assumes nothing.
 use borrow.Author.Rules.{part_to_end}
-use Rattle.format.specs.Items.{daysItem}
+use Rattle.format.specs.Items.{days_item}
 use Rattle.decode.proofs.Sized.{reads_short, reads_whole}
 use borrow.Author.Rules.{rules}
 use Rattle.decode.proofs.days_item.Statement.{statement}
 use Rattle.decode.proofs.days_item.Tie as tie
 
 returns : tie.Need-returns
-unfolding daysItem
+unfolding days_item
 returns c = reads_short 5 _ _ c.if1.true
 
-returns-2 : tie.Need-returns-2
-unfolding daysItem
-returns-2 c = reads_whole 5 _ _ c.before.before.before.before.if1.false (simp (c.before.before.get-le16.ensures.0, c.get-le162.ensures.0, part_to_end)) tt
+returns_2 : tie.Need-returns-2
+unfolding days_item
+returns_2 c = reads_whole 5 _ _ c.before.before.before.before.if1.false (simp (c.before.before.get-le16.ensures.0, c.get-le162.ensures.0, part_to_end)) tt
 
 -- the search closes the other needs
-pub days-item-spec : {M : Type 1} → statement M
-days-item-spec = tie.close (tie.spec returns (λ c. search rules) (λ c. search rules) (λ c. search rules) (λ c κs. search rules) (λ c. search rules) (λ c. search rules) (λ c. search rules) (λ c κs. search rules) returns-2)
+pub days_item_spec : {M : Type 1} → statement M
+days_item_spec = tie.close (tie.spec returns (λ c. search rules) (λ c. search rules) (λ c. search rules) (λ c κs. search rules) (λ c. search rules) (λ c. search rules) (λ c. search rules) (λ c κs. search rules) returns_2)

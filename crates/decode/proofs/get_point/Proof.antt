@@ -11,5 +11,5 @@ returns c =
     simp (c.before.before.before.before.get-le32.ensures.0, e2, e3)
 
 -- the search closes the other needs
-pub get-point-spec : {M : Type 1} → statement M
-get-point-spec = tie.close (tie.spec (λ c κs. search rules) (λ c. search rules) (λ c. search rules) (λ c. search rules) (λ c κs. search rules) (λ c. search rules) (λ c. search rules) (λ c. search rules) (λ c κs. search rules) returns)
+pub get_point_spec : {M : Type 1} → statement M
+get_point_spec = tie.close (tie.spec (λ c κs. search rules) (λ c. search rules) (λ c. search rules) (λ c. search rules) (λ c κs. search rules) (λ c. search rules) (λ c. search rules) (λ c. search rules) (λ c κs. search rules) returns)

@@ -11,12 +11,12 @@ returns c =
     let e = c.before.get-le16.ensures.0 in
     simp (← e, lt-ltb _ _ c.if1.true)
 
-returns-2 : tie.Need-returns-2
+returns_2 : tie.Need-returns-2
 unfolding widened pick
-returns-2 c =
+returns_2 c =
     let e = c.before.get-le16.ensures.0 in
     simp (← e, le-ltb _ _ c.if1.false)
 
 -- the search closes the other needs
-pub get-short-spec : {M : Type 1} → statement M
-get-short-spec = tie.close (tie.spec (λ c κs. search rules) returns (λ c. search rules) returns-2)
+pub get_short_spec : {M : Type 1} → statement M
+get_short_spec = tie.close (tie.spec (λ c κs. search rules) returns (λ c. search rules) returns_2)

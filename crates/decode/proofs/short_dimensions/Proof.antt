@@ -12,5 +12,5 @@ returns c =
     simp (c.before.before.before.before.before.before.get-short.ensures, e2, e3, e4)
 
 -- the search closes the other needs
-pub short-dimensions-spec : {M : Type 1} → statement M
-short-dimensions-spec = tie.close (tie.spec (λ c κs. search rules) (λ c. search rules) (λ c. search rules) (λ c. search rules) (λ c κs. search rules) (λ c. search rules) (λ c. search rules) (λ c. search rules) (λ c κs. search rules) (λ c. search rules) (λ c. search rules) (λ c. search rules) (λ c κs. search rules) returns)
+pub short_dimensions_spec : {M : Type 1} → statement M
+short_dimensions_spec = tie.close (tie.spec (λ c κs. search rules) (λ c. search rules) (λ c. search rules) (λ c. search rules) (λ c κs. search rules) (λ c. search rules) (λ c. search rules) (λ c. search rules) (λ c κs. search rules) (λ c. search rules) (λ c. search rules) (λ c. search rules) (λ c κs. search rules) returns)

@@ -1,19 +1,19 @@
 -- `decode::two_seconds_item` meets its contract. Assumes nothing.
 use borrow.Author.Rules.{part_to_end}
-use Rattle.format.specs.Items.{twoSecondsItem}
+use Rattle.format.specs.Items.{two_seconds_item}
 use Rattle.decode.proofs.Sized.{reads_short, reads_whole}
 use borrow.Author.Rules.{rules}
 use Rattle.decode.proofs.two_seconds_item.Statement.{statement}
 use Rattle.decode.proofs.two_seconds_item.Tie as tie
 
 returns : tie.Need-returns
-unfolding twoSecondsItem
+unfolding two_seconds_item
 returns c = reads_short 9 _ _ c.if1.true
 
-returns-2 : tie.Need-returns-2
-unfolding twoSecondsItem
-returns-2 c = reads_whole 9 _ _ c.before.before.before.before.before.before.if1.false (simp (c.before.before.before.day-of-seconds.ensures, c.day-of-seconds2.ensures, c.before.before.before.before.get-le32.ensures.0, c.before.get-le322.ensures.0, part_to_end)) tt
+returns_2 : tie.Need-returns-2
+unfolding two_seconds_item
+returns_2 c = reads_whole 9 _ _ c.before.before.before.before.before.before.if1.false (simp (c.before.before.before.day-of-seconds.ensures, c.day-of-seconds2.ensures, c.before.before.before.before.get-le32.ensures.0, c.before.get-le322.ensures.0, part_to_end)) tt
 
 -- the search closes the other needs
-pub two-seconds-item-spec : {M : Type 1} → statement M
-two-seconds-item-spec = tie.close (tie.spec returns (λ c. search rules) (λ c. search rules) (λ c. search rules) (λ c κs. search rules) (λ c κs. search rules) (λ c. search rules) (λ c. search rules) (λ c. search rules) (λ c κs. search rules) (λ c κs. search rules) returns-2)
+pub two_seconds_item_spec : {M : Type 1} → statement M
+two_seconds_item_spec = tie.close (tie.spec returns (λ c. search rules) (λ c. search rules) (λ c. search rules) (λ c κs. search rules) (λ c κs. search rules) (λ c. search rules) (λ c. search rules) (λ c. search rules) (λ c κs. search rules) (λ c κs. search rules) returns_2)

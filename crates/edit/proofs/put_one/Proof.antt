@@ -12,5 +12,5 @@ returns c =
     c.before.keep-label.ensures)
 
 -- the search closes the other needs
-pub put-one-spec : {M : Type 1} → statement M
-put-one-spec = tie.close (tie.spec (λ c κs. search rules) (λ c κs. search rules) (λ c κs. search rules) (λ c. search rules) returns)
+pub put_one_spec : {M : Type 1} → statement M
+put_one_spec = tie.close (tie.spec (λ c κs. search rules) (λ c κs. search rules) (λ c κs. search rules) (λ c. search rules) returns)

@@ -16,10 +16,10 @@ returns c =
     let s = c.before.before.args.file.now in
     sym (same_false (take 21 s) magic (λ e. omega (arith, ap (λ (l : List ℕ). length l) e ∙ refl, length-take 21 s)))
 
-returns-2 : tie.Need-returns-2
+returns_2 : tie.Need-returns-2
 unfolding magic
-returns-2 c = c.same_bytes.ensures
+returns_2 c = c.same_bytes.ensures
 
 -- the search closes the other needs
-pub magic-ok-spec : {M : Type 1} → statement M
-magic-ok-spec = tie.close (tie.spec returns (λ c. search rules) (λ c. search rules) (λ c. search rules) (λ c. search rules) (λ c κs. search rules) returns-2)
+pub magic_ok_spec : {M : Type 1} → statement M
+magic_ok_spec = tie.close (tie.spec returns (λ c. search rules) (λ c. search rules) (λ c. search rules) (λ c. search rules) (λ c κs. search rules) returns_2)

@@ -4,7 +4,7 @@ use Prim.Native.Nat.{◌+◌, ◌-◌, ◌<◌}
 use mathlib.Core.Path.{sym, ◌∙◌}
 use lib.ListN.{length, drop, length-drop}
 use borrow.Author.Rules.{part_to_end}
-use Rattle.header.proofs.Lines.{Line, line-found, time-broken, time-found}
+use Rattle.header.proofs.Lines.{Line, line_found, time_broken, time_found}
 use borrow.Author.Rules.{rules}
 use Rattle.header.proofs.time_line.Statement.{statement}
 use Rattle.header.proofs.time_line.Tie as tie
@@ -12,10 +12,10 @@ use Rattle.header.proofs.time_line.Tie as tie
 -- the line that `good_line` found
 found : (c : tie.After-line) → Line 64 (drop (25 + c.before.before.before.before.before.args.title)
     c.before.before.before.before.before.args.file.now) c.line.given.0.0
-found c = line-found 64 _ _ (simp part_to_end at (sym c.line.given.1 ∙ c.before.before.good-line.ensures))
+found c = line_found 64 _ _ (simp part_to_end at (sym c.line.given.1 ∙ c.before.before.good-line.ensures))
 
-closed-header-requires : tie.Need-closed-header-requires
-closed-header-requires c κs =
+closed_header_requires : tie.Need-closed-header-requires
+closed_header_requires c κs =
     let l = found c.before in
     let x = c.before.before.before.before.before.before in
     let h : c.before.line.given.0.0 < length x.args.file.now - (25 + x.args.title) = rw length-drop at l.ended in
@@ -25,18 +25,18 @@ returns : tie.Need-returns
 returns c =
     let x = c.before.before.before.before.before.args in
     record {
-      same = time-broken x.version x.file.now x.title
+      same = time_broken x.version x.file.now x.title
           (simp part_to_end at (sym c.enum_told.given.1 ∙ c.before.before.good-line.ensures));
       room = tt;
     }
 
-returns-2 : tie.Need-returns-2
-returns-2 c =
+returns_2 : tie.Need-returns-2
+returns_2 c =
     let x = c.before.before.before.before.before.before.before.args in
     let d = c.closed-header.ensures in
-    record { same = d.same ∙ time-found x.version x.file.now x.title _ (found c.before.before); room = d.room }
+    record { same = d.same ∙ time_found x.version x.file.now x.title _ (found c.before.before); room = d.room }
 
 -- the search closes the other needs
-pub time-line-spec : {M : Type 1} → statement M
-time-line-spec = tie.close (tie.spec (λ c. search rules) (λ c. search rules) (λ c. search rules) (λ c. search rules) (λ c κs. search rules)
-    (λ c. search rules) (λ c. search rules) closed-header-requires returns returns-2)
+pub time_line_spec : {M : Type 1} → statement M
+time_line_spec = tie.close (tie.spec (λ c. search rules) (λ c. search rules) (λ c. search rules) (λ c. search rules) (λ c κs. search rules)
+    (λ c. search rules) (λ c. search rules) closed_header_requires returns returns_2)

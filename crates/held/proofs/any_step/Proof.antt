@@ -11,7 +11,7 @@ returns c =
     steps_on a.s.now a.bytes.now a.file.now a.out.now _ _ _ _ S c.Numbers-of.ensures
 
 -- the search closes the other needs
-pub any-step-spec : {M : Type 1} → statement M
-any-step-spec =
+pub any_step_spec : {M : Type 1} → statement M
+any_step_spec =
     tie.close
     (tie.spec (λ c κs. search rules) (λ c κs. search rules) (λ c κs. search rules) (λ c. search rules) returns)

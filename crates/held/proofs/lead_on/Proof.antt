@@ -7,7 +7,7 @@ returns : tie.Need-returns
 returns c = rw c.before.before.place-numbers.ensures at c.moved_on.ensures
 
 -- the search closes the other needs
-pub lead-on-spec : {M : Type 1} → statement M
-lead-on-spec =
+pub lead_on_spec : {M : Type 1} → statement M
+lead_on_spec =
     tie.close
     (tie.spec (λ c κs. search rules) (λ c κs. search rules) returns)

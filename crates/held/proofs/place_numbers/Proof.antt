@@ -8,9 +8,9 @@ use Rattle.held.proofs.place_numbers.Statement.{statement}
 use Rattle.held.proofs.place_numbers.Tie as tie
 
 -- the search closes the other needs
-pub place-numbers-spec : {M : Type 1} → statement M
+pub place_numbers_spec : {M : Type 1} → statement M
 unfolding position_of pick
-place-numbers-spec =
+place_numbers_spec =
     tie.close
     (tie.spec (λ c. search rules) (λ c. search rules) (λ c κs. search rules) (λ c κs. search rules) (λ c κs. search rules)
     (λ c. sym c.enum_told.given.1)

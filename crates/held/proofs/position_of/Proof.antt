@@ -9,9 +9,9 @@ use Rattle.held.proofs.position_of.Tie as tie
 ruleset cases = (eq-eqb, ne_eqb)
 
 -- the search closes the other needs
-pub position-of-spec : {M : Type 1} → statement M
+pub position_of_spec : {M : Type 1} → statement M
 unfolding position_of pick
-position-of-spec =
+position_of_spec =
     tie.close
     (tie.spec (λ c. search cases) (λ c κs. search rules) (λ c κs. search rules) (λ c κs. search rules)
     (λ c. search (cases, ← c.before.before.low32.ensures, ← c.before.low322.ensures, ← c.low323.ensures)))

@@ -11,7 +11,7 @@ returns : tie.Need-returns
 returns c = simp (c.get-point.ensures, part_to_end)
 
 -- the search closes the other needs
-pub leg-at-spec : {M : Type 1} → statement M
-leg-at-spec =
+pub leg_at_spec : {M : Type 1} → statement M
+leg_at_spec =
     tie.close
     (tie.spec (λ c. search rules) (λ c. search rules) (λ c. search rules) (λ c κs. search rules) returns)

@@ -17,14 +17,14 @@ returns c =
     simp (c.short-dimensions.ensures, part_to_end, lt-ltb _ _ c.before.before.if1.true)
 
 -- src/lib.rt:313:1
-returns-2 : tie.Need-returns-2
+returns_2 : tie.Need-returns-2
 unfolding size_of pick
-returns-2 c =
+returns_2 c =
     simp (c.long-dimensions.ensures, part_to_end, le-ltb _ _ c.before.before.if1.false)
 
 -- the search closes the other needs
-pub section-at-spec : {M : Type 1} → statement M
-section-at-spec =
+pub section_at_spec : {M : Type 1} → statement M
+section_at_spec =
     tie.close
     (tie.spec (λ c. search rules) (λ c. search rules) (λ c. search rules) (λ c κs. search rules) returns (λ c. search rules)
-    (λ c. search rules) (λ c. search rules) (λ c κs. search rules) returns-2)
+    (λ c. search rules) (λ c. search rules) (λ c κs. search rules) returns_2)

@@ -5,14 +5,14 @@ use lib.Seq.{length-take-le}
 use Rattle.judge.proofs.copy_label.Statement.{statement}
 use Rattle.judge.proofs.copy_label.Tie as tie
 
-slice-aggregate-swap-label : tie.Need-slice-aggregate-swap-label
-slice-aggregate-swap-label c =
+slice_aggregate_swap_label : tie.Need-slice-aggregate-swap-label
+slice_aggregate_swap_label c =
     let a = c.before.before.before.args in
     let p = c.before.before.before.requires in
     sym (length-take-le a.len a.label.now (omega (arith, p.0, p.1)))
 
-swap-label-requires : tie.Need-swap-label-requires
-swap-label-requires c κs =
+swap_label_requires : tie.Need-swap-label-requires
+swap_label_requires c κs =
     let a = c.before.before.before.args in
     let p = c.before.before.before.requires in
     let l = length-take-le a.len a.label.now (omega (arith, p.0, p.1)) in
@@ -21,5 +21,5 @@ swap-label-requires c κs =
 returns : tie.Need-returns
 returns c = c.swap-label.ensures
 
-pub copy-label-spec : {M : Type 1} → statement M
-copy-label-spec = tie.close (tie.spec slice-aggregate-swap-label swap-label-requires returns)
+pub copy_label_spec : {M : Type 1} → statement M
+copy_label_spec = tie.close (tie.spec slice_aggregate_swap_label swap_label_requires returns)

@@ -3,100 +3,100 @@ use native.Mathlib.Omega.{arith}
 use Prim.Native.Nat.{◌-◌}
 use mathlib.Core.Path.{◌≡◌, sym}
 use lib.ListN.{length}
-use Rattle.judge.proofs.Walk.{Judging, judging-first, judging-ready, judging-same, judging-brief, judging-refused, judging-foreign, judging-end}
-use Rattle.judge.proofs.Walk.{judging-more, judging-passed}
+use Rattle.judge.proofs.Walk.{Judging, judging_first, judging_ready, judging_same, judging_brief, judging_refused, judging_foreign, judging_end}
+use Rattle.judge.proofs.Walk.{judging_more, judging_passed}
 use borrow.Author.Rules.{rules}
 use Rattle.judge.proofs.judge_records.Statement.{statement}
 use Rattle.judge.proofs.judge_records.Tie as tie
 
-abbrev invariant-loop : tie.invariant-loop
-invariant-loop file label₀ limit room₀ spare₀ place₀ passed₀ label room spare place passed =
+abbrev invariant_loop : tie.invariant_loop
+invariant_loop file label₀ limit room₀ spare₀ place₀ passed₀ label room spare place passed =
     Judging file place₀ label₀ limit place label passed spare.bytes room
 
-abbrev decreases-loop : tie.decreases-loop
-decreases-loop file label₀ limit room₀ spare₀ place₀ passed₀ label room spare place passed = limit - passed
+abbrev decreases_loop : tie.decreases_loop
+decreases_loop file label₀ limit room₀ spare₀ place₀ passed₀ label room spare place passed = limit - passed
 
 -- where no such LINE stands, the label is as it was
-on : (y : tie.After-enum-told invariant-loop decreases-loop)
+on : (y : tie.After-enum-told invariant_loop decreases_loop)
     → Judging y.before.before.before.before.before.before.before.before.before.args.file.now
     y.before.before.before.before.before.before.before.before.before.args.from
     y.before.before.before.before.before.before.before.before.before.args.label.now
     y.before.before.before.before.before.before.before.before.before.args.limit y.before.before.before.before.before.loop.place
     y.before.before.take-brief.new.1.1.0 y.before.before.before.before.before.loop.passed
     y.before.before.before.before.before.loop.spare.bytes y.before.before.before.before.before.loop.room
-on y = judging-same y.before.before.before.before.before.loop.invariant _ (rw y.enum_told.given.1 at y.before.before.take-brief.ensures)
+on y = judging_same y.before.before.before.before.before.loop.invariant _ (rw y.enum_told.given.1 at y.before.before.take-brief.ensures)
 
-loop-holds : tie.Need-loop-init invariant-loop decreases-loop
-loop-holds c =
+loop_holds : tie.Need-loop-init invariant_loop decreases_loop
+loop_holds c =
     let w : length c.blank.result.bytes ≡ 4096 = search rules in
-    judging-first _ _ _ _ c.before.before.before.requires w c.before.room.ensures
+    judging_first _ _ _ _ c.before.before.before.requires w c.before.room.ensures
 
-take-brief-requires : tie.Need-take-brief-requires invariant-loop decreases-loop
-take-brief-requires c κs = judging-ready c.before.before.loop.invariant
+take_brief_requires : tie.Need-take-brief-requires invariant_loop decreases_loop
+take_brief_requires c κs = judging_ready c.before.before.loop.invariant
 
-add-passed : tie.Need-overflow-add-passed invariant-loop decreases-loop
-add-passed c =
+add_passed : tie.Need-overflow-add-passed invariant_loop decreases_loop
+add_passed c =
     omega (arith, c.before.before.before.before.before.loop-test.true)
 
-loop-less : tie.Need-loop-smaller invariant-loop decreases-loop
-loop-less c =
+loop_less : tie.Need-loop-smaller invariant_loop decreases_loop
+loop_less c =
     omega (arith, c.before.before.before.before.before.loop-test.true)
 
-loop-again : tie.Need-loop-preserved invariant-loop decreases-loop
-loop-again c =
-    judging-brief c.before.before.before.before.before.before.loop.invariant _ _ c.before.before.before.before.before.loop-test.true
+loop_again : tie.Need-loop-preserved invariant_loop decreases_loop
+loop_again c =
+    judging_brief c.before.before.before.before.before.before.loop.invariant _ _ c.before.before.before.before.before.loop-test.true
     (rw c.before.brief.given.1 at c.before.before.before.take-brief.ensures)
 
-slice-aggregate-take-record : tie.Need-slice-aggregate-take-record invariant-loop decreases-loop
-slice-aggregate-take-record c =
+slice_aggregate_take_record : tie.Need-slice-aggregate-take-record invariant_loop decreases_loop
+slice_aggregate_take_record c =
     sym c.before.before.before.before.before.before.before.before.loop.invariant.room_whole
 
-take-record-requires : tie.Need-take-record-requires invariant-loop decreases-loop
-take-record-requires c κs =
+take_record_requires : tie.Need-take-record-requires invariant_loop decreases_loop
+take_record_requires c κs =
     let G = on c.before.before.before in
-    (judging-ready G, G.spare-whole, G.room_whole)
+    (judging_ready G, G.spare_whole, G.room_whole)
 
-returns : tie.Need-returns invariant-loop decreases-loop
+returns : tie.Need-returns invariant_loop decreases_loop
 returns c =
     let T = rw c.before.taken.given.1 at c.before.before.before.before.take-record.ensures in
-    judging-refused (on c.before.before.before.before.before.before.before.before) _ _ T.0
+    judging_refused (on c.before.before.before.before.before.before.before.before) _ _ T.0
 
-returns-2 : tie.Need-returns-2 invariant-loop decreases-loop
-returns-2 c =
+returns_2 : tie.Need-returns-2 invariant_loop decreases_loop
+returns_2 c =
     let T = rw c.enum-told2.given.1 at c.before.before.before.take-record.ensures in
-    judging-foreign (on c.before.before.before.before.before.before.before) T.0
+    judging_foreign (on c.before.before.before.before.before.before.before) T.0
 
-returns-3 : tie.Need-returns-3 invariant-loop decreases-loop
-returns-3 c =
+returns_3 : tie.Need-returns-3 invariant_loop decreases_loop
+returns_3 c =
     let T = rw c.enum-told3.given.1 at c.before.before.before.take-record.ensures in (
-      judging-end (on c.before.before.before.before.before.before.before)
+      judging_end (on c.before.before.before.before.before.before.before)
           T.0,
       c.before.before.before.before.before.before.before.before.before.before.before.loop-test.true,
     )
 
-add-passed-2 : tie.Need-overflow-add-passed-2 invariant-loop decreases-loop
-add-passed-2 c =
+add_passed_2 : tie.Need-overflow-add-passed-2 invariant_loop decreases_loop
+add_passed_2 c =
     omega (arith, c.before.before.before.before.before.before.before.before.before.before.before.before.loop-test.true)
 
-loop-less-2 : tie.Need-loop-smaller-2 invariant-loop decreases-loop
-loop-less-2 c =
+loop_less_2 : tie.Need-loop-smaller-2 invariant_loop decreases_loop
+loop_less_2 c =
     omega (arith, c.before.before.before.before.before.before.before.before.before.before.before.before.loop-test.true)
 
-loop-again-2 : tie.Need-loop-preserved-2 invariant-loop decreases-loop
-loop-again-2 c =
+loop_again_2 : tie.Need-loop-preserved-2 invariant_loop decreases_loop
+loop_again_2 c =
     let T = rw c.before.taken2.given.1 at c.before.before.before.before.take-record.ensures in
-    judging-more (on c.before.before.before.before.before.before.before.before) _ _ _
+    judging_more (on c.before.before.before.before.before.before.before.before) _ _ _
     c.before.before.before.before.before.before.before.before.before.before.before.before.loop-test.true T.0 _ _ T.1 T.2
 
-returns-4 : tie.Need-returns-4 invariant-loop decreases-loop
-returns-4 c =
-    judging-passed c.before.loop.invariant c.loop-test.false
+returns_4 : tie.Need-returns-4 invariant_loop decreases_loop
+returns_4 c =
+    judging_passed c.before.loop.invariant c.loop-test.false
 
 -- the search closes the other needs
-pub judge-records-spec : {M : Type 1} → statement M
-judge-records-spec =
+pub judge_records_spec : {M : Type 1} → statement M
+judge_records_spec =
     tie.close
     (tie.spec
-    invariant-loop decreases-loop (λ c κs. search rules) (λ c κs. search rules) loop-holds take-brief-requires (λ c. search rules) add-passed loop-less loop-again
-    (λ c. search rules) slice-aggregate-take-record take-record-requires (λ c. search rules) returns (λ c. search rules) returns-2
-    (λ c. search rules) returns-3 (λ c. search rules) add-passed-2 loop-less-2 loop-again-2 returns-4)
+    invariant_loop decreases_loop (λ c κs. search rules) (λ c κs. search rules) loop_holds take_brief_requires (λ c. search rules) add_passed loop_less loop_again
+    (λ c. search rules) slice_aggregate_take_record take_record_requires (λ c. search rules) returns (λ c. search rules) returns_2
+    (λ c. search rules) returns_3 (λ c. search rules) add_passed_2 loop_less_2 loop_again_2 returns_4)

@@ -2,19 +2,19 @@
 use borrow.Author.Tests.{lt-ltb, le-ltb}
 use Rattle.format.specs.Bytes.{pick}
 use mathlib.Core.Path.{◌∙◌}
-use Rattle.format.specs.Items.{oldHighItem, stationItem, lineItem, oldPart}
-use Rattle.kind.specs.Kinds.{labelledBy}
+use Rattle.format.specs.Items.{old_high_item, station_item, line_item, old_part}
+use Rattle.kind.specs.Kinds.{labelled_by}
 use borrow.Author.Rules.{rules}
 use Rattle.kind.proofs.old_high.Statement.{statement}
 use Rattle.kind.proofs.old_high.Tie as tie
 
-pub old-high-spec : {M : Type 1} → statement M
-unfolding oldHighItem stationItem lineItem labelledBy pick
-old-high-spec =
+pub old_high_spec : {M : Type 1} → statement M
+unfolding old_high_item station_item line_item labelled_by pick
+old_high_spec =
     tie.close
     (tie.spec
     (λ c s. simp (lt-ltb _ _ c.before.if1.true, lt-ltb _ _ c.if2.true)) (λ c κs. search rules)
-    (λ c s. c.section.ensures.0 oldPart s ∙ simp (lt-ltb _ _ c.before.before.if1.true, le-ltb _ _ c.before.if2.false))
+    (λ c s. c.section.ensures.0 old_part s ∙ simp (lt-ltb _ _ c.before.before.if1.true, le-ltb _ _ c.before.if2.false))
     (λ c s. simp (le-ltb _ _ c.before.if1.false, lt-ltb _ _ c.if3.true))
     (λ c s. simp (le-ltb _ _ c.before.before.if1.false, le-ltb _ _ c.before.if3.false, lt-ltb _ _ c.if4.true))
     (λ c s. simp (le-ltb _ _ c.before.before.before.if1.false, le-ltb _ _ c.before.before.if3.false, le-ltb _ _ c.before.if4.false, lt-ltb _ _ c.if5.true))

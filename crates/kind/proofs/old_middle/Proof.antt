@@ -2,14 +2,14 @@
 use borrow.Author.Tests.{lt-ltb, le-ltb, eq-eqb, ne_eqb}
 use Rattle.format.specs.Bytes.{pick}
 use mathlib.Core.Path.{◌∙◌}
-use Rattle.format.specs.Items.{oldMiddleItem}
+use Rattle.format.specs.Items.{old_middle_item}
 use borrow.Author.Rules.{rules}
 use Rattle.kind.proofs.old_middle.Statement.{statement}
 use Rattle.kind.proofs.old_middle.Tie as tie
 
-pub old-middle-spec : {M : Type 1} → statement M
-unfolding oldMiddleItem pick
-old-middle-spec =
+pub old_middle_spec : {M : Type 1} → statement M
+unfolding old_middle_item pick
+old_middle_spec =
     tie.close
     (tie.spec
     (λ c p s. simp (eq-eqb _ _ c.before.if1.true, lt-ltb _ _ c.if2.true))

@@ -10,21 +10,21 @@ use Rattle.laying.proofs.lay_line.Statement.{statement}
 use Rattle.laying.proofs.lay_line.Tie as tie
 
 -- a position is not set and unset
-not-both : {X : Type 0} (p : Point) → Unset ≡ Stands p → X
-not-both p e = absurd (let z : ◌≡◌ {A = ℕ} 0 1 = cc in omega arith)
+not_both : {X : Type 0} (p : Point) → Unset ≡ Stands p → X
+not_both p e = absurd (let z : ◌≡◌ {A = ℕ} 0 1 = cc in omega arith)
 
 returns : tie.Need-returns
 returns c =
     let e = c.enum_told.given.1 in
-    record { unset = λ q. (refl, refl, refl); led = λ from q. not-both from (sym e ∙ q) }
+    record { unset = λ q. (refl, refl, refl); led = λ from q. not_both from (sym e ∙ q) }
 
-returns-2 : tie.Need-returns-2
-returns-2 c =
+returns_2 : tie.Need-returns-2
+returns_2 c =
     let L = c.before.before.lay-leg.ensures in
     let g = c.before.before.before.before.before.leg-at.ensures in
     let e = c.before.before.before.before.before.before.before.before.position.given.1 in
     record {
-      unset = λ q. not-both _ (sym q ∙ e);
+      unset = λ q. not_both _ (sym q ∙ e);
       led = λ from q.
           let y : Stands from ≡ Stands c.before.before.before.before.before.before.before.before.position.given.0.0 = sym q ∙ e in
           let z : from ≡ c.before.before.before.before.before.before.before.before.position.given.0.0 = cc in
@@ -32,8 +32,8 @@ returns-2 c =
     }
 
 -- the search closes the other needs
-pub lay-line-spec : {M : Type 1} → statement M
-lay-line-spec =
+pub lay_line_spec : {M : Type 1} → statement M
+lay_line_spec =
     tie.close
     (tie.spec (λ c. search rules) (λ c. search rules) (λ c. search rules) (λ c κs. search rules) (λ c κs. search rules) returns
-    (λ c. search rules) returns-2)
+    (λ c. search rules) returns_2)

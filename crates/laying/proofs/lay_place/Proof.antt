@@ -8,7 +8,7 @@ returns c =
     rw c.before.before.before.before.before.station-at.ensures at c.before.before.lay-station.ensures
 
 -- the search closes the other needs
-pub lay-place-spec : {M : Type 1} → statement M
-lay-place-spec =
+pub lay_place_spec : {M : Type 1} → statement M
+lay_place_spec =
     tie.close
     (tie.spec (λ c. search rules) (λ c κs. search rules) (λ c κs. search rules) (λ c. search rules) returns)

@@ -5,7 +5,7 @@ use Rattle.laying.proofs.lay_section_freely.Statement.{statement}
 use Rattle.laying.proofs.lay_section_freely.Tie as tie
 
 -- the search closes all needs
-pub lay-section-freely-spec : {M : Type 1} → statement M
-lay-section-freely-spec =
+pub lay_section_freely_spec : {M : Type 1} → statement M
+lay_section_freely_spec =
     tie.close (tie.spec (λ c κs. search rules) (λ c. search rules) (λ c. search rules) (λ c. search rules) (λ c κs. search rules) (λ c. search rules)
     (λ c. search (rules, extends)))

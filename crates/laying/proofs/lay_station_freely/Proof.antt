@@ -5,7 +5,7 @@ use Rattle.laying.proofs.lay_station_freely.Statement.{statement}
 use Rattle.laying.proofs.lay_station_freely.Tie as tie
 
 -- the search closes all needs
-pub lay-station-freely-spec : {M : Type 1} → statement M
-lay-station-freely-spec =
+pub lay_station_freely_spec : {M : Type 1} → statement M
+lay_station_freely_spec =
     tie.close (tie.spec (λ c κs. search rules) (λ c. search rules) (λ c. search rules) (λ c. search rules) (λ c κs. search rules) (λ c. search rules)
     (λ c. search (rules, extends)))

@@ -1,12 +1,12 @@
 -- `laying::put_section_freely` meets its contract. Assumes nothing.
-use Rattle.laying.proofs.Freely.{freely-laid}
+use Rattle.laying.proofs.Freely.{freely_laid}
 use borrow.Author.Rules.{rules}
 use Rattle.laying.proofs.put_section_freely.Statement.{statement}
 use Rattle.laying.proofs.put_section_freely.Tie as tie
 
 -- the search closes all needs
-pub put-section-freely-spec : {M : Type 1} → statement M
-put-section-freely-spec =
-    tie.close (tie.spec (λ c. search rules) (λ c. search rules) (λ c. search rules) (λ c. search (rules, freely-laid)) (λ c. search rules) (λ c. search rules)
+pub put_section_freely_spec : {M : Type 1} → statement M
+put_section_freely_spec =
+    tie.close (tie.spec (λ c. search rules) (λ c. search rules) (λ c. search rules) (λ c. search (rules, freely_laid)) (λ c. search rules) (λ c. search rules)
     (λ c. search rules) (λ c κs. search rules) (λ c. search rules) (λ c. search rules) (λ c. search rules) (λ c κs. search rules) (λ c. search rules)
-    (λ c. search (rules, freely-laid)))
+    (λ c. search (rules, freely_laid)))

@@ -5,7 +5,7 @@ use Rattle.layout.proofs.lay_short_leg.Statement.{statement}
 use Rattle.layout.proofs.lay_short_leg.Tie as tie
 
 -- the search closes all needs
-pub lay-short-leg-spec : {M : Type 1} → statement M
-lay-short-leg-spec =
+pub lay_short_leg_spec : {M : Type 1} → statement M
+lay_short_leg_spec =
     tie.close (tie.spec (λ c. search rules) (λ c. search rules) (λ c. search rules) (λ c. search (rules, shorts)) (λ c. search rules) (λ c. search rules)
     (λ c. search rules) (λ c κs. search rules) (λ c κs. search rules) (λ c. search rules) (λ c. search (rules, shorts)))

@@ -5,7 +5,7 @@ use Rattle.layout.proofs.lay_short_section.Statement.{statement}
 use Rattle.layout.proofs.lay_short_section.Tie as tie
 
 -- the search closes all needs
-pub lay-short-section-spec : {M : Type 1} → statement M
-lay-short-section-spec =
+pub lay_short_section_spec : {M : Type 1} → statement M
+lay_short_section_spec =
     tie.close (tie.spec (λ c. search rules) (λ c. search rules) (λ c. search rules) (λ c. search (rules, shorts)) (λ c. search rules) (λ c. search rules)
     (λ c. search rules) (λ c κs. search rules) (λ c κs. search rules) (λ c. search rules) (λ c. search (rules, shorts)))

@@ -13,7 +13,7 @@ returns c =
     c.before.before.before.before.before.error-bytes.ensures
 
 -- the search closes the other needs
-pub put-error-spec : {M : Type 1} → statement M
-put-error-spec =
+pub put_error_spec : {M : Type 1} → statement M
+put_error_spec =
     tie.close
     (tie.spec (λ c κs. search rules) (λ c. search rules) (λ c κs. search rules) (λ c. search rules) returns)

@@ -6,7 +6,7 @@ use mathlib.Core.Path.{◌≡◌, ap, ◌∙◌}
 use mathlib.Core.List.{List}
 use lib.ListN.{length}
 use Rattle.wire.specs.Laid.{laid}
-use Rattle.layout.proofs.Laws.{front-laid, front-parts}
+use Rattle.layout.proofs.Laws.{front_laid, front_parts}
 use Rattle.layout.proofs.put_front.Statement.{statement}
 use Rattle.layout.proofs.put_front.Tie as tie
 
@@ -21,11 +21,11 @@ returns c =
     (c.before.before.before.before.before.before.put-at.ensures ∙ ap (λ (x : List ℕ). laid x 7 title)
     c.before.before.before.before.before.before.before.before.before.before.copy.ensures) in
     let h : length head + length title + length time ≤ length a.args.sheet.now = omega (arith, a.requires) in
-    e ∙ (rw n at (front-laid a.args.sheet.now head title time h)) ∙ rw
-    (c.before.before.before.before.before.before.before.before.before.before.before.before.before.front-head.ensures, front-parts)
+    e ∙ (rw n at (front_laid a.args.sheet.now head title time h)) ∙ rw
+    (c.before.before.before.before.before.before.before.before.before.before.before.before.before.front-head.ensures, front_parts)
 
 -- the search closes the other needs
-pub put-front-spec : {M : Type 1} → statement M
-put-front-spec =
+pub put_front_spec : {M : Type 1} → statement M
+put_front_spec =
     tie.close (tie.spec (λ c κs. search rules) (λ c. search rules) (λ c κs. search rules) (λ c κs. search rules) (λ c. search rules)
     (λ c κs. search rules) (λ c. search rules) returns)

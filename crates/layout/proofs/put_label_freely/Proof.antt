@@ -4,7 +4,7 @@ use mathlib.Core.Path.{◌≡◌}
 use mathlib.Core.List.{append-nil}
 use lib.ListN.{length, take}
 use lib.Seq.{length-take-le}
-use Rattle.layout.proofs.Freely.{freely-laid, label-over}
+use Rattle.layout.proofs.Freely.{freely_laid, label_over}
 use borrow.Author.Rules.{rules}
 use Rattle.layout.proofs.put_label_freely.Statement.{statement}
 use Rattle.layout.proofs.put_label_freely.Tie as tie
@@ -14,26 +14,26 @@ returns c =
     let a = c.before.before.before.before.before.before.before.before in
     let l = take a.args.len a.args.bytes.now in
     let n : length l ≡ a.args.len = length-take-le a.args.len a.args.bytes.now (omega (arith, a.requires)) in
-    freely-laid _ _ l _ (omega (arith, a.requires)) (rw (append-nil l) at c.before.before.put-joined.ensures)
+    freely_laid _ _ l _ (omega (arith, a.requires)) (rw (append-nil l) at c.before.before.put-joined.ensures)
 
-returns-2 : tie.Need-returns-2
-returns-2 c =
+returns_2 : tie.Need-returns-2
+returns_2 c =
     let a = c.before.before.before.before.before.before.before.before.before in
     let l = take a.args.len a.args.bytes.now in
     let n : length l ≡ a.args.len = length-take-le a.args.len a.args.bytes.now (omega (arith, a.requires)) in
-    freely-laid _ _ l _ (omega (arith, a.requires)) (rw (append-nil l) at c.before.before.put-joined2.ensures)
+    freely_laid _ _ l _ (omega (arith, a.requires)) (rw (append-nil l) at c.before.before.put-joined2.ensures)
 
-returns-3 : tie.Need-returns-3
-returns-3 c =
+returns_3 : tie.Need-returns-3
+returns_3 c =
     let a = c.before.before.before.before.before.before.before.before in
-    label-over a.args.out.now a.args.bytes.now _ a.args.k a.args.len
+    label_over a.args.out.now a.args.bytes.now _ a.args.k a.args.len
     c.before.before.before.before.if2.false c.before.before.before.before.before.if1.false (omega (arith, a.requires))
     c.before.before.put_three.ensures
 
 -- the search closes the other needs
-pub put-label-freely-spec : {M : Type 1} → statement M
-put-label-freely-spec =
+pub put_label_freely_spec : {M : Type 1} → statement M
+put_label_freely_spec =
     tie.close
     (tie.spec (λ c. search rules) (λ c κs. search rules) (λ c. search rules) returns (λ c. search rules) (λ c. search rules)
-    (λ c κs. search rules) (λ c. search rules) returns-2 (λ c. search rules) (λ c. search rules) (λ c. search rules)
-    (λ c κs. search rules) (λ c. search rules) returns-3)
+    (λ c κs. search rules) (λ c. search rules) returns_2 (λ c. search rules) (λ c. search rules) (λ c. search rules)
+    (λ c κs. search rules) (λ c. search rules) returns_3)

@@ -6,12 +6,12 @@ use native.Mathlib.Omega.{arith}
 use lib.ListN.{length, take}
 use lib.Seq.{length-take-le}
 use Rattle.format.specs.Bytes.{over}
-use Rattle.format.specs.Sheet.{sheetVersion, layout}
-use Rattle.format.specs.Fields.{recordOf, recordSize}
+use Rattle.format.specs.Sheet.{sheet_version, layout}
+use Rattle.format.specs.Fields.{record_of, record_size}
 use Rattle.format.specs.declared.Fields.{Fields}
-use Rattle.format.proofs.SheetLaws.{layout-size}
+use Rattle.format.proofs.SheetLaws.{layout_size}
 use Rattle.wire.specs.Laid.{laid}
-use Rattle.layout.proofs.Laws.{frontOf, frontSize, label_of, layout-length, record-over, error-parts}
+use Rattle.layout.proofs.Laws.{front_of, front_size, label_of, layout_length, record_over, error_parts}
 use borrow.Author.Rules.{rules}
 use Rattle.layout.proofs.put_record.Statement.{statement}
 use Rattle.layout.proofs.put_record.Tie as tie
@@ -24,20 +24,20 @@ module _ (y : tie.Start) {g : Fields} (e : y.args.fields ≡ g) where
   abbrev label : List ℕ
   label = take y.args.len y.args.bytes.now
 
-  fits : recordSize g y.args.len ≤ length S
+  fits : record_size g y.args.len ≤ length S
   fits = rw e at y.pre.1
 
-  put : (x z : List ℕ) → label_of (recordOf g label) ≡ label → x ≡ over (frontOf (recordOf g label) y.args.len) S
-      → z ≡ laid x (frontSize (recordOf g label)) label → z ≡ over (layout sheetVersion (recordOf y.args.fields label)) S
+  put : (x z : List ℕ) → label_of (record_of g label) ≡ label → x ≡ over (front_of (record_of g label) y.args.len) S
+      → z ≡ laid x (front_size (record_of g label)) label → z ≡ over (layout sheet_version (record_of y.args.fields label)) S
   put x z l ex ez =
-      let r = recordOf g label in
+      let r = record_of g label in
       let w : length label ≡ y.args.len = length-take-le y.args.len y.args.bytes.now (omega (arith, y.pre)) in
-      let h : recordSize g y.args.len ≡ frontSize r + y.args.len = (rw w at (sym (layout-size g label))) ∙ layout-length r label y.args.len l w in
-      record-over r label S x z y.args.len l w ex ez (omega (arith, h, fits)) ∙ ap (λ (f : Fields). over (layout sheetVersion (recordOf f label)) S) (sym e)
+      let h : record_size g y.args.len ≡ front_size r + y.args.len = (rw w at (sym (layout_size g label))) ∙ layout_length r label y.args.len l w in
+      record_over r label S x z y.args.len l w ex ez (omega (arith, h, fits)) ∙ ap (λ (f : Fields). over (layout sheet_version (record_of f label)) S) (sym e)
 
 -- the search closes the other needs
-pub put-record-spec : {M : Type 1} → statement M
-put-record-spec =
+pub put_record_spec : {M : Type 1} → statement M
+put_record_spec =
     tie.close (tie.spec (λ c. search rules)
     (λ c κs. search (rules, fits c.before.before.before.before.before c.before.before.fields.given.1))
     (λ c κs. let p = c.before.before.before.before.before.before in search (rules, fits p.before.before.before p.fields.given.1))
@@ -52,4 +52,4 @@ put-record-spec =
     search (rules, put p.before.before.before p.fields2.given.1)) (λ c. search rules)
     (λ c. let p = c.before.before.before.before.before.before.before.before.before in
     search (rules, put p.before.before.before p.fields3.given.1)) (λ c. search rules)
-    (λ c. c.before.before.put-error.ensures ∙ rw (error-parts, c.before.before.before.before.before.fields4.given.1)))
+    (λ c. c.before.before.put-error.ensures ∙ rw (error_parts, c.before.before.before.before.before.fields4.given.1)))

@@ -17,8 +17,8 @@ returns c =
     (rw (k.0, b.0) (start_word _ _ _ a.requires.0 (rw k.0 at k.1) (rw b.0 at b.1)))
 
 -- the search closes the other needs
-pub put-start-spec : {M : Type 1} → statement M
-put-start-spec =
+pub put_start_spec : {M : Type 1} → statement M
+put_start_spec =
     tie.close
     (tie.spec (λ c κs. search rules) (λ c κs. search rules) (λ c. search rules) (λ c. search rules) (λ c. search rules)
     (λ c. search rules) (λ c. search rules) (λ c κs. search rules) (λ c. search rules) returns)

@@ -18,8 +18,8 @@ returns c =
     (omega arith) (omega arith) (omega arith) (omega (arith, a.requires)) (omega (arith, a.requires))
 
 -- the search closes the other needs
-pub put-three-spec : {M : Type 1} → statement M
-put-three-spec =
+pub put_three_spec : {M : Type 1} → statement M
+put_three_spec =
     tie.close
     (tie.spec (λ c κs. search rules) (λ c. search rules) (λ c. search rules) (λ c. search rules) (λ c. search rules)
     (λ c. search rules) (λ c. search rules) (λ c κs. search rules) (λ c. search rules) (λ c. search rules) (λ c. search rules)

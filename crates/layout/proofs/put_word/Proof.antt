@@ -1,12 +1,12 @@
 -- `layout::put_word` meets its contract. Assumes nothing.
 use native.Mathlib.Omega.{arith}
-use Rattle.layout.proofs.Laws.{part-laid}
+use Rattle.layout.proofs.Laws.{part_laid}
 use borrow.Author.Rules.{rules}
 use Rattle.layout.proofs.put_word.Statement.{statement}
 use Rattle.layout.proofs.put_word.Tie as tie
 
 -- the search closes the other needs
-pub put-word-spec : {M : Type 1} → statement M
-put-word-spec =
+pub put_word_spec : {M : Type 1} → statement M
+put_word_spec =
     tie.close (tie.spec (λ c. search rules) (λ c. search rules) (λ c. search rules) (λ c κs. search rules) (λ c. search rules)
-    (λ c. part-laid _ _ _ _ (omega (arith, c.before.before.before.before.before.requires)) c.before.before.put-be32.ensures))
+    (λ c. part_laid _ _ _ _ (omega (arith, c.before.before.before.before.before.requires)) c.before.before.put-be32.ensures))

@@ -15,18 +15,18 @@ unfolding part_at pick
 returns c =
     (search (cases, c.if1.true), (omega arith, omega arith))
 
-returns-2 : tie.Need-returns-2
+returns_2 : tie.Need-returns-2
 unfolding part_at pick
-returns-2 c =
-    let q = c.old-part.ensures in
+returns_2 c =
+    let q = c.old_part_lem.ensures in
     (q.0 ∙ search (cases, c.before.before.if1.false), q.1)
 
-returns-3 : tie.Need-returns-3
+returns_3 : tie.Need-returns-3
 unfolding part_at pick
-returns-3 c =
-    let q = c.new-part.ensures in
+returns_3 c =
+    let q = c.new_part_lem.ensures in
     (q.0 ∙ search (cases, c.before.before.if1.false), q.1)
 
 -- the search closes the other needs
-pub part-of-spec : {M : Type 1} → statement M
-part-of-spec = tie.close (tie.spec returns (λ c κs. search rules) returns-2 (λ c κs. search rules) returns-3)
+pub part_of_spec : {M : Type 1} → statement M
+part_of_spec = tie.close (tie.spec returns (λ c κs. search rules) returns_2 (λ c κs. search rules) returns_3)

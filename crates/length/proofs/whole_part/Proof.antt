@@ -8,9 +8,9 @@ use Rattle.length.proofs.whole_part.Tie as tie
 
 ruleset cases = (lt-ltb, le-ltb, eq-eqb, ne_eqb)
 
-pub whole-part-spec : {M : Type 1} → statement M
+pub whole_part_spec : {M : Type 1} → statement M
 unfolding pick
-whole-part-spec =
+whole_part_spec =
     tie.close
     (tie.spec (λ c. search rules) (λ c. search rules)
     (λ c. omega (arith, rw c.before.p.given.1 at c.before.before.before.requires.0))

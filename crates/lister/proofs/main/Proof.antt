@@ -6,19 +6,19 @@ use borrow.Author.Rules.{rules}
 use Rattle.lister.proofs.main.Statement.{statement}
 use Rattle.lister.proofs.main.Tie as tie
 
-text-of-requires : tie.Need-text-of-requires
-text-of-requires c κs =
+text_of_requires : tie.Need-text-of-requires
+text_of_requires c κs =
     let k = c.before.before.before.before.read-full.auto.1.0 in
     let n = c.before.before.before.before.read-full.ensures in
     (omega arith, omega (arith, n), omega arith, omega arith)
 
-array-share-prefix-out : tie.Need-array-share-prefix-out
-array-share-prefix-out c =
+array_share_prefix_out : tie.Need-array-share-prefix-out
+array_share_prefix_out c =
     let k = c.before.before.text_of.auto.1.1.0 in
     omega arith
 
-slice-aggregate-write-all : tie.Need-slice-aggregate-write-all
-slice-aggregate-write-all c =
+slice_aggregate_write_all : tie.Need-slice-aggregate-write-all
+slice_aggregate_write_all c =
     let k = c.before.before.before.text_of.auto.1.1.0 in
     sym (length-take-le _ _ (omega arith))
 
@@ -26,5 +26,5 @@ slice-aggregate-write-all c =
 pub main_spec : {M : Type 1} → statement M
 main_spec =
     tie.close
-    (tie.spec (λ c. search rules) (λ c κs. search rules) (λ c. search rules) (λ c. search rules) (λ c. search rules) text-of-requires
-    array-share-prefix-out slice-aggregate-write-all (λ c κs. search rules) (λ c. search rules))
+    (tie.spec (λ c. search rules) (λ c κs. search rules) (λ c. search rules) (λ c. search rules) (λ c. search rules) text_of_requires
+    array_share_prefix_out slice_aggregate_write_all (λ c κs. search rules) (λ c. search rules))

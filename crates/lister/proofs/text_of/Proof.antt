@@ -3,16 +3,16 @@ use native.Mathlib.Omega.{arith}
 use mathlib.Core.Path.{sym, ◌∙◌}
 use lib.ListN.{take, length-take}
 use lib.Seq.{length-take-le}
-use Rattle.read.proofs.Room.{read-room}
-use Rattle.listing.proofs.Lister.{prints-too-long, bytes_take}
-use Rattle.listing.proofs.Stores.{wrote-front}
-use Rattle.lister.proofs.Laws.{text-refused, text-listing}
+use Rattle.read.proofs.Room.{read_room}
+use Rattle.listing.proofs.Lister.{prints_too_long, bytes_take}
+use Rattle.listing.proofs.Stores.{wrote_front}
+use Rattle.lister.proofs.Laws.{text_refused, text_listing}
 use borrow.Author.Rules.{rules}
 use Rattle.lister.proofs.text_of.Statement.{statement}
 use Rattle.lister.proofs.text_of.Tie as tie
 
-slice-aggregate-file : tie.Need-slice-aggregate-file
-slice-aggregate-file c =
+slice_aggregate_file : tie.Need-slice-aggregate-file
+slice_aggregate_file c =
     sym (length-take-le _ _ c.before.before.before.before.requires.1)
 
 returns : tie.Need-returns
@@ -20,43 +20,43 @@ returns c =
     let p = c.before.before.before.before.before.before.before.before.before.before.requires in
     let l = length-take-le c.before.before.before.before.before.before.before.before.before.before.args.n c.before.before.before.before.before.before.before.before.before.before.args.input.now p.1 in
     let W = c.before.before.list.ensures in
-    (omega (arith, W.1), wrote-front _ _ _ _ W.0 (omega (arith, W.1, p.3)) ∙ sym (prints-too-long (take c.before.before.before.before.before.before.before.before.before.before.args.n c.before.before.before.before.before.before.before.before.before.before.args.input.now) (omega (arith, l, c.before.before.before.before.before.if1.true))))
+    (omega (arith, W.1), wrote_front _ _ _ _ W.0 (omega (arith, W.1, p.3)) ∙ sym (prints_too_long (take c.before.before.before.before.before.before.before.before.before.before.args.n c.before.before.before.before.before.before.before.before.before.before.args.input.now) (omega (arith, l, c.before.before.before.before.before.if1.true))))
 
-slice-reshare-prefix-list : tie.Need-slice-reshare-prefix-list
-slice-reshare-prefix-list c =
-    let h = read-room _ _ _ _ _ (rw c.before.a2.given.1 at c.before.before.before.before.before.read.ensures.0) in
+slice_reshare_prefix_list : tie.Need-slice-reshare-prefix-list
+slice_reshare_prefix_list c =
+    let h = read_room _ _ _ _ _ (rw c.before.a2.given.1 at c.before.before.before.before.before.read.ensures.0) in
     let k = c.before.before.before.before.before.read.auto.1.0 in
     omega arith
 
-slice-aggregate-list-3 : tie.Need-slice-aggregate-list-3
-slice-aggregate-list-3 c =
-    let h = read-room _ _ _ _ _ (rw c.before.before.a2.given.1 at c.before.before.before.before.before.before.read.ensures.0) in
+slice_aggregate_list_3 : tie.Need-slice-aggregate-list-3
+slice_aggregate_list_3 c =
+    let h = read_room _ _ _ _ _ (rw c.before.before.a2.given.1 at c.before.before.before.before.before.before.read.ensures.0) in
     let k = c.before.before.before.before.before.before.read.auto.1.0 in
     sym (length-take-le _ _ (omega arith))
 
-returns-2 : tie.Need-returns-2
-returns-2 c =
+returns_2 : tie.Need-returns-2
+returns_2 c =
     let p = c.before.before.before.before.before.before.before.before.before.before.before.before.before.before.before.before.before.requires in
     let l = length-take-le c.before.before.before.before.before.before.before.before.before.before.before.before.before.before.before.before.before.args.n c.before.before.before.before.before.before.before.before.before.before.before.before.before.before.before.before.before.args.input.now p.1 in
     let W = c.before.before.list2.ensures in
     let e = rw c.before.before.before.before.before.before.a.given.1 at c.before.before.before.before.before.before.before.before.before.before.read.ensures.0 in
-    (omega (arith, W.1), wrote-front _ _ _ _ W.0 (omega (arith, W.1, p.3)) ∙ text-refused (take c.before.before.before.before.before.before.before.before.before.before.before.before.before.before.before.before.before.args.n c.before.before.before.before.before.before.before.before.before.before.before.before.before.before.before.before.before.args.input.now) c.before.before.before.before.before.before.before.before.before.before.before.before.before.before.before.before.before.args.sheet.now p.2 (omega (arith, l, c.before.before.before.before.before.before.before.before.before.before.before.before.if1.false)) e)
+    (omega (arith, W.1), wrote_front _ _ _ _ W.0 (omega (arith, W.1, p.3)) ∙ text_refused (take c.before.before.before.before.before.before.before.before.before.before.before.before.before.before.before.before.before.args.n c.before.before.before.before.before.before.before.before.before.before.before.before.before.before.before.before.before.args.input.now) c.before.before.before.before.before.before.before.before.before.before.before.before.before.before.before.before.before.args.sheet.now p.2 (omega (arith, l, c.before.before.before.before.before.before.before.before.before.before.before.before.if1.false)) e)
 
-returns-3 : tie.Need-returns-3
-returns-3 c =
+returns_3 : tie.Need-returns-3
+returns_3 c =
     let p = c.before.before.before.before.before.before.before.before.before.before.before.before.before.before.before.before.before.requires in
     let l = length-take-le c.before.before.before.before.before.before.before.before.before.before.before.before.before.before.before.before.before.args.n c.before.before.before.before.before.before.before.before.before.before.before.before.before.before.before.before.before.args.input.now p.1 in
     let W = c.before.before.list3.ensures in
     let e = rw c.before.before.before.before.before.before.a2.given.1 at c.before.before.before.before.before.before.before.before.before.before.read.ensures.0 in
     let k = c.before.before.before.before.before.before.before.before.before.before.read.auto.1.0 in
     let n = simp length-take at W.1 in
-    (omega (arith, n, k, p.2), wrote-front _ _ _ _ W.0 (omega (arith, n, k, p.2, p.3)) ∙ text-listing (take c.before.before.before.before.before.before.before.before.before.before.before.before.before.before.before.before.before.args.n c.before.before.before.before.before.before.before.before.before.before.before.before.before.before.before.before.before.args.input.now) c.before.before.before.before.before.before.before.before.before.before.before.before.before.before.before.before.before.args.sheet.now p.2 (omega (arith, l, c.before.before.before.before.before.before.before.before.before.before.before.before.if1.false)) (bytes_take c.before.before.before.before.before.before.before.before.before.before.before.before.before.before.before.before.before.args.n c.before.before.before.before.before.before.before.before.before.before.before.before.before.before.before.before.before.args.input.now (λ i. (c.before.before.before.before.before.before.before.before.before.before.before.before.before.before.before.before.shared-slice-known.given i).fits)) _ _ _ _ e c.before.before.before.before.before.before.before.before.before.before.read.ensures.1)
+    (omega (arith, n, k, p.2), wrote_front _ _ _ _ W.0 (omega (arith, n, k, p.2, p.3)) ∙ text_listing (take c.before.before.before.before.before.before.before.before.before.before.before.before.before.before.before.before.before.args.n c.before.before.before.before.before.before.before.before.before.before.before.before.before.before.before.before.before.args.input.now) c.before.before.before.before.before.before.before.before.before.before.before.before.before.before.before.before.before.args.sheet.now p.2 (omega (arith, l, c.before.before.before.before.before.before.before.before.before.before.before.before.if1.false)) (bytes_take c.before.before.before.before.before.before.before.before.before.before.before.before.before.before.before.before.before.args.n c.before.before.before.before.before.before.before.before.before.before.before.before.before.before.before.before.before.args.input.now (λ i. (c.before.before.before.before.before.before.before.before.before.before.before.before.before.before.before.before.shared-slice-known.given i).fits)) _ _ _ _ e c.before.before.before.before.before.before.before.before.before.before.read.ensures.1)
 
 -- the search closes the other needs
-pub text-of-spec : {M : Type 1} → statement M
-text-of-spec =
+pub text_of_spec : {M : Type 1} → statement M
+text_of_spec =
     tie.close
-    (tie.spec slice-aggregate-file (λ c. search rules) (λ c κs. search rules) (λ c. search rules) returns (λ c κs. search rules)
-    (λ c. search rules) (λ c. search rules) (λ c κs. search rules) (λ c. search rules) slice-reshare-prefix-list
-    slice-aggregate-list-3 (λ c κs. search rules) (λ c. search rules) (λ c. search rules) returns-2 (λ c. search rules)
-    (λ c. search rules) returns-3)
+    (tie.spec slice_aggregate_file (λ c. search rules) (λ c κs. search rules) (λ c. search rules) returns (λ c κs. search rules)
+    (λ c. search rules) (λ c. search rules) (λ c κs. search rules) (λ c. search rules) slice_reshare_prefix_list
+    slice_aggregate_list_3 (λ c κs. search rules) (λ c. search rules) (λ c. search rules) returns_2 (λ c. search rules)
+    (λ c. search rules) returns_3)

@@ -16,7 +16,7 @@ returns c =
     (simp (append_assoc, append-nil))
 
 -- the search closes the other needs
-pub dimensions-spec : {M : Type 1} → statement M
-dimensions-spec =
+pub dimensions_spec : {M : Type 1} → statement M
+dimensions_spec =
     tie.close
     (tie.spec (λ c κs. search rules) (λ c κs. search rules) (λ c κs. search rules) (λ c κs. search rules) (λ c. search rules) returns)

@@ -4,9 +4,9 @@ use Rattle.listing.specs.Text.{plain}
 use Rattle.listing.proofs.is_plain.Statement.{statement}
 use Rattle.listing.proofs.is_plain.Tie as tie
 
-pub is-plain-spec : {M : Type 1} → statement M
+pub is_plain_spec : {M : Type 1} → statement M
 unfolding plain
-is-plain-spec =
+is_plain_spec =
     tie.close
     (tie.spec (λ c. simp (lt-leb _ _ c.if1.true))
     (λ c. simp (le-leb _ _ c.before.if1.false, lt-leb _ _ c.if2.true))

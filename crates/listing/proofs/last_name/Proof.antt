@@ -11,5 +11,5 @@ returns c =
     put_as (put_then c.before.before.before.before.before.before.name.ensures c.before.before.put.ensures) (omega arith) refl
 
 -- the search closes the other needs
-pub last-name-spec : {M : Type 1} → statement M
-last-name-spec = tie.close (tie.spec (λ c κs. search rules) (λ c κs. search rules) (λ c. search rules) returns)
+pub last_name_spec : {M : Type 1} → statement M
+last_name_spec = tie.close (tie.spec (λ c κs. search rules) (λ c κs. search rules) (λ c. search rules) returns)

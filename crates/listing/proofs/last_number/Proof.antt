@@ -11,5 +11,5 @@ returns c =
     put_as (put_then c.before.before.before.before.before.before.number.ensures c.before.before.put.ensures) (omega arith) refl
 
 -- the search closes the other needs
-pub last-number-spec : {M : Type 1} → statement M
-last-number-spec = tie.close (tie.spec (λ c κs. search rules) (λ c κs. search rules) (λ c. search rules) returns)
+pub last_number_spec : {M : Type 1} → statement M
+last_number_spec = tie.close (tie.spec (λ c κs. search rules) (λ c κs. search rules) (λ c. search rules) returns)

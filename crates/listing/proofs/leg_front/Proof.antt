@@ -1,6 +1,6 @@
 -- `listing::leg_front` meets its contract: its parts are those of the line. Assumes nothing.
-use Rattle.listing.specs.Lines.{legWord}
-use Rattle.listing.proofs.Parts.{leg-front-parts}
+use Rattle.listing.specs.Lines.{leg_word}
+use Rattle.listing.proofs.Parts.{leg_front_parts}
 use native.Mathlib.Omega.{arith}
 use Rattle.listing.proofs.Stores.{put_then, put_as}
 use borrow.Author.Rules.{rules}
@@ -8,18 +8,18 @@ use Rattle.listing.proofs.leg_front.Statement.{statement}
 use Rattle.listing.proofs.leg_front.Tie as tie
 
 returns : tie.Need-returns
-unfolding legWord
+unfolding leg_word
 returns c =
     let front = put_then (put_then c.before.before.before.before.before.before.before.before.before.before.before.before.before.before.before.before.word.ensures c.before.before.before.before.before.before.before.before.before.before.before.number.ensures)
     c.before.before.before.before.before.before.number2.ensures in
     put_as (put_then front c.before.before.date.ensures) (omega arith)
-    (leg-front-parts c.before.before.before.before.before.before.before.before.before.before.before.before.before.before.before.before.before.before.before.before.args.day
+    (leg_front_parts c.before.before.before.before.before.before.before.before.before.before.before.before.before.before.before.before.before.before.before.before.args.day
     c.before.before.before.before.before.before.before.before.before.before.before.before.index.ensures.0
     c.before.before.before.before.before.before.before.index2.ensures.0)
 
 -- the search closes the other needs
-pub leg-front-spec : {M : Type 1} → statement M
-leg-front-spec =
+pub leg_front_spec : {M : Type 1} → statement M
+leg_front_spec =
     tie.close
     (tie.spec (λ c. search rules) (λ c κs. search rules) (λ c κs. search rules) (λ c κs. search rules) (λ c κs. search rules)
     (λ c κs. search rules) (λ c κs. search rules) (λ c. search rules) returns)

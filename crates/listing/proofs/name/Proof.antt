@@ -11,5 +11,5 @@ returns c =
     put_as (put_then c.before.before.before.before.before.before.put.ensures c.before.before.text.ensures) (omega arith) refl
 
 -- the search closes the other needs
-pub name-spec : {M : Type 1} → statement M
-name-spec = tie.close (tie.spec (λ c κs. search rules) (λ c κs. search rules) (λ c. search rules) returns)
+pub name_spec : {M : Type 1} → statement M
+name_spec = tie.close (tie.spec (λ c κs. search rules) (λ c κs. search rules) (λ c. search rules) returns)

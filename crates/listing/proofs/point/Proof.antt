@@ -15,5 +15,5 @@ returns c =
     (simp (append_assoc, append-nil))
 
 -- the search closes the other needs
-pub point-spec : {M : Type 1} → statement M
-point-spec = tie.close (tie.spec (λ c κs. search rules) (λ c κs. search rules) (λ c κs. search rules) (λ c. search rules) returns)
+pub point_spec : {M : Type 1} → statement M
+point_spec = tie.close (tie.spec (λ c κs. search rules) (λ c κs. search rules) (λ c κs. search rules) (λ c. search rules) returns)

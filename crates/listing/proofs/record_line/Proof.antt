@@ -5,8 +5,8 @@ use borrow.Author.Rules.{rules}
 use Rattle.listing.proofs.record_line.Statement.{statement}
 use Rattle.listing.proofs.record_line.Tie as tie
 
-pub record-line-spec : {M : Type 1} → statement M
-record-line-spec =
+pub record_line_spec : {M : Type 1} → statement M
+record_line_spec =
     tie.close
     (tie.spec (λ c. search rules) (λ c κs. search rules) (λ c. search rules) (λ c κs. search rules) (λ c. search rules) (λ c κs. search rules)
     (λ c. search rules) (λ c κs. search rules) (λ c. search rules)

@@ -1,6 +1,6 @@
 -- `listing::section_line` meets its contract: its parts are those of the line. Assumes nothing.
-use Rattle.listing.specs.Lines.{sectionWord}
-use Rattle.listing.proofs.Parts.{section-parts}
+use Rattle.listing.specs.Lines.{section_word}
+use Rattle.listing.proofs.Parts.{section_parts}
 use native.Mathlib.Omega.{arith}
 use Rattle.listing.proofs.Stores.{put_then, put_as}
 use borrow.Author.Rules.{rules}
@@ -8,16 +8,16 @@ use Rattle.listing.proofs.section_line.Statement.{statement}
 use Rattle.listing.proofs.section_line.Tie as tie
 
 returns : tie.Need-returns
-unfolding sectionWord
+unfolding section_word
 returns c =
     let front = put_then (put_then (put_then c.before.before.before.before.before.before.before.before.before.before.before.before.before.before.before.before.before.before.before.word.ensures
     c.before.before.before.before.before.before.before.before.before.before.before.before.before.before.number.ensures)
     c.before.before.before.before.before.before.before.before.before.before.date.ensures)
     c.before.before.before.before.before.before.dimensions.ensures in
     put_as (put_then front c.before.before.last_name.ensures) (omega arith)
-    (section-parts _ _ c.before.before.before.before.before.before.before.before.before.before.before.before.before.before.before.index.ensures.0)
+    (section_parts _ _ c.before.before.before.before.before.before.before.before.before.before.before.before.before.before.before.index.ensures.0)
 
 -- the search closes the other needs
-pub section-line-spec : {M : Type 1} → statement M
-section-line-spec = tie.close (tie.spec (λ c. search rules) (λ c κs. search rules) (λ c κs. search rules) (λ c κs. search rules) (λ c κs. search rules)
+pub section_line_spec : {M : Type 1} → statement M
+section_line_spec = tie.close (tie.spec (λ c. search rules) (λ c κs. search rules) (λ c κs. search rules) (λ c κs. search rules) (λ c κs. search rules)
     (λ c κs. search rules) (λ c κs. search rules) (λ c. search rules) returns)

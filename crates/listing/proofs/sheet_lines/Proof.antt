@@ -1,45 +1,45 @@
 -- `listing::sheet_lines` meets its contract: the header's line and those of the rest. Assumes nothing.
 use native.Mathlib.Omega.{arith}
 use Rattle.listing.proofs.Stores.{put_then, put_as}
-use Rattle.listing.proofs.Sheets.{title-short, time-short, whole-never, whole-some}
+use Rattle.listing.proofs.Sheets.{title_short, time_short, whole_never, whole_some}
 use borrow.Author.Rules.{rules}
 use Rattle.listing.proofs.sheet_lines.Statement.{statement}
 use Rattle.listing.proofs.sheet_lines.Tie as tie
 
-add-behind : tie.Need-overflow-add-behind
-add-behind c =
+add_behind : tie.Need-overflow-add-behind
+add_behind c =
     let F = rw c.before.front.given.1 at c.before.before.before.read-front.ensures in
-    omega (arith, F.title-short, F.time-short)
+    omega (arith, F.title_short, F.time_short)
 
-add-from : tie.Need-overflow-add-from
-add-from c =
+add_from : tie.Need-overflow-add-from
+add_from c =
     let F = rw c.before.front.given.1 at c.before.before.before.read-front.ensures in
-    omega (arith, F.title-short, F.time-short)
+    omega (arith, F.title_short, F.time_short)
 
-part-header-line-end : tie.Need-slice-bounds-header-line-end
-part-header-line-end c =
+part_header_line_end : tie.Need-slice-bounds-header-line-end
+part_header_line_end c =
     let F = rw c.before.before.front.given.1 at c.before.before.before.before.read-front.ensures in
     let h = F.inside in
     search rules
 
-part-header-line-end-2 : tie.Need-slice-bounds-header-line-end-2
-part-header-line-end-2 c =
+part_header_line_end_2 : tie.Need-slice-bounds-header-line-end-2
+part_header_line_end_2 c =
     let F = rw c.before.before.before.front.given.1 at c.before.before.before.before.before.read-front.ensures in
     let h = F.inside in
     search rules
 
-header-line-requires : tie.Need-header-line-requires
-header-line-requires c κs =
+header_line_requires : tie.Need-header-line-requires
+header_line_requires c κs =
     let F = rw c.before.before.before.before.front.given.1 at c.before.before.before.before.before.before.read-front.ensures in (
       omega arith,
-      title-short _ c.before.before.before.before.before.before.before.before.before.before.args.sheet.now
+      title_short _ c.before.before.before.before.before.before.before.before.before.before.args.sheet.now
           c.before.before.before.before.before.before.before.version_of.ensures 8 F,
-      time-short _ c.before.before.before.before.before.before.before.before.before.before.args.sheet.now
+      time_short _ c.before.before.before.before.before.before.before.before.before.before.args.sheet.now
           c.before.before.before.before.before.before.before.version_of.ensures 8 F,
     )
 
-rest-lines-requires : tie.Need-rest-lines-requires
-rest-lines-requires c κs =
+rest_lines_requires : tie.Need-rest-lines-requires
+rest_lines_requires c κs =
     let F = rw c.before.before.before.before.before.before.before.before.front.given.1 at
     c.before.before.before.before.before.before.before.before.before.before.read-front.ensures in (
       F.inside,
@@ -50,19 +50,19 @@ rest-lines-requires c κs =
 returns : tie.Need-returns
 returns c =
     let F = rw c.enum_told.given.1 at c.before.before.read-front.ensures in
-    absurd (whole-never _ _ c.before.before.before.version_of.ensures 8 F c.before.before.before.before.before.before.requires.1)
+    absurd (whole_never _ _ c.before.before.before.version_of.ensures 8 F c.before.before.before.before.before.before.requires.1)
 
-returns-2 : tie.Need-returns-2
-returns-2 c =
+returns_2 : tie.Need-returns-2
+returns_2 c =
     let F = rw c.before.before.before.before.before.before.before.before.before.before.before.front.given.1 at
     c.before.before.before.before.before.before.before.before.before.before.before.before.before.read-front.ensures in
     put_as (put_then c.before.before.before.before.before.before.header-line.ensures c.before.before.rest_lines.ensures) (omega arith)
-    (whole-some _ c.before.before.before.before.before.before.before.before.before.before.before.before.before.before.before.before.before.args.sheet.now c.before.before.before.before.before.before.before.before.before.before.before.before.before.before.version_of.ensures c.before.before.before.before.before.before.before.before.before.before.before.before.before.before.before.before.before.args.version F)
+    (whole_some _ c.before.before.before.before.before.before.before.before.before.before.before.before.before.before.before.before.before.args.sheet.now c.before.before.before.before.before.before.before.before.before.before.before.before.before.before.version_of.ensures c.before.before.before.before.before.before.before.before.before.before.before.before.before.before.before.before.before.args.version F)
 
 -- the search closes the other needs
-pub sheet-lines-spec : {M : Type 1} → statement M
-sheet-lines-spec =
+pub sheet_lines_spec : {M : Type 1} → statement M
+sheet_lines_spec =
     tie.close
-    (tie.spec (λ c κs. search rules) (λ c κs. search rules) (λ c. search rules) (λ c. search rules) add-behind add-from (λ c. search rules)
-    (λ c. search rules) part-header-line-end (λ c. search rules) (λ c. search rules) part-header-line-end-2 header-line-requires
-    rest-lines-requires returns (λ c. search rules) returns-2)
+    (tie.spec (λ c κs. search rules) (λ c κs. search rules) (λ c. search rules) (λ c. search rules) add_behind add_from (λ c. search rules)
+    (λ c. search rules) part_header_line_end (λ c. search rules) (λ c. search rules) part_header_line_end_2 header_line_requires
+    rest_lines_requires returns (λ c. search rules) returns_2)

@@ -9,5 +9,5 @@ returns c =
     put_then c.before.before.before.before.before.before.put.ensures c.before.before.signed.ensures
 
 -- the search closes the other needs
-pub signed-number-spec : {M : Type 1} → statement M
-signed-number-spec = tie.close (tie.spec (λ c κs. search rules) (λ c κs. search rules) (λ c. search rules) returns)
+pub signed_number_spec : {M : Type 1} → statement M
+signed_number_spec = tie.close (tie.spec (λ c κs. search rules) (λ c κs. search rules) (λ c. search rules) returns)

@@ -1,6 +1,6 @@
 -- `listing::station_line` meets its contract: its parts are those of the line. Assumes nothing.
-use Rattle.listing.specs.Lines.{stationWord}
-use Rattle.listing.proofs.Parts.{station-parts}
+use Rattle.listing.specs.Lines.{station_word}
+use Rattle.listing.proofs.Parts.{station_parts}
 use native.Mathlib.Omega.{arith}
 use Rattle.listing.proofs.Stores.{put_then, put_as}
 use borrow.Author.Rules.{rules}
@@ -8,16 +8,16 @@ use Rattle.listing.proofs.station_line.Statement.{statement}
 use Rattle.listing.proofs.station_line.Tie as tie
 
 returns : tie.Need-returns
-unfolding stationWord
+unfolding station_word
 returns c =
     let front = put_then (put_then c.before.before.before.before.before.before.before.before.before.before.before.before.before.before.before.word.ensures c.before.before.before.before.before.before.before.before.before.before.number.ensures)
     c.before.before.before.before.before.before.point.ensures in
     put_as (put_then front c.before.before.last_name.ensures) (omega arith)
-    (station-parts _ _ c.before.before.before.before.before.before.before.before.before.before.before.index.ensures.0)
+    (station_parts _ _ c.before.before.before.before.before.before.before.before.before.before.before.index.ensures.0)
 
 -- the search closes the other needs
-pub station-line-spec : {M : Type 1} → statement M
-station-line-spec =
+pub station_line_spec : {M : Type 1} → statement M
+station_line_spec =
     tie.close
     (tie.spec (λ c. search rules) (λ c κs. search rules) (λ c κs. search rules) (λ c κs. search rules) (λ c κs. search rules)
     (λ c κs. search rules) (λ c. search rules) returns)

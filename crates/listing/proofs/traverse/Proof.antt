@@ -16,8 +16,8 @@ returns c =
     (simp (append_assoc, append-nil))
 
 -- the search closes the other needs
-pub traverse-spec : {M : Type 1} → statement M
-traverse-spec =
+pub traverse_spec : {M : Type 1} → statement M
+traverse_spec =
     tie.close
     (tie.spec (λ c κs. search rules) (λ c κs. search rules) (λ c κs. search rules) (λ c κs. search rules) (λ c κs. search rules)
     (λ c. search rules) returns)

@@ -6,38 +6,38 @@ use lib.ListN.{length, take}
 use lib.Seq.{take-length}
 use native.Mathlib.Omega.{arith}
 use Rattle.listing.specs.Puts.{Put}
-use Rattle.listing.proofs.Stores.{put-none, put_next, put-length, put_as}
+use Rattle.listing.proofs.Stores.{put_none, put_next, put_length, put_as}
 use Rattle.listing.proofs.word.Statement.{statement}
 use Rattle.listing.proofs.word.Tie as tie
 
-abbrev invariant-loop : tie.invariant-loop
-invariant-loop out₀ at s k₀ i₀ out k i = (i ≤ length s) × Put i (take i s) out₀ at k out
+abbrev invariant_loop : tie.invariant_loop
+invariant_loop out₀ at s k₀ i₀ out k i = (i ≤ length s) × Put i (take i s) out₀ at k out
 
-abbrev decreases-loop : tie.decreases-loop
-decreases-loop out₀ at s k₀ i₀ out k i = length s - i
+abbrev decreases_loop : tie.decreases_loop
+decreases_loop out₀ at s k₀ i₀ out k i = length s - i
 
-loop-holds : tie.Need-loop-init invariant-loop decreases-loop
-loop-holds c = (omega arith, put-none _ _)
+loop_holds : tie.Need-loop-init invariant_loop decreases_loop
+loop_holds c = (omega arith, put_none _ _)
 
-loop-again : tie.Need-loop-preserved invariant-loop decreases-loop
-loop-again c =
+loop_again : tie.Need-loop-preserved invariant_loop decreases_loop
+loop_again c =
     let l = c.before.before.before.before.before.before.loop in (
       omega arith,
       put_next c.before.before.before.before.before.before.before.before.before.args.s.now (omega arith) l.invariant.1
           c.before.before.put.ensures,
     )
 
-same_length : tie.Need-same-length invariant-loop decreases-loop
-same_length c = put-length c.before.loop.invariant.1
+same_length : tie.Need-same-length invariant_loop decreases_loop
+same_length c = put_length c.before.loop.invariant.1
 
-returns : tie.Need-returns invariant-loop decreases-loop
+returns : tie.Need-returns invariant_loop decreases_loop
 returns c =
     let e : c.before.loop.i ≡ length c.before.before.before.before.args.s.now = omega arith in
     put_as c.before.loop.invariant.1 (omega (arith, c.before.before.before.before.requires.1)) (rw (e, take-length))
 
 -- the search closes the other needs
-pub word-spec : {M : Type 1} → statement M
-word-spec =
+pub word_spec : {M : Type 1} → statement M
+word_spec =
     tie.close
-    (tie.spec invariant-loop decreases-loop loop-holds (λ c. search rules) (λ c κs. omega (arith, c.before.before.before.loop.invariant.1.few))
-    (λ c. omega arith) (λ c. omega arith) loop-again same_length returns)
+    (tie.spec invariant_loop decreases_loop loop_holds (λ c. search rules) (λ c κs. omega (arith, c.before.before.before.loop.invariant.1.few))
+    (λ c. omega arith) (λ c. omega arith) loop_again same_length returns)

@@ -7,11 +7,11 @@ use Rattle.measure.proofs.count_leg.Tie as tie
 returns : tie.Need-returns
 returns c = rw c.before.if1.true c.count-record.ensures
 
-returns-2 : tie.Need-returns-2
-returns-2 c = rw c.if1.false refl
+returns_2 : tie.Need-returns-2
+returns_2 c = rw c.if1.false refl
 
 -- the search closes the other needs
-pub count-leg-spec : {M : Type 1} → statement M
-count-leg-spec =
+pub count_leg_spec : {M : Type 1} → statement M
+count_leg_spec =
     tie.close
-    (tie.spec (λ c κs. search rules) returns returns-2)
+    (tie.spec (λ c κs. search rules) returns returns_2)

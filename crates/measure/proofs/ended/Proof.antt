@@ -12,11 +12,11 @@ unfolding ended pick
 returns c =
     c.stopped.ensures ∙ simp (lt-ltb _ _ c.before.if1.true)
 
-returns-2 : tie.Need-returns-2
+returns_2 : tie.Need-returns-2
 unfolding ended pick
-returns-2 c =
+returns_2 c =
     c.stopped2.ensures ∙ simp (le-ltb _ _ c.before.if1.false)
 
 -- the search closes the other needs
-pub ended-spec : {M : Type 1} → statement M
-ended-spec = tie.close (tie.spec (λ c. search rules) (λ c κs. search rules) returns (λ c κs. search rules) returns-2)
+pub ended_spec : {M : Type 1} → statement M
+ended_spec = tie.close (tie.spec (λ c. search rules) (λ c κs. search rules) returns (λ c κs. search rules) returns_2)

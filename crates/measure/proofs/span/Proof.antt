@@ -1,20 +1,20 @@
 -- `measure::span` meets its contract. Assumes nothing.
-use Rattle.format.specs.Items.{spanItem}
+use Rattle.format.specs.Items.{span_item}
 use borrow.Author.Rules.{part_to_end}
-use Rattle.measure.proofs.Items.{sized-short, sized-comes}
+use Rattle.measure.proofs.Items.{sized_short, sized_comes}
 use borrow.Author.Rules.{rules}
 use Rattle.measure.proofs.span.Statement.{statement}
 use Rattle.measure.proofs.span.Tie as tie
 
 -- the search closes the other needs
-pub span-spec : {M : Type 1} → statement M
-unfolding spanItem
-span-spec =
+pub span_spec : {M : Type 1} → statement M
+unfolding span_item
+span_spec =
     tie.close
-    (tie.spec (λ c. (tt, sized-short 4 _ _ c.if1.true)) (λ c. search rules) (λ c. search rules) (λ c. search rules) (λ c κs. search rules)
+    (tie.spec (λ c. (tt, sized_short 4 _ _ c.if1.true)) (λ c. search rules) (λ c. search rules) (λ c. search rules) (λ c κs. search rules)
     (λ c. search rules) (λ c κs. search rules) (λ c. search rules) (λ c κs. search rules)
     (λ c. (
       c.dated.ensures.0,
-      sized-comes 4 _ _ c.dated.result c.before.before.before.before.before.if1.false
+      sized_comes 4 _ _ c.dated.result c.before.before.before.before.before.if1.false
           (simp (c.before.before.before.get-le16.ensures.0, c.before.wide.ensures.0, part_to_end) at c.dated.ensures.1),
     )))

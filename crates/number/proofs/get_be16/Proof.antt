@@ -9,6 +9,6 @@ unfolding be16
 returns c = search rules
 
 -- the search closes the other needs
-pub get-be16-spec : {M : Type 1} → statement M
-get-be16-spec = tie.close (tie.spec (λ c. search rules) (λ c κs. search rules) (λ c. search rules) (λ c. search rules) (λ c κs. search rules)
+pub get_be16_spec : {M : Type 1} → statement M
+get_be16_spec = tie.close (tie.spec (λ c. search rules) (λ c κs. search rules) (λ c. search rules) (λ c. search rules) (λ c κs. search rules)
     (λ c. search rules) returns)

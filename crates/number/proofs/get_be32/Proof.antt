@@ -9,7 +9,7 @@ unfolding be32
 returns c = search rules
 
 -- the search closes the other needs
-pub get-be32-spec : {M : Type 1} → statement M
-get-be32-spec = tie.close (tie.spec (λ c. search rules) (λ c κs. search rules) (λ c. search rules) (λ c. search rules) (λ c κs. search rules)
+pub get_be32_spec : {M : Type 1} → statement M
+get_be32_spec = tie.close (tie.spec (λ c. search rules) (λ c κs. search rules) (λ c. search rules) (λ c. search rules) (λ c κs. search rules)
     (λ c. search rules) (λ c. search rules) (λ c. search rules) (λ c κs. search rules) (λ c. search rules) (λ c. search rules) (λ c. search rules)
     (λ c κs. search rules) (λ c. search rules) returns)

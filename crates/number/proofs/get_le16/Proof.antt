@@ -9,6 +9,6 @@ unfolding le16
 returns c = search rules
 
 -- the search closes the other needs
-pub get-le16-spec : {M : Type 1} → statement M
-get-le16-spec = tie.close (tie.spec (λ c. search rules) (λ c κs. search rules) (λ c. search rules) (λ c κs. search rules) (λ c. search rules)
+pub get_le16_spec : {M : Type 1} → statement M
+get_le16_spec = tie.close (tie.spec (λ c. search rules) (λ c κs. search rules) (λ c. search rules) (λ c κs. search rules) (λ c. search rules)
     (λ c. search rules) returns)

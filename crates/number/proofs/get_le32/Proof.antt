@@ -8,10 +8,10 @@ use Rattle.number.proofs.get_le32.Tie as tie
 returns : tie.Need-returns
 unfolding le32
 returns c =
-    (search rules, record { byte-0 = omega arith; byte-1 = omega arith; byte-2 = omega arith; byte-3 = omega arith })
+    (search rules, record { byte_0 = omega arith; byte_1 = omega arith; byte_2 = omega arith; byte_3 = omega arith })
 
 -- the search closes the other needs
-pub get-le32-spec : {M : Type 1} → statement M
-get-le32-spec = tie.close (tie.spec (λ c. search rules) (λ c κs. search rules) (λ c. search rules) (λ c κs. search rules) (λ c. search rules)
+pub get_le32_spec : {M : Type 1} → statement M
+get_le32_spec = tie.close (tie.spec (λ c. search rules) (λ c κs. search rules) (λ c. search rules) (λ c κs. search rules) (λ c. search rules)
     (λ c. search rules) (λ c. search rules) (λ c κs. search rules) (λ c. search rules) (λ c. search rules) (λ c. search rules) (λ c κs. search rules)
     (λ c. search rules) (λ c. search rules) returns)

@@ -1,5 +1,5 @@
 -- `number::get_le64` meets its contract. Assumes nothing.
-use Rattle.number.proofs.Words.{bytes_8, taken-8}
+use Rattle.number.proofs.Words.{bytes_8, taken_8}
 use mathlib.Core.Path.{sym, ◌∙◌}
 use borrow.Author.Rules.{rules}
 use Rattle.number.proofs.get_le64.Statement.{statement}
@@ -18,11 +18,11 @@ returns c =
     let e7 = c.long8.ensures in
     bytes_8 _ _ _ _ _ _ _ _ e0.1 e1.1 e2.1 e3.1 e4.1 e5.1 e6.1 e7.1
     ∙ rw (e0.0, e1.0, e2.0, e3.0, e4.0, e5.0, e6.0, e7.0)
-    (sym (taken-8 s c.before.before.before.before.before.before.before.before.before.before.before.before.before.before.before.before.before.requires))
+    (sym (taken_8 s c.before.before.before.before.before.before.before.before.before.before.before.before.before.before.before.before.before.requires))
 
 -- the search closes the other needs
-pub get-le64-spec : {M : Type 1} → statement M
-get-le64-spec =
+pub get_le64_spec : {M : Type 1} → statement M
+get_le64_spec =
     tie.close
     (tie.spec (λ c. search rules) (λ c κs. search rules) (λ c. search rules) (λ c κs. search rules) (λ c. search rules) (λ c. search rules)
     (λ c. search rules) (λ c κs. search rules) (λ c. search rules) (λ c. search rules) (λ c. search rules) (λ c κs. search rules)

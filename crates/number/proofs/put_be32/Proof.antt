@@ -13,5 +13,5 @@ returns c =
     c.before.before.before.swap32.ensures
 
 -- the search closes the other needs
-pub put-be32-spec : {M : Type 1} → statement M
-put-be32-spec = tie.close (tie.spec (λ c κs. search rules) (λ c κs. search rules) (λ c. search rules) returns)
+pub put_be32_spec : {M : Type 1} → statement M
+put_be32_spec = tie.close (tie.spec (λ c κs. search rules) (λ c κs. search rules) (λ c. search rules) returns)

@@ -1,6 +1,6 @@
-use Rattle.number.specs.Four.{toLe64}
+use Rattle.number.specs.Four.{to_le64}
 -- `number::put_le64` meets its contract. Assumes nothing.
-use Rattle.number.proofs.Words.{stores-8}
+use Rattle.number.proofs.Words.{stores_8}
 use native.Mathlib.Omega.{arith}
 use lib.ListN.{length-set}
 use borrow.Author.Rules.{rules}
@@ -8,13 +8,13 @@ use Rattle.number.proofs.put_le64.Statement.{statement}
 use Rattle.number.proofs.put_le64.Tie as tie
 
 returns : tie.Need-returns
-unfolding toLe64
+unfolding to_le64
 returns c =
-    stores-8 c.args.s.now _ _ _ _ _ _ _ _ (search rules)
+    stores_8 c.args.s.now _ _ _ _ _ _ _ _ (search rules)
 
 -- the search closes the other needs
-pub put-le64-spec : {M : Type 1} → statement M
-put-le64-spec =
+pub put_le64_spec : {M : Type 1} → statement M
+put_le64_spec =
     tie.close
     (tie.spec (λ c. search rules) (λ c. search rules) (λ c. search rules) (λ c. simp length-set (omega arith)) (λ c. search rules)
     (λ c. simp length-set (omega arith)) (λ c. search rules) (λ c. simp length-set (omega arith)) (λ c. search rules)

@@ -8,8 +8,8 @@ returns : tie.Need-returns
 returns c = swapped c.args.n (search rules)
 
 -- the search closes the other needs
-pub swap32-spec : {M : Type 1} → statement M
-swap32-spec =
+pub swap32_spec : {M : Type 1} → statement M
+swap32_spec =
     tie.close
     (tie.spec (λ c. search rules) (λ c. search rules) (λ c. search rules) (λ c. search rules) (λ c. search rules) (λ c. search rules)
     returns)

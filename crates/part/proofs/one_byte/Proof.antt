@@ -3,8 +3,8 @@ use borrow.Author.Tests.{le-leb, lt-leb, lt-ltb, le-ltb}
 use Rattle.part.proofs.one_byte.Statement.{statement}
 use Rattle.part.proofs.one_byte.Tie as tie
 
-pub one-byte-spec : {M : Type 1} → statement M
-one-byte-spec =
+pub one_byte_spec : {M : Type 1} → statement M
+one_byte_spec =
     tie.close
     (tie.spec (λ c. simp (lt-leb _ _ c.if1.true))
     (λ c. simp (le-leb _ _ c.before.if1.false, lt-leb _ _ c.if2.true))

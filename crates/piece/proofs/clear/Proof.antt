@@ -10,22 +10,22 @@ use Rattle.piece.proofs.Laws.{clear_step}
 use Rattle.piece.proofs.clear.Statement.{statement}
 use Rattle.piece.proofs.clear.Tie as tie
 
-abbrev invariant-loop : tie.invariant-loop
-invariant-loop s₀ at₀ s at = (at ≤ length s₀) × (length s ≡ length s₀) × (s ≡ replicate at 0 ++ drop at s₀)
+abbrev invariant_loop : tie.invariant_loop
+invariant_loop s₀ at₀ s at = (at ≤ length s₀) × (length s ≡ length s₀) × (s ≡ replicate at 0 ++ drop at s₀)
 
-abbrev decreases-loop : tie.decreases-loop
-decreases-loop s₀ at₀ s at = length s₀ - at
+abbrev decreases_loop : tie.decreases_loop
+decreases_loop s₀ at₀ s at = length s₀ - at
 
-loop-holds : tie.Need-loop-init invariant-loop decreases-loop
-loop-holds c = (omega arith, refl, refl)
+loop_holds : tie.Need-loop-init invariant_loop decreases_loop
+loop_holds c = (omega arith, refl, refl)
 
-loop-again : tie.Need-loop-preserved invariant-loop decreases-loop
-loop-again c =
+loop_again : tie.Need-loop-preserved invariant_loop decreases_loop
+loop_again c =
     let d = c.before.before.args.s.now in
     let l = c.before.loop in
     (omega arith, simp length-set l.invariant.1, ap (λ (x : List ℕ). set x l.at 0) l.invariant.2 ∙ clear_step d l.at (omega arith))
 
-returns : tie.Need-returns invariant-loop decreases-loop
+returns : tie.Need-returns invariant_loop decreases_loop
 returns c =
     let e : c.before.loop.at ≡ length c.before.before.args.s.now = omega arith in
     c.before.loop.invariant.2 ∙ rw (e, drop-length, append-nil)
@@ -34,5 +34,5 @@ returns c =
 pub clear_spec : {M : Type 1} → statement M
 clear_spec =
     tie.close
-    (tie.spec invariant-loop decreases-loop loop-holds (λ c. search rules) (λ c. search rules) (λ c. search rules) loop-again (λ c. search rules)
+    (tie.spec invariant_loop decreases_loop loop_holds (λ c. search rules) (λ c. search rules) (λ c. search rules) loop_again (λ c. search rules)
     returns)

@@ -9,8 +9,8 @@ unfolding le24
 returns c = search rules
 
 -- the search closes the other needs
-pub get-le24-spec : {M : Type 1} → statement M
-get-le24-spec =
+pub get_le24_spec : {M : Type 1} → statement M
+get_le24_spec =
     tie.close
     (tie.spec (λ c. search rules) (λ c κs. search rules) (λ c. search rules) (λ c κs. search rules) (λ c. search rules)
     (λ c. search rules) (λ c. search rules) (λ c κs. search rules) (λ c. search rules) (λ c. search rules) returns)

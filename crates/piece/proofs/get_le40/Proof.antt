@@ -9,8 +9,8 @@ unfolding le40
 returns c = search rules
 
 -- the search closes the other needs
-pub get-le40-spec : {M : Type 1} → statement M
-get-le40-spec =
+pub get_le40_spec : {M : Type 1} → statement M
+get_le40_spec =
     tie.close
     (tie.spec (λ c. search rules) (λ c κs. search rules) (λ c. search rules) (λ c κs. search rules) (λ c. search rules)
     (λ c. search rules) (λ c. search rules) (λ c κs. search rules) (λ c. search rules) (λ c. search rules) (λ c. search rules)

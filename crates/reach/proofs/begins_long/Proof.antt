@@ -6,91 +6,91 @@ use Prim.Native.Nat.{◌+◌, ◌-◌, ◌<◌}
 use mathlib.Core.Path.{◌≡◌, refl, sym, ◌∙◌}
 use borrow.Author.Rules.{part_to_end}
 use lib.ListN.{length, take, length-drop}
-use Rattle.reach.proofs.Words.{word-other, words_more, words-all}
+use Rattle.reach.proofs.Words.{word_other, words_more, words_all}
 use Rattle.reach.proofs.begins_long.Statement.{statement}
 use Rattle.reach.proofs.begins_long.Tie as tie
 
-abbrev invariant-loop : tie.invariant-loop
-invariant-loop s name last i₀ i = (i < last + 8) × (take i s ≡ take i name)
+abbrev invariant_loop : tie.invariant_loop
+invariant_loop s name last i₀ i = (i < last + 8) × (take i s ≡ take i name)
 
-abbrev decreases-loop : tie.decreases-loop
-decreases-loop s name last i₀ i = last + 8 - i
+abbrev decreases_loop : tie.decreases_loop
+decreases_loop s name last i₀ i = last + 8 - i
 
-sub-last : tie.Need-overflow-sub-last invariant-loop decreases-loop
-sub-last c = omega (arith, c.before.before.requires.0)
+sub_last : tie.Need-overflow-sub-last invariant_loop decreases_loop
+sub_last c = omega (arith, c.before.before.requires.0)
 
-loop-holds : tie.Need-loop-init invariant-loop decreases-loop
-loop-holds c = (omega (arith, c.before.before.requires.0), refl)
+loop_holds : tie.Need-loop-init invariant_loop decreases_loop
+loop_holds c = (omega (arith, c.before.before.requires.0), refl)
 
-sub-same-word : tie.Need-overflow-sub-same-word invariant-loop decreases-loop
-sub-same-word c =
+sub_same_word : tie.Need-overflow-sub-same-word invariant_loop decreases_loop
+sub_same_word c =
     omega (arith, c.before.before.before.before.requires.0, c.before.before.before.before.requires.1, c.before.loop.invariant.0)
 
-part-same-word-start : tie.Need-slice-bounds-same-word-start invariant-loop decreases-loop
-part-same-word-start c =
+part_same_word_start : tie.Need-slice-bounds-same-word-start invariant_loop decreases_loop
+part_same_word_start c =
     omega (arith, c.before.before.before.before.requires.0, c.before.before.before.before.requires.1, c.before.loop.invariant.0)
 
-sub-same-word-2 : tie.Need-overflow-sub-same-word-2 invariant-loop decreases-loop
-sub-same-word-2 c =
+sub_same_word_2 : tie.Need-overflow-sub-same-word-2 invariant_loop decreases_loop
+sub_same_word_2 c =
     omega (arith, c.before.before.before.before.before.requires.0, c.before.before.before.before.before.requires.1, c.before.before.loop.invariant.0)
 
-part-same-word-start-2 : tie.Need-slice-bounds-same-word-start-2 invariant-loop decreases-loop
-part-same-word-start-2 c =
+part_same_word_start_2 : tie.Need-slice-bounds-same-word-start-2 invariant_loop decreases_loop
+part_same_word_start_2 c =
     omega (arith, c.before.before.before.before.before.requires.0, c.before.before.before.before.before.requires.1, c.before.before.loop.invariant.0)
 
-same-word-requires : tie.Need-same-word-requires invariant-loop decreases-loop
-same-word-requires c κs =
+same_word_requires : tie.Need-same-word-requires invariant_loop decreases_loop
+same_word_requires c κs =
     let p = c.before.before.before.before.before.before.requires in
     let i = c.before.before.loop-test.true in
     (simp (part_to_end, length-drop) (omega (arith, p.0, p.1, i)), simp (part_to_end, length-drop) (omega (arith, p.0, p.1, i)))
 
-returns : tie.Need-returns invariant-loop decreases-loop
+returns : tie.Need-returns invariant_loop decreases_loop
 returns c =
     let a = c.before.before.before.before.before.before.before.before.args in
     let e = simp part_to_end at c.before.same_word.ensures in
-    sym (word-other a.s.now a.name.now c.before.before.before.before.before.loop.i (omega (arith, c.before.before.before.before.loop-test.true, c.before.before.before.before.before.before.before.before.requires.0)) (sym e ∙ not-true _ c.if1.true))
+    sym (word_other a.s.now a.name.now c.before.before.before.before.before.loop.i (omega (arith, c.before.before.before.before.loop-test.true, c.before.before.before.before.before.before.before.before.requires.0)) (sym e ∙ not-true _ c.if1.true))
 
-add-i : tie.Need-overflow-add-i invariant-loop decreases-loop
-add-i c =
-    omega (arith, c.before.before.before.before.loop-test.true, c.before.before.before.before.before.before.before.before.requires.0, c.before.before.before.before.before.before.before.before.well-formed)
+add_i : tie.Need-overflow-add-i invariant_loop decreases_loop
+add_i c =
+    omega (arith, c.before.before.before.before.loop-test.true, c.before.before.before.before.before.before.before.before.requires.0, c.before.before.before.before.before.before.before.before.well_formed)
 
-loop-less : tie.Need-loop-smaller invariant-loop decreases-loop
-loop-less c =
+loop_less : tie.Need-loop-smaller invariant_loop decreases_loop
+loop_less c =
     omega (arith, c.before.before.before.before.loop-test.true)
 
-loop-again : tie.Need-loop-preserved invariant-loop decreases-loop
-loop-again c =
+loop_again : tie.Need-loop-preserved invariant_loop decreases_loop
+loop_again c =
     let a = c.before.before.before.before.before.before.before.before.args in
     let e = simp part_to_end at c.before.same_word.ensures in
     (omega (arith, c.before.before.before.before.loop-test.true), words_more a.s.now a.name.now c.before.before.before.before.before.loop.i c.before.before.before.before.before.loop.invariant.1 (sym e ∙ not-false _ c.if1.false))
 
-sub-same-word-3 : tie.Need-overflow-sub-same-word-3 invariant-loop decreases-loop
-sub-same-word-3 c =
+sub_same_word_3 : tie.Need-overflow-sub-same-word-3 invariant_loop decreases_loop
+sub_same_word_3 c =
     omega (arith, c.before.before.before.before.requires.0, c.before.before.before.before.requires.1)
 
-part-same-word-start-3 : tie.Need-slice-bounds-same-word-start-3 invariant-loop decreases-loop
-part-same-word-start-3 c =
+part_same_word_start_3 : tie.Need-slice-bounds-same-word-start-3 invariant_loop decreases_loop
+part_same_word_start_3 c =
     omega (arith, c.before.before.before.before.requires.0, c.before.before.before.before.requires.1)
 
-sub-same-word-4 : tie.Need-overflow-sub-same-word-4 invariant-loop decreases-loop
-sub-same-word-4 c =
+sub_same_word_4 : tie.Need-overflow-sub-same-word-4 invariant_loop decreases_loop
+sub_same_word_4 c =
     omega (arith, c.before.before.before.before.before.requires.0, c.before.before.before.before.before.requires.1)
 
-part-same-word-start-4 : tie.Need-slice-bounds-same-word-start-4 invariant-loop decreases-loop
-part-same-word-start-4 c =
+part_same_word_start_4 : tie.Need-slice-bounds-same-word-start-4 invariant_loop decreases_loop
+part_same_word_start_4 c =
     omega (arith, c.before.before.before.before.before.requires.0, c.before.before.before.before.before.requires.1)
 
-same-word-requires-2 : tie.Need-same-word-requires-2 invariant-loop decreases-loop
-same-word-requires-2 c κs =
+same_word_requires_2 : tie.Need-same-word-requires-2 invariant_loop decreases_loop
+same_word_requires_2 c κs =
     let p = c.before.before.before.before.before.before.requires in
     (simp (part_to_end, length-drop) (omega (arith, p.0, p.1)), simp (part_to_end, length-drop) (omega (arith, p.0, p.1)))
 
-returns-2 : tie.Need-returns-2 invariant-loop decreases-loop
-returns-2 c =
+returns_2 : tie.Need-returns-2 invariant_loop decreases_loop
+returns_2 c =
     let a = c.before.before.before.before.before.before.before.args in
     let e = simp part_to_end at c.same-word2.ensures in
-    e ∙ words-all a.s.now a.name.now c.before.before.before.before.loop.i (length a.name.now - 8) (omega (arith, c.before.before.before.loop-test.false)) (omega (arith, c.before.before.before.before.before.before.before.requires.0)) c.before.before.before.before.loop.invariant.1
+    e ∙ words_all a.s.now a.name.now c.before.before.before.before.loop.i (length a.name.now - 8) (omega (arith, c.before.before.before.loop-test.false)) (omega (arith, c.before.before.before.before.before.before.before.requires.0)) c.before.before.before.before.loop.invariant.1
 
 -- the search closes the other needs
-pub begins-long-spec : {M : Type 1} → statement M
-begins-long-spec = tie.close (tie.spec invariant-loop decreases-loop sub-last loop-holds sub-same-word part-same-word-start (λ c. search rules) sub-same-word-2 part-same-word-start-2 (λ c. search rules) same-word-requires returns add-i loop-less loop-again sub-same-word-3 part-same-word-start-3 (λ c. search rules) sub-same-word-4 part-same-word-start-4 (λ c. search rules) same-word-requires-2 returns-2)
+pub begins_long_spec : {M : Type 1} → statement M
+begins_long_spec = tie.close (tie.spec invariant_loop decreases_loop sub_last loop_holds sub_same_word part_same_word_start (λ c. search rules) sub_same_word_2 part_same_word_start_2 (λ c. search rules) same_word_requires returns add_i loop_less loop_again sub_same_word_3 part_same_word_start_3 (λ c. search rules) sub_same_word_4 part_same_word_start_4 (λ c. search rules) same_word_requires_2 returns_2)

@@ -7,14 +7,14 @@ use Rattle.reach.proofs.other_size.Tie as tie
 
 returns : tie.Need-returns
 returns c =
-    let T = rw c.enum_told.given.1 at c.before.before.read-entry.ensures in
+    let T = rw c.enum_told.given.1 at c.before.before.read_entry.ensures in
     ap size_of T.same
 
-returns-2 : tie.Need-returns-2
-returns-2 c =
-    let T = rw c.before.entry.given.1 at c.before.before.before.read-entry.ensures in
+returns_2 : tie.Need-returns-2
+returns_2 c =
+    let T = rw c.before.entry.given.1 at c.before.before.before.read_entry.ensures in
     ap size_of T.same
 
 -- the search closes the other needs
-pub other-size-spec : {M : Type 1} → statement M
-other-size-spec = tie.close (tie.spec (λ c κs. search rules) (λ c. search rules) (λ c. search rules) returns returns-2)
+pub other_size_spec : {M : Type 1} → statement M
+other_size_spec = tie.close (tie.spec (λ c κs. search rules) (λ c. search rules) (λ c. search rules) returns returns_2)

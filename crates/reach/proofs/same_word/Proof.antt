@@ -9,5 +9,5 @@ returns c =
     words_same _ _ _ _ c.before.get-le64.type-inv c.get-le642.type-inv c.before.get-le64.ensures c.get-le642.ensures
 
 -- the search closes the other needs
-pub same-word-spec : {M : Type 1} → statement M
-same-word-spec = tie.close (tie.spec (λ c κs. search rules) (λ c κs. search rules) returns)
+pub same_word_spec : {M : Type 1} → statement M
+same_word_spec = tie.close (tie.spec (λ c κs. search rules) (λ c κs. search rules) returns)

@@ -7,12 +7,12 @@ use Rattle.reach.proofs.signed_of.Tie as tie
 returns : tie.Need-returns
 returns c = low_bits _ c.if1.true
 
-sub-result : tie.Need-overflow-sub-result
-sub-result c = high_fits _ c.if1.false
+sub_result : tie.Need-overflow-sub-result
+sub_result c = high_fits _ c.if1.false
 
-returns-2 : tie.Need-returns-2
-returns-2 c = high_bits _ c.if1.false
+returns_2 : tie.Need-returns-2
+returns_2 c = high_bits _ c.if1.false
 
 -- the search closes the other needs
-pub signed-of-spec : {M : Type 1} → statement M
-signed-of-spec = tie.close (tie.spec (λ c. search rules) returns (λ c. search rules) (λ c. search rules) sub-result returns-2)
+pub signed_of_spec : {M : Type 1} → statement M
+signed_of_spec = tie.close (tie.spec (λ c. search rules) returns (λ c. search rules) (λ c. search rules) sub_result returns_2)

@@ -6,7 +6,7 @@ use mathlib.Core.Bool.{true}
 use Rattle.format.specs.Bytes.{be16}
 use Rattle.format.specs.Sheet.{framed}
 use Rattle.format.proofs.SheetLaws.{frame}
-use Rattle.sheet.proofs.Entries.{unframed, kind-leg}
+use Rattle.sheet.proofs.Entries.{unframed, kind_leg}
 use Rattle.reach.specs.Reaching.{size_of}
 use borrow.Author.Rules.{rules}
 use Rattle.reach.proofs.size_at.Statement.{statement}
@@ -25,21 +25,21 @@ returns c =
     let a = c.before.before.before.args in
     ap size_of (unframed a.version a.s.now (sym c.before.is_framed.ensures ∙ not-true _ c.if1.true))
 
-shared-slice-read-if2 : tie.Need-shared-slice-read-if2
-shared-slice-read-if2 c = omega (arith, frame _ (framed_at c.before))
+shared_slice_read_if2 : tie.Need-shared-slice-read-if2
+shared_slice_read_if2 c = omega (arith, frame _ (framed_at c.before))
 
-get-be16-requires : tie.Need-get-be16-requires
-get-be16-requires c κs = omega (arith, frame _ (framed_at c.before.before))
+get_be16_requires : tie.Need-get-be16-requires
+get_be16_requires c κs = omega (arith, frame _ (framed_at c.before.before))
 
-leg-size-requires : tie.Need-leg-size-requires
-leg-size-requires c κs =
+leg_size_requires : tie.Need-leg-size-requires
+leg_size_requires c κs =
     omega (arith, size_is c, frame _ (framed_at c.before.before.before.before))
 
-returns-3 : tie.Need-returns-3
-returns-3 c =
+returns_3 : tie.Need-returns-3
+returns_3 c =
     let a = c.before.before.before.before.before.before.before.before.args in
-    c.leg-size.ensures ∙ rw (size_is c.before) (ap size_of (kind-leg a.version a.s.now (framed_at c.before.before.before.before.before) c.before.before.before.if2.false))
+    c.leg_size_lem.ensures ∙ rw (size_is c.before) (ap size_of (kind_leg a.version a.s.now (framed_at c.before.before.before.before.before) c.before.before.before.if2.false))
 
 -- the search closes the other needs
-pub size-at-spec : {M : Type 1} → statement M
-size-at-spec = tie.close (tie.spec (λ c κs. search rules) returns shared-slice-read-if2 (λ c κs. search rules) (λ c. search rules) get-be16-requires (λ c κs. search rules) leg-size-requires returns-3)
+pub size_at_spec : {M : Type 1} → statement M
+size_at_spec = tie.close (tie.spec (λ c κs. search rules) returns shared_slice_read_if2 (λ c κs. search rules) (λ c. search rules) get_be16_requires (λ c κs. search rules) leg_size_requires returns_3)

@@ -4,13 +4,13 @@ use Prim.Native.Nat.{◌+◌, ◌-◌, ◌≤◌}
 use lib.ListN.{length}
 use lib.Seq.{length-take-le}
 use mathlib.Core.Path.{◌≡◌}
-use Rattle.read.proofs.Whole.{title-length, time-length, front_fits, filled, begins-head}
+use Rattle.read.proofs.Whole.{title_length, time_length, front_fits, filled, begins_head}
 use borrow.Author.Rules.{rules}
 use Rattle.read.proofs.fill.Statement.{statement}
 use Rattle.read.proofs.fill.Tie as tie
 
-put-front-requires : tie.Need-put-front-requires
-put-front-requires c κs =
+put_front_requires : tie.Need-put-front-requires
+put_front_requires c κs =
     let a = c.before.before.before.before.before.before.before in
     let file = a.args.file.now in
     let O = a.requires.0 in
@@ -21,19 +21,19 @@ put-front-requires c κs =
     let z1 : 24 + t - 24 ≡ t = omega arith in
     let z2 : 24 + t + 1 + n - (24 + t + 1) ≡ n = omega arith in
     let z3 : 24 + t + 1 ≡ 25 + t = omega arith in
-    rw (z2, z3, z1, title-length file a.args.head O, time-length file a.args.head O) (r.title-fits, r.time-fits, k)
+    rw (z2, z3, z1, title_length file a.args.head O, time_length file a.args.head O) (r.title_fits, r.time_fits, k)
 
-slice-aggregate-pass : tie.Need-slice-aggregate-pass
-slice-aggregate-pass c =
+slice_aggregate_pass : tie.Need-slice-aggregate-pass
+slice_aggregate_pass c =
     let a = c.before.before.before.before.before.before.before.before.before.before.before.before in
     let s = c.before.before.before.before.put_front.new.0 in
     let h : a.args.bytes ≤ length s = omega (arith, a.requires.1.fits, c.before.before.before.before.put_front.auto) in
     let e = length-take-le a.args.bytes s h in
     omega (arith, e)
 
-pass-requires : tie.Need-pass-requires
-pass-requires c κs =
-    rw c.before.course-of.ensures (begins-head _ _ c.before.before.before.before.before.before.before.before.before.before.before.before.requires.0, record { ready = tt })
+pass_requires : tie.Need-pass-requires
+pass_requires c κs =
+    rw c.before.course-of.ensures (begins_head _ _ c.before.before.before.before.before.before.before.before.before.before.before.before.requires.0, record { ready = tt })
 
 returns : tie.Need-returns
 returns c =
@@ -52,5 +52,5 @@ pub fill_spec : {M : Type 1} → statement M
 fill_spec =
     tie.close
     (tie.spec (λ c. search rules) (λ c. search rules) (λ c. search rules) (λ c. search rules) (λ c. search rules) (λ c. search rules)
-    (λ c. search rules) (λ c. search rules) (λ c. search rules) put-front-requires (λ c κs. search rules) (λ c. search rules)
-    slice-aggregate-pass pass-requires (λ c. search rules) returns)
+    (λ c. search rules) (λ c. search rules) (λ c. search rules) put_front_requires (λ c κs. search rules) (λ c. search rules)
+    slice_aggregate_pass pass_requires (λ c. search rules) returns)

@@ -7,11 +7,11 @@ use Rattle.read.proofs.find_short.Tie as tie
 returns : tie.Need-returns
 returns c = c.old-item.ensures (omega (arith, c.before.if1.true))
 
-returns-2 : tie.Need-returns-2
-returns-2 c = c.new-item.ensures c.before.before.before.args.version (omega (arith, c.before.if1.false))
+returns_2 : tie.Need-returns-2
+returns_2 c = c.new-item.ensures c.before.before.before.args.version (omega (arith, c.before.if1.false))
 
 -- the search closes the other needs
-pub find-short-spec : {M : Type 1} → statement M
-find-short-spec =
+pub find_short_spec : {M : Type 1} → statement M
+find_short_spec =
     tie.close
-    (tie.spec (λ c κs. search rules) returns (λ c κs. search rules) returns-2)
+    (tie.spec (λ c κs. search rules) returns (λ c κs. search rules) returns_2)

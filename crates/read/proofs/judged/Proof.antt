@@ -1,16 +1,16 @@
 -- `read::judged` meets its contract. Assumes nothing.
 use native.Mathlib.Omega.{arith}
-use Rattle.read.proofs.Whole.{judges, begins-head}
+use Rattle.read.proofs.Whole.{judges, begins_head}
 use borrow.Author.Rules.{rules}
 use Rattle.read.proofs.judged.Statement.{statement}
 use Rattle.read.proofs.judged.Tie as tie
 
-course-of-requires : tie.Need-course-of-requires
-course-of-requires c κs = let r = c.before.before.requires.room in (r.title-fits, r.time-fits)
+course_of_requires : tie.Need-course-of-requires
+course_of_requires c κs = let r = c.before.before.requires.room in (r.title_fits, r.time_fits)
 
-measured-requires : tie.Need-measured-requires
-measured-requires c κs =
-    let O = c.before.before.before.before.requires in rw c.before.course-of.ensures (begins-head _ _ O, O.room.newest)
+measured_requires : tie.Need-measured-requires
+measured_requires c κs =
+    let O = c.before.before.before.before.requires in rw c.before.course-of.ensures (begins_head _ _ O, O.room.newest)
 
 returns : tie.Need-returns
 returns c =
@@ -19,7 +19,7 @@ returns c =
     (judges a.args.file.now a.args.head a.requires _ m.0, m.1)
 
 -- the search closes the other needs
-pub judged-spec : {M : Type 1} → statement M
-judged-spec =
+pub judged_spec : {M : Type 1} → statement M
+judged_spec =
     tie.close
-    (tie.spec course-of-requires measured-requires (λ c. search rules) returns)
+    (tie.spec course_of_requires measured_requires (λ c. search rules) returns)

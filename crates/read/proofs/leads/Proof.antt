@@ -8,7 +8,7 @@ returns : tie.Need-returns
 returns c = c.went.ensures ∙ rw c.before.with-position.ensures
 
 -- the search closes the other needs
-pub leads-spec : {M : Type 1} → statement M
-leads-spec =
+pub leads_spec : {M : Type 1} → statement M
+leads_spec =
     tie.close
     (tie.spec (λ c κs. search rules) (λ c κs. search rules) returns)

@@ -7,7 +7,7 @@ returns : tie.Need-returns
 returns c = rw c.start-setting.ensures
 
 -- the search closes the other needs
-pub outset-spec : {M : Type 1} → statement M
-outset-spec =
+pub outset_spec : {M : Type 1} → statement M
+outset_spec =
     tie.close
     (tie.spec (λ c κs. search rules) returns)

@@ -7,12 +7,12 @@ use Rattle.read.proofs.short_turn.Tie as tie
 returns : tie.Need-returns
 returns c = record { does = rw c.if1.true (refl, refl, refl) }
 
-returns-2 : tie.Need-returns-2
-returns-2 c =
+returns_2 : tie.Need-returns-2
+returns_2 c =
     record { does = rw c.before.before.before.before.before.if1.false c.before.before.lay-short.ensures }
 
 -- the search closes the other needs
-pub short-turn-spec : {M : Type 1} → statement M
-short-turn-spec =
+pub short_turn_spec : {M : Type 1} → statement M
+short_turn_spec =
     tie.close
-    (tie.spec returns (λ c κs. search rules) (λ c. search rules) returns-2)
+    (tie.spec returns (λ c κs. search rules) (λ c. search rules) returns_2)

@@ -9,8 +9,8 @@ returns : tie.Need-returns
 returns c = c.leads.ensures ∙ simp (c.before.passed.ensures, c.before.before.get-point.ensures, part_to_end)
 
 -- the search closes the other needs
-pub turn-move-spec : {M : Type 1} → statement M
-turn-move-spec =
+pub turn_move_spec : {M : Type 1} → statement M
+turn_move_spec =
     tie.close
     (tie.spec (λ c. search rules) (λ c. search rules) (λ c. search rules) (λ c κs. search rules) (λ c κs. search rules)
     (λ c κs. search rules) returns)

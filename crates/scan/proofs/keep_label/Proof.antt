@@ -8,23 +8,23 @@ returns : tie.Need-returns
 returns c =
     rw c.before.before.enum_told.given.1 c.swap-label.ensures
 
-returns-2 : tie.Need-returns-2
-returns-2 c =
+returns_2 : tie.Need-returns-2
+returns_2 c =
     rw c.before.before.enum-told2.given.1 c.swap-label2.ensures
 
-returns-3 : tie.Need-returns-3
-returns-3 c =
+returns_3 : tie.Need-returns-3
+returns_3 c =
     rw c.before.before.enum-told3.given.1 c.swap-label3.ensures
 
-returns-4 : tie.Need-returns-4
-returns-4 c =
+returns_4 : tie.Need-returns-4
+returns_4 c =
     let p = c.before.before.before.requires in
-    rw c.enum-told4.given.1 (record { label_is = refl; label-short = p.0; label-whole = p.1 })
+    rw c.enum-told4.given.1 (record { label_is = refl; label_short = p.0; label_whole = p.1 })
 
 -- the search closes the other needs
-pub keep-label-spec : {M : Type 1} → statement M
-keep-label-spec =
+pub keep_label_spec : {M : Type 1} → statement M
+keep_label_spec =
     tie.close
     (tie.spec
     (λ c. search rules) (λ c κs. search rules) (λ c. search rules) (λ c κs. search rules) (λ c. search rules) (λ c κs. search rules)
-    (λ c. search rules) returns returns-2 returns-3 returns-4)
+    (λ c. search rules) returns returns_2 returns_3 returns_4)

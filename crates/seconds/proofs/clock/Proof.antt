@@ -4,9 +4,9 @@ use mathlib.Core.Path.{sym, ◌∙◌}
 use lib.ListN.{drop}
 use borrow.Author.Tests.{le-leb, lt-leb}
 use Rattle.format.specs.Bytes.{pick}
-use Rattle.format.specs.Times.{textClock}
-use Rattle.seconds.specs.Reading.{clockOf}
-use Rattle.seconds.proofs.Digits.{Said, field_told, field-untold}
+use Rattle.format.specs.Times.{text_clock}
+use Rattle.seconds.specs.Reading.{clock_of}
+use Rattle.seconds.proofs.Digits.{Said, field_told, field_untold}
 use borrow.Author.Rules.{rules}
 use Rattle.seconds.proofs.clock.Statement.{statement}
 use Rattle.seconds.proofs.clock.Tie as tie
@@ -22,61 +22,61 @@ second : (c : tie.After-seconds) → Said 2 (drop 21 c.before.before.before.befo
 second c = field_told 2 (omega arith) _ _ (sym c.seconds.given.1 ∙ c.before.before.number3.ensures)
 
 returns : tie.Need-returns
-unfolding clockOf textClock pick
+unfolding clock_of text_clock pick
 returns c =
-    simp (field-untold 2 (omega arith) (drop 15 c.before.before.before.before.before.args.line.now) (sym c.enum_told.given.1 ∙ c.before.before.number.ensures))
+    simp (field_untold 2 (omega arith) (drop 15 c.before.before.before.before.before.args.line.now) (sym c.enum_told.given.1 ∙ c.before.before.number.ensures))
 
-returns-2 : tie.Need-returns-2
-unfolding clockOf textClock pick
-returns-2 c =
-    simp ((hour c.before.before.before.before.before).digits, field-untold 2 (omega arith) (drop 18 c.before.before.before.before.before.before.before.before.before.before.args.line.now) (sym c.enum-told2.given.1 ∙ c.before.before.number2.ensures))
+returns_2 : tie.Need-returns-2
+unfolding clock_of text_clock pick
+returns_2 c =
+    simp ((hour c.before.before.before.before.before).digits, field_untold 2 (omega arith) (drop 18 c.before.before.before.before.before.before.before.before.before.before.args.line.now) (sym c.enum-told2.given.1 ∙ c.before.before.number2.ensures))
 
-returns-3 : tie.Need-returns-3
-unfolding clockOf textClock pick
-returns-3 c =
-    simp ((hour c.before.before.before.before.before.before.before.before.before.before).digits, (minute c.before.before.before.before.before).digits, field-untold 2 (omega arith) (drop 21 c.before.before.before.before.before.before.before.before.before.before.before.before.before.before.before.args.line.now) (sym c.enum-told3.given.1 ∙ c.before.before.number3.ensures))
+returns_3 : tie.Need-returns-3
+unfolding clock_of text_clock pick
+returns_3 c =
+    simp ((hour c.before.before.before.before.before.before.before.before.before.before).digits, (minute c.before.before.before.before.before).digits, field_untold 2 (omega arith) (drop 21 c.before.before.before.before.before.before.before.before.before.before.before.before.before.before.before.args.line.now) (sym c.enum-told3.given.1 ∙ c.before.before.number3.ensures))
 
-returns-4 : tie.Need-returns-4
-unfolding clockOf textClock pick
-returns-4 c =
+returns_4 : tie.Need-returns-4
+unfolding clock_of text_clock pick
+returns_4 c =
     let h = hour c.before.before.before.before.before.before.before.before.before.before.before.before in
     let m = minute c.before.before.before.before.before.before.before in
     let s = second c.before.before in
     simp (h.digits, m.digits, s.digits, lt-leb _ 23 (rw h.is at c.if1.true))
 
-returns-5 : tie.Need-returns-5
-unfolding clockOf textClock pick
-returns-5 c =
+returns_5 : tie.Need-returns-5
+unfolding clock_of text_clock pick
+returns_5 c =
     let h = hour c.before.before.before.before.before.before.before.before.before.before.before.before.before in
     let m = minute c.before.before.before.before.before.before.before.before in
     let s = second c.before.before.before in
     simp (h.digits, m.digits, s.digits, le-leb _ 23 (rw h.is at c.before.if1.false), lt-leb _ 59 (rw m.is at c.if2.true))
 
-returns-6 : tie.Need-returns-6
-unfolding clockOf textClock pick
-returns-6 c =
+returns_6 : tie.Need-returns-6
+unfolding clock_of text_clock pick
+returns_6 c =
     let h = hour c.before.before.before.before.before.before.before.before.before.before.before.before.before.before in
     let m = minute c.before.before.before.before.before.before.before.before.before in
     let s = second c.before.before.before.before in
     simp (h.digits, m.digits, s.digits, le-leb _ 23 (rw h.is at c.before.before.if1.false), le-leb _ 59 (rw m.is at c.before.if2.false), lt-leb _ 59 (rw s.is at c.if3.true))
 
-returns-7 : tie.Need-returns-7
-unfolding clockOf textClock pick
-returns-7 c =
+returns_7 : tie.Need-returns-7
+unfolding clock_of text_clock pick
+returns_7 c =
     let h = hour c.before.before.before.before.before.before.before.before.before.before.before.before.before.before in
     let m = minute c.before.before.before.before.before.before.before.before.before in
     let s = second c.before.before.before.before in
     simp (h.digits, m.digits, s.digits, le-leb _ 23 (rw h.is at c.before.before.if1.false), le-leb _ 59 (rw m.is at c.before.if2.false), le-leb _ 59 (rw s.is at c.if3.false)) (rw (h.is, m.is, s.is))
 
 -- the search closes the other needs
-pub clock-spec : {M : Type 1} → statement M
-clock-spec =
+pub clock_spec : {M : Type 1} → statement M
+clock_spec =
     tie.close
     (tie.spec (λ c. search rules) (λ c. search rules) (λ c. search rules) (λ c κs. search rules) (λ c. search rules) (λ c. search rules)
     returns (λ c. search rules) (λ c. search rules) (λ c. search rules) (λ c κs. search rules) (λ c. search rules)
-    (λ c. search rules) returns-2 (λ c. search rules) (λ c. search rules) (λ c. search rules) (λ c κs. search rules)
+    (λ c. search rules) returns_2 (λ c. search rules) (λ c. search rules) (λ c. search rules) (λ c κs. search rules)
     (λ c. search rules) (λ c. search rules)
-    returns-3 returns-4 returns-5 returns-6 (λ c. omega (arith, c.before.before.if1.false, c.before.if2.false, c.if3.false))
+    returns_3 returns_4 returns_5 returns_6 (λ c. omega (arith, c.before.before.if1.false, c.before.if2.false, c.if3.false))
     (λ c. omega (arith, c.before.before.if1.false, c.before.if2.false, c.if3.false))
     (λ c. omega (arith, c.before.before.if1.false, c.before.if2.false, c.if3.false))
-    (λ c. omega (arith, c.before.before.if1.false, c.before.if2.false, c.if3.false)) returns-7)
+    (λ c. omega (arith, c.before.before.if1.false, c.before.if2.false, c.if3.false)) returns_7)

@@ -8,5 +8,5 @@ returns : tie.Need-returns
 returns c = years c.args.n
 
 -- the search closes the other needs
-pub days-of-years-spec : {M : Type 1} → statement M
-days-of-years-spec = tie.close (tie.spec (λ c. search rules) (λ c. search rules) (λ c. search rules) returns)
+pub days_of_years_spec : {M : Type 1} → statement M
+days_of_years_spec = tie.close (tie.spec (λ c. search rules) (λ c. search rules) (λ c. search rules) returns)

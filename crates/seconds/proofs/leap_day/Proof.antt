@@ -6,8 +6,8 @@ use Rattle.format.specs.Times.{leap}
 use Rattle.seconds.proofs.leap_day.Statement.{statement}
 use Rattle.seconds.proofs.leap_day.Tie as tie
 
-pub leap-day-spec : {M : Type 1} → statement M
+pub leap_day_spec : {M : Type 1} → statement M
 unfolding leap pick
-leap-day-spec =
+leap_day_spec =
     tie.close
     (tie.spec (λ c. (simp (eq-eqb _ _ c.if1.true), omega arith)) (λ c. (simp (ne_eqb _ _ c.if1.false), omega arith)))

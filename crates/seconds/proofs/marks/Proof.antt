@@ -1,43 +1,43 @@
 -- `marks` meets its contract, byte by byte. Assumes nothing.
 use borrow.Author.Tests.{eq-eqb, ne_eqb}
-use Rattle.format.specs.Times.{textMarks}
-use Rattle.seconds.proofs.Forms.{last-mark}
+use Rattle.format.specs.Times.{text_marks}
+use Rattle.seconds.proofs.Forms.{last_mark}
 use borrow.Author.Rules.{rules}
 use Rattle.seconds.proofs.marks.Statement.{statement}
 use Rattle.seconds.proofs.marks.Tie as tie
 
 returns : tie.Need-returns
-unfolding textMarks
+unfolding text_marks
 returns c = simp (ne_eqb _ _ c.if1.true)
 
-returns-2 : tie.Need-returns-2
-unfolding textMarks
-returns-2 c = simp (eq-eqb _ _ c.before.before.if1.false, ne_eqb _ _ c.if2.true)
+returns_2 : tie.Need-returns-2
+unfolding text_marks
+returns_2 c = simp (eq-eqb _ _ c.before.before.if1.false, ne_eqb _ _ c.if2.true)
 
-returns-3 : tie.Need-returns-3
-unfolding textMarks
-returns-3 c =
+returns_3 : tie.Need-returns-3
+unfolding text_marks
+returns_3 c =
     simp (eq-eqb _ _ c.before.before.before.before.if1.false, eq-eqb _ _ c.before.before.if2.false, ne_eqb _ _ c.if3.true)
 
-returns-4 : tie.Need-returns-4
-unfolding textMarks
-returns-4 c =
+returns_4 : tie.Need-returns-4
+unfolding text_marks
+returns_4 c =
     simp (eq-eqb _ _ c.before.before.before.before.before.before.if1.false, eq-eqb _ _ c.before.before.before.before.if2.false, eq-eqb _ _ c.before.before.if3.false, ne_eqb _ _ c.if4.true)
 
-returns-5 : tie.Need-returns-5
-unfolding textMarks
-returns-5 c =
+returns_5 : tie.Need-returns-5
+unfolding text_marks
+returns_5 c =
     simp (eq-eqb _ _ c.before.before.before.before.before.before.before.before.if1.false, eq-eqb _ _ c.before.before.before.before.before.before.if2.false, eq-eqb _ _ c.before.before.before.before.if3.false, eq-eqb _ _ c.before.before.if4.false, ne_eqb _ _ c.if5.true)
 
-returns-6 : tie.Need-returns-6
-unfolding textMarks
-returns-6 c =
+returns_6 : tie.Need-returns-6
+unfolding text_marks
+returns_6 c =
     simp (eq-eqb _ _ c.before.before.before.before.before.before.before.before.before.before.if1.false, eq-eqb _ _ c.before.before.before.before.before.before.before.before.if2.false, eq-eqb _ _ c.before.before.before.before.before.before.if3.false, eq-eqb _ _ c.before.before.before.before.if4.false, eq-eqb _ _ c.before.before.if5.false, ne_eqb _ _ c.if6.true)
 
-returns-7 : tie.Need-returns-7
-returns-7 c =
-    last-mark _ c.before.before.before.before.before.before.before.before.before.before.before.if1.false c.before.before.before.before.before.before.before.before.before.if2.false c.before.before.before.before.before.before.before.if3.false c.before.before.before.before.before.if4.false c.before.before.before.if5.false c.before.if6.false
+returns_7 : tie.Need-returns-7
+returns_7 c =
+    last_mark _ c.before.before.before.before.before.before.before.before.before.before.before.if1.false c.before.before.before.before.before.before.before.before.before.if2.false c.before.before.before.before.before.before.before.if3.false c.before.before.before.before.before.if4.false c.before.before.before.if5.false c.before.if6.false
 
 -- the search closes the other needs
-pub marks-spec : {M : Type 1} → statement M
-marks-spec = tie.close (tie.spec (λ c. search rules) returns (λ c. search rules) returns-2 (λ c. search rules) returns-3 (λ c. search rules) returns-4 (λ c. search rules) returns-5 (λ c. search rules) returns-6 (λ c. search rules) returns-7)
+pub marks_spec : {M : Type 1} → statement M
+marks_spec = tie.close (tie.spec (λ c. search rules) returns (λ c. search rules) returns_2 (λ c. search rules) returns_3 (λ c. search rules) returns_4 (λ c. search rules) returns_5 (λ c. search rules) returns_6 (λ c. search rules) returns_7)

@@ -8,22 +8,22 @@ use lib.Seq.{drop-length}
 use borrow.Author.Rules.{rules}
 use borrow.Author.Tests.{le-leb}
 use Rattle.format.specs.Bytes.{pick}
-use Rattle.format.specs.Times.{allDigits, decimalFrom}
-use Rattle.seconds.specs.Reading.{numberFrom}
+use Rattle.format.specs.Times.{all_digits, decimal_from}
+use Rattle.seconds.specs.Reading.{number_from}
 use Rattle.seconds.proofs.Digits.{below, above, large, on}
 use Rattle.seconds.proofs.number.Statement.{statement}
 use Rattle.seconds.proofs.number.Tie as tie
 
-abbrev invariant-loop : tie.invariant-loop
-invariant-loop s n₀ i₀ n i = (i ≤ length s) × ((n ≤ 4294967295) × (numberFrom 0 s ≡ numberFrom n (drop i s)))
+abbrev invariant_loop : tie.invariant_loop
+invariant_loop s n₀ i₀ n i = (i ≤ length s) × ((n ≤ 4294967295) × (number_from 0 s ≡ number_from n (drop i s)))
 
-abbrev decreases-loop : tie.decreases-loop
-decreases-loop s n₀ i₀ n i = length s - i
+abbrev decreases_loop : tie.decreases_loop
+decreases_loop s n₀ i₀ n i = length s - i
 
-loop-holds : tie.Need-loop-init invariant-loop decreases-loop
-loop-holds c = (omega arith, (omega arith, refl))
+loop_holds : tie.Need-loop-init invariant_loop decreases_loop
+loop_holds c = (omega arith, (omega arith, refl))
 
-returns : tie.Need-returns invariant-loop decreases-loop
+returns : tie.Need-returns invariant_loop decreases_loop
 returns c =
     let l = c.before.before in
     let s = l.before.before.before.args.s.now in
@@ -32,8 +32,8 @@ returns c =
     let inv = l.before.loop.invariant in
     sym (inv.1.1 ∙ below n s i l.loop-test.true c.if1.true)
 
-returns-2 : tie.Need-returns-2 invariant-loop decreases-loop
-returns-2 c =
+returns_2 : tie.Need-returns-2 invariant_loop decreases_loop
+returns_2 c =
     let l = c.before.before.before in
     let s = l.before.before.before.args.s.now in
     let i = l.before.loop.i in
@@ -41,8 +41,8 @@ returns-2 c =
     let inv = l.before.loop.invariant in
     sym (inv.1.1 ∙ above n s i l.loop-test.true c.if2.true)
 
-returns-3 : tie.Need-returns-3 invariant-loop decreases-loop
-returns-3 c =
+returns_3 : tie.Need-returns-3 invariant_loop decreases_loop
+returns_3 c =
     let l = c.before.before.before.before.before in
     let s = l.before.before.before.args.s.now in
     let i = l.before.loop.i in
@@ -51,8 +51,8 @@ returns-3 c =
     sym (inv.1.1 ∙ large n s i l.loop-test.true c.before.before.before.if1.false c.before.before.if2.false
     (omega (arith, c.if3.true, c.before.wide.ensures)))
 
-loop-again : tie.Need-loop-preserved invariant-loop decreases-loop
-loop-again c =
+loop_again : tie.Need-loop-preserved invariant_loop decreases_loop
+loop_again c =
     let l = c.before.before.before.before.before in
     let s = l.before.before.before.args.s.now in
     let i = l.before.loop.i in
@@ -66,9 +66,9 @@ loop-again c =
       ),
     )
 
-returns-4 : tie.Need-returns-4 invariant-loop decreases-loop
-unfolding numberFrom allDigits decimalFrom pick
-returns-4 c =
+returns_4 : tie.Need-returns-4 invariant_loop decreases_loop
+unfolding number_from all_digits decimal_from pick
+returns_4 c =
     let s = c.before.before.before.args.s.now in
     let n = c.before.loop.n in
     let inv = c.before.loop.invariant in
@@ -76,8 +76,8 @@ returns-4 c =
     sym (inv.1.1 ∙ rw (e, drop-length s) (simp (le-leb n 4294967295 inv.1.0)))
 
 -- the search closes the other needs
-pub number-spec : {M : Type 1} → statement M
-number-spec =
+pub number_spec : {M : Type 1} → statement M
+number_spec =
     tie.close
-    (tie.spec invariant-loop decreases-loop loop-holds (λ c. omega arith) returns returns-2 (λ c. omega arith) (λ c κs. search rules) (λ c. omega arith)
-    returns-3 (λ c. omega arith) (λ c. omega arith) loop-again returns-4)
+    (tie.spec invariant_loop decreases_loop loop_holds (λ c. omega arith) returns returns_2 (λ c. omega arith) (λ c κs. search rules) (λ c. omega arith)
+    returns_3 (λ c. omega arith) (λ c. omega arith) loop_again returns_4)

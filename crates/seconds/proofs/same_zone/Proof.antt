@@ -3,7 +3,7 @@ use mathlib.Core.Path.{◌≡◌, sym, ◌∙◌}
 use lib.ListN.{length}
 use borrow.Author.Tests.{eq-eqb, ne_eqb}
 use Rattle.format.specs.Bytes.{pick}
-use Rattle.seconds.proofs.Forms.{same-three, third-decides}
+use Rattle.seconds.proofs.Forms.{same_three, third_decides}
 use borrow.Author.Rules.{rules}
 use Rattle.seconds.proofs.same_zone.Statement.{statement}
 use Rattle.seconds.proofs.same_zone.Tie as tie
@@ -16,17 +16,17 @@ second c = search rules
 
 returns : tie.Need-returns
 unfolding pick
-returns c = sym (same-three _ _ (first c.before) (second c.before) ∙ simp (ne_eqb _ _ c.if1.true))
+returns c = sym (same_three _ _ (first c.before) (second c.before) ∙ simp (ne_eqb _ _ c.if1.true))
 
-returns-2 : tie.Need-returns-2
+returns_2 : tie.Need-returns-2
 unfolding pick
-returns-2 c =
-    sym (same-three _ _ (first c.before.before) (second c.before.before) ∙ simp (eq-eqb _ _ c.before.if1.false, ne_eqb _ _ c.if2.true))
+returns_2 c =
+    sym (same_three _ _ (first c.before.before) (second c.before.before) ∙ simp (eq-eqb _ _ c.before.if1.false, ne_eqb _ _ c.if2.true))
 
-returns-3 : tie.Need-returns-3
-returns-3 c = third-decides _ _ (first c.before.before) (second c.before.before) c.before.if1.false c.if2.false
+returns_3 : tie.Need-returns-3
+returns_3 c = third_decides _ _ (first c.before.before) (second c.before.before) c.before.if1.false c.if2.false
 
 -- the search closes the other needs
-pub same-zone-spec : {M : Type 1} → statement M
-same-zone-spec = tie.close (tie.spec (λ c. search rules) (λ c. search rules) returns (λ c. search rules) (λ c. search rules) returns-2 (λ c. search rules)
-    (λ c. search rules) returns-3)
+pub same_zone_spec : {M : Type 1} → statement M
+same_zone_spec = tie.close (tie.spec (λ c. search rules) (λ c. search rules) returns (λ c. search rules) (λ c. search rules) returns_2 (λ c. search rules)
+    (λ c. search rules) returns_3)

@@ -1,100 +1,100 @@
 -- `sha256::compress` meets its contract. Assumes nothing.
 use Rattle.std.proofs.Common.{◌≡◌, ◌+◌, ◌-◌, ◌%◌, ◌<◌, ◌≤◌, length, refl, ap, ◌∙◌, arith, rules}
-use Rattle.sha256.proofs.Rounds.{constants-length, Going, going-first, going_on, rounds-done}
+use Rattle.sha256.proofs.Rounds.{constants_length, Going, going_first, going_on, rounds_done}
 use Rattle.sha256.proofs.compress.Statement.{statement}
 use Rattle.sha256.proofs.compress.Tie as tie
 use Rattle.sha256.proofs.compress.Reads as reads
 
-abbrev invariant-loop : tie.invariant-loop
-invariant-loop k h b w₀ s₀ t₀ w s t = (16 ≤ t) × (t ≤ 64) × (t % 8 ≡ 0) × Going b h w t s
+abbrev invariant_loop : tie.invariant_loop
+invariant_loop k h b w₀ s₀ t₀ w s t = (16 ≤ t) × (t ≤ 64) × (t % 8 ≡ 0) × Going b h w t s
 
-abbrev decreases-loop : tie.decreases-loop
-decreases-loop k h b w₀ s₀ t₀ w s t = 64 - t
+abbrev decreases_loop : tie.decreases_loop
+decreases_loop k h b w₀ s₀ t₀ w s t = 64 - t
 
-room : (y : tie.In-loop invariant-loop decreases-loop) → (16 ≤ y.before.loop.t) × (y.before.loop.t + 8 ≤ 64)
+room : (y : tie.In-loop invariant_loop decreases_loop) → (16 ≤ y.before.loop.t) × (y.before.loop.t + 8 ≤ 64)
 room y = (omega arith, omega arith)
 
-early-rounds-requires : tie.Need-early-rounds-requires invariant-loop decreases-loop
-early-rounds-requires c κs =
-    (ap length c.before.before.before.requires.0 ∙ constants-length, c.before.spread.ensures.0)
+early_rounds_requires : tie.Need-early-rounds-requires invariant_loop decreases_loop
+early_rounds_requires c κs =
+    (ap length c.before.before.before.requires.0 ∙ constants_length, c.before.spread.ensures.0)
 
-loop-holds : tie.Need-loop-init invariant-loop decreases-loop
-loop-holds c =
+loop_holds : tie.Need-loop-init invariant_loop decreases_loop
+loop_holds c =
     let a = c.before.before.before.before in
     let e = c.before.before.spread.ensures in
-    (omega arith, omega arith, refl, going-first a.args.k.now a.args.b.now _ a.args.h _ a.requires.0 e.0 e.1 c.early-rounds.ensures)
+    (omega arith, omega arith, refl, going_first a.args.k.now a.args.b.now _ a.args.h _ a.requires.0 e.0 e.1 c.early-rounds.ensures)
 
-late-round-requires : tie.Need-late-round-requires invariant-loop decreases-loop
-late-round-requires c κs =
+late_round_requires : tie.Need-late-round-requires invariant_loop decreases_loop
+late_round_requires c κs =
     let n = room c.before in (omega (arith, n), omega (arith, n))
 
-add-late-round : tie.Need-overflow-add-late-round invariant-loop decreases-loop
-add-late-round c = omega (arith, room c.before.before.before)
+add_late_round : tie.Need-overflow-add-late-round invariant_loop decreases_loop
+add_late_round c = omega (arith, room c.before.before.before)
 
-late-round-requires-2 : tie.Need-late-round-requires-2 invariant-loop decreases-loop
-late-round-requires-2 c κs =
+late_round_requires_2 : tie.Need-late-round-requires-2 invariant_loop decreases_loop
+late_round_requires_2 c κs =
     let n = room c.before.before.before in (omega (arith, n), omega (arith, n))
 
-add-late-round-2 : tie.Need-overflow-add-late-round-2 invariant-loop decreases-loop
-add-late-round-2 c =
+add_late_round_2 : tie.Need-overflow-add-late-round-2 invariant_loop decreases_loop
+add_late_round_2 c =
     omega (arith, room c.before.before.before.before.before)
 
-late-round-requires-3 : tie.Need-late-round-requires-3 invariant-loop decreases-loop
-late-round-requires-3 c κs =
+late_round_requires_3 : tie.Need-late-round-requires-3 invariant_loop decreases_loop
+late_round_requires_3 c κs =
     let n = room c.before.before.before.before.before in (omega (arith, n), omega (arith, n))
 
-add-late-round-3 : tie.Need-overflow-add-late-round-3 invariant-loop decreases-loop
-add-late-round-3 c =
+add_late_round_3 : tie.Need-overflow-add-late-round-3 invariant_loop decreases_loop
+add_late_round_3 c =
     omega (arith, room c.before.before.before.before.before.before.before)
 
-late-round-requires-4 : tie.Need-late-round-requires-4 invariant-loop decreases-loop
-late-round-requires-4 c κs =
+late_round_requires_4 : tie.Need-late-round-requires-4 invariant_loop decreases_loop
+late_round_requires_4 c κs =
     let n = room c.before.before.before.before.before.before.before in (omega (arith, n), omega (arith, n))
 
-add-late-round-4 : tie.Need-overflow-add-late-round-4 invariant-loop decreases-loop
-add-late-round-4 c =
+add_late_round_4 : tie.Need-overflow-add-late-round-4 invariant_loop decreases_loop
+add_late_round_4 c =
     omega (arith, room c.before.before.before.before.before.before.before.before.before)
 
-late-round-requires-5 : tie.Need-late-round-requires-5 invariant-loop decreases-loop
-late-round-requires-5 c κs =
+late_round_requires_5 : tie.Need-late-round-requires-5 invariant_loop decreases_loop
+late_round_requires_5 c κs =
     let n = room c.before.before.before.before.before.before.before.before.before in (omega (arith, n), omega (arith, n))
 
-add-late-round-5 : tie.Need-overflow-add-late-round-5 invariant-loop decreases-loop
-add-late-round-5 c =
+add_late_round_5 : tie.Need-overflow-add-late-round-5 invariant_loop decreases_loop
+add_late_round_5 c =
     omega (arith, room c.before.before.before.before.before.before.before.before.before.before.before)
 
-late-round-requires-6 : tie.Need-late-round-requires-6 invariant-loop decreases-loop
-late-round-requires-6 c κs =
+late_round_requires_6 : tie.Need-late-round-requires-6 invariant_loop decreases_loop
+late_round_requires_6 c κs =
     let n = room c.before.before.before.before.before.before.before.before.before.before.before in (omega (arith, n), omega (arith, n))
 
-add-late-round-6 : tie.Need-overflow-add-late-round-6 invariant-loop decreases-loop
-add-late-round-6 c =
+add_late_round_6 : tie.Need-overflow-add-late-round-6 invariant_loop decreases_loop
+add_late_round_6 c =
     omega (arith, room c.before.before.before.before.before.before.before.before.before.before.before.before.before)
 
-late-round-requires-7 : tie.Need-late-round-requires-7 invariant-loop decreases-loop
-late-round-requires-7 c κs =
+late_round_requires_7 : tie.Need-late-round-requires-7 invariant_loop decreases_loop
+late_round_requires_7 c κs =
     let n = room c.before.before.before.before.before.before.before.before.before.before.before.before.before in
     (omega (arith, n), omega (arith, n))
 
-add-late-round-7 : tie.Need-overflow-add-late-round-7 invariant-loop decreases-loop
-add-late-round-7 c =
+add_late_round_7 : tie.Need-overflow-add-late-round-7 invariant_loop decreases_loop
+add_late_round_7 c =
     omega (arith, room c.before.before.before.before.before.before.before.before.before.before.before.before.before.before.before)
 
-late-round-requires-8 : tie.Need-late-round-requires-8 invariant-loop decreases-loop
-late-round-requires-8 c κs =
+late_round_requires_8 : tie.Need-late-round-requires-8 invariant_loop decreases_loop
+late_round_requires_8 c κs =
     let n = room c.before.before.before.before.before.before.before.before.before.before.before.before.before.before.before in
     (omega (arith, n), omega (arith, n))
 
-add-t : tie.Need-overflow-add-t invariant-loop decreases-loop
-add-t c =
+add_t : tie.Need-overflow-add-t invariant_loop decreases_loop
+add_t c =
     omega (arith, room c.before.before.before.before.before.before.before.before.before.before.before.before.before.before.before.before)
 
-loop-less : tie.Need-loop-smaller invariant-loop decreases-loop
-loop-less c =
+loop_less : tie.Need-loop-smaller invariant_loop decreases_loop
+loop_less c =
     omega (arith, room c.before.before.before.before.before.before.before.before.before.before.before.before.before.before.before.before)
 
-loop-again : tie.Need-loop-preserved invariant-loop decreases-loop
-loop-again c =
+loop_again : tie.Need-loop-preserved invariant_loop decreases_loop
+loop_again c =
     let p = c.before.before.before.before.before.before.before.before in
     let L = p.before.before.before.before.before.before.before.before.before.loop in
     let a = p.before.before.before.before.before.before.before.before.before.before.before.before.before.before in
@@ -126,15 +126,15 @@ loop-again c =
           e8.1,
     )
 
-returns : tie.Need-returns invariant-loop decreases-loop
+returns : tie.Need-returns invariant_loop decreases_loop
 returns c =
-    rounds-done _ _ c.before.before.loop.t _ _ _ (omega arith) c.before.before.loop.invariant.3 c.sum.ensures
+    rounds_done _ _ c.before.before.loop.t _ _ _ (omega arith) c.before.before.loop.invariant.3 c.sum.ensures
 
 -- the search closes the other needs
-pub compress-spec : {M : Type 1} → statement M
-compress-spec =
+pub compress_spec : {M : Type 1} → statement M
+compress_spec =
     tie.close
-    (tie.spec invariant-loop decreases-loop (λ c κs. search rules) early-rounds-requires loop-holds late-round-requires add-late-round
-    late-round-requires-2 add-late-round-2 late-round-requires-3 add-late-round-3 late-round-requires-4 add-late-round-4
-    late-round-requires-5 add-late-round-5 late-round-requires-6 add-late-round-6 late-round-requires-7 add-late-round-7
-    late-round-requires-8 add-t loop-less loop-again (λ c κs. search rules) returns)
+    (tie.spec invariant_loop decreases_loop (λ c κs. search rules) early_rounds_requires loop_holds late_round_requires add_late_round
+    late_round_requires_2 add_late_round_2 late_round_requires_3 add_late_round_3 late_round_requires_4 add_late_round_4
+    late_round_requires_5 add_late_round_5 late_round_requires_6 add_late_round_6 late_round_requires_7 add_late_round_7
+    late_round_requires_8 add_t loop_less loop_again (λ c κs. search rules) returns)

@@ -1,6 +1,6 @@
 -- `sha256::fill` meets its contract. Assumes nothing.
 use Rattle.std.proofs.Common.{refl, arith, rules}
-use Rattle.wire.proofs.Laws.{laid-part}
+use Rattle.wire.proofs.Laws.{laid_part}
 use Rattle.sha256.proofs.fill.Statement.{statement}
 use Rattle.sha256.proofs.fill.Tie as tie
 use Rattle.sha256.proofs.fill.Reads as reads
@@ -8,7 +8,7 @@ use Rattle.sha256.proofs.fill.Reads as reads
 returns : tie.Need-returns
 returns c =
     let a = c.before.before.before.before.before.before in
-    rw c.before.before.copy.ensures (laid-part a.args.block.now a.args.bytes.now a.args.held (omega (arith, a.requires)) _ refl)
+    rw c.before.before.copy.ensures (laid_part a.args.block.now a.args.bytes.now a.args.held (omega (arith, a.requires)) _ refl)
 
 -- the search closes the other needs
 pub fill_spec : {M : Type 1} → statement M

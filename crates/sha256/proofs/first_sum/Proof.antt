@@ -8,8 +8,8 @@ returns : tie.Need-returns
 returns c = cc
 
 -- the search closes the other needs
-pub first-sum-spec : {M : Type 1} → statement M
-first-sum-spec =
+pub first_sum_spec : {M : Type 1} → statement M
+first_sum_spec =
     tie.close
     (tie.spec (λ c κs. search rules) (λ c κs. search rules) (λ c κs. search rules) (λ c κs. search rules) (λ c κs. search rules)
     (λ c κs. search rules) returns)

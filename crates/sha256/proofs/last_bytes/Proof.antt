@@ -11,6 +11,6 @@ returns c =
     c.before.before.before.zeros.ensures c.before.copy.ensures
 
 -- the search closes the other needs
-pub last-bytes-spec : {M : Type 1} → statement M
-last-bytes-spec =
+pub last_bytes_spec : {M : Type 1} → statement M
+last_bytes_spec =
     tie.close (tie.spec (λ c κs. search rules) (λ c. search rules) (λ c κs. search rules) (λ c. search rules) returns)

@@ -10,8 +10,8 @@ returns c =
     (rw e refl, rw e at c.round.ensures)
 
 -- the search closes the other needs
-pub late-round-spec : {M : Type 1} → statement M
-late-round-spec =
+pub late_round_spec : {M : Type 1} → statement M
+late_round_spec =
     tie.close
     (tie.spec (λ c κs. search rules) (λ c. search rules) (λ c. search rules) (λ c. search rules) (λ c. search rules)
     (λ c κs. search rules) returns)

@@ -1,5 +1,5 @@
 -- `sha256::lay_length` meets its contract. Assumes nothing.
-use Rattle.sha256.proofs.Padding.{length-done}
+use Rattle.sha256.proofs.Padding.{length_done}
 use Rattle.std.proofs.Common.{rules}
 use Rattle.sha256.proofs.lay_length.Statement.{statement}
 use Rattle.sha256.proofs.lay_length.Tie as tie
@@ -7,14 +7,14 @@ use Rattle.sha256.proofs.lay_length.Reads as reads
 
 returns : tie.Need-returns
 returns c =
-    length-done c.before.before.before.before.before.before.before.before.before.before.before.args.b.now _ _
+    length_done c.before.before.before.before.before.before.before.before.before.before.before.args.b.now _ _
     c.before.before.before.before.before.before.before.before.before.before.before.args.n _ _
     c.before.before.before.before.before.before.before.before.before.before.before.requires
     c.before.before.before.before.before.before.before.before.high_bits.ensures c.before.before.before.low_bits.ensures
     c.before.before.before.before.before.before.before.lay-word.ensures c.before.before.lay-word2.ensures
 
 -- the search closes the other needs
-pub lay-length-spec : {M : Type 1} → statement M
-lay-length-spec =
+pub lay_length_spec : {M : Type 1} → statement M
+lay_length_spec =
     tie.close
     (tie.spec (λ c κs. search rules) (λ c κs. search rules) (λ c κs. search rules) (λ c κs. search rules) (λ c. search rules) returns)

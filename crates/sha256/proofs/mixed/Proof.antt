@@ -8,8 +8,8 @@ returns : tie.Need-returns
 returns c = cc
 
 -- the search closes the other needs
-pub mixed-spec : {M : Type 1} → statement M
-mixed-spec =
+pub mixed_spec : {M : Type 1} → statement M
+mixed_spec =
     tie.close
     (tie.spec (λ c κs. search rules) (λ c κs. search rules) (λ c κs. search rules) (λ c κs. search rules) (λ c κs. search rules)
     returns)

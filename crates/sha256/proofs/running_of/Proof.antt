@@ -18,8 +18,8 @@ returns c =
     ) refl
 
 -- the search closes the other needs
-pub running-of-spec : {M : Type 1} → statement M
-running-of-spec =
+pub running_of_spec : {M : Type 1} → statement M
+running_of_spec =
     tie.close
     (tie.spec (λ c. search rules) (λ c κs. search rules) (λ c. search rules) (λ c κs. search rules) (λ c. search rules)
     (λ c κs. search rules) (λ c. search rules) (λ c κs. search rules) (λ c. search rules) (λ c κs. search rules) (λ c. search rules)

@@ -1,5 +1,5 @@
 -- `sha256::sha256` meets its contract. Assumes nothing.
-use Rattle.sha256.proofs.StreamLaws.{whole-done}
+use Rattle.sha256.proofs.StreamLaws.{whole_done}
 use Rattle.std.proofs.Common.{rules}
 use Rattle.sha256.proofs.sha256.Statement.{statement}
 use Rattle.sha256.proofs.sha256.Tie as tie
@@ -7,10 +7,10 @@ use Rattle.sha256.proofs.sha256.Reads as reads
 
 returns : tie.Need-returns
 returns c =
-    whole-done _ _ _ _ c.before.before.before.before.before.before.before.before.args.bytes.now _
+    whole_done _ _ _ _ c.before.before.before.before.before.before.before.before.args.bytes.now _
     c.before.before.before.before.before.start.ensures c.before.before.before.update.ensures c.finish.ensures
 
 -- the search closes the other needs
-pub sha256-spec : {M : Type 1} → statement M
-sha256-spec =
+pub sha256_spec : {M : Type 1} → statement M
+sha256_spec =
     tie.close (tie.spec (λ c κs. search rules) (λ c κs. search rules) (λ c κs. search rules) (λ c κs. search rules) returns)

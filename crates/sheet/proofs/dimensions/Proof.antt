@@ -12,7 +12,7 @@ returns c =
     λ i. record { left = c.before.before.before.before.before.before.get-be32.ensures i; right = r i; up = u i; down = d i }
 
 -- the search closes the other needs
-pub dimensions-spec : {M : Type 1} → statement M
-dimensions-spec = tie.close (tie.spec (λ c κs. search rules) (λ c. search rules) (λ c. search rules) (λ c. search rules) (λ c κs. search rules)
+pub dimensions_spec : {M : Type 1} → statement M
+dimensions_spec = tie.close (tie.spec (λ c κs. search rules) (λ c. search rules) (λ c. search rules) (λ c. search rules) (λ c κs. search rules)
     (λ c. search rules) (λ c. search rules) (λ c. search rules) (λ c κs. search rules) (λ c. search rules) (λ c. search rules) (λ c. search rules)
     (λ c κs. search rules) returns)

@@ -1,13 +1,13 @@
 -- `sheet::good_date` meets its contract. Assumes nothing.
 use borrow.Author.Tests.{eq-eqb, ne_eqb}
 use Rattle.format.specs.Bytes.{pick}
-use Rattle.format.specs.Sheet.{goodDate}
+use Rattle.format.specs.Sheet.{good_date}
 use Rattle.sheet.proofs.good_date.Statement.{statement}
 use Rattle.sheet.proofs.good_date.Tie as tie
 
-pub good-date-spec : {M : Type 1} → statement M
-unfolding goodDate pick
-good-date-spec =
+pub good_date_spec : {M : Type 1} → statement M
+unfolding good_date pick
+good_date_spec =
     tie.close
     (tie.spec
     (λ c. simp (eq-eqb _ _ c.before.if1.true, eq-eqb _ _ c.if2.true))

@@ -10,18 +10,18 @@ returns : tie.Need-returns
 unfolding framed
 returns c = simp (lt-leb _ _ c.if1.true)
 
-returns-2 : tie.Need-returns-2
+returns_2 : tie.Need-returns-2
 unfolding framed
-returns-2 c =
+returns_2 c =
     let e = c.before.type_size.ensures ∙ c.before.before.get-be16.ensures.0 in
     simp (← e, le-leb _ _ c.before.before.before.if1.false, le-leb _ _ c.if2.true)
 
-returns-3 : tie.Need-returns-3
+returns_3 : tie.Need-returns-3
 unfolding framed
-returns-3 c =
+returns_3 c =
     let e = c.before.type_size.ensures ∙ c.before.before.get-be16.ensures.0 in
     simp (← e, le-leb _ _ c.before.before.before.if1.false, lt-leb _ _ c.if2.false)
 
 -- the search closes the other needs
-pub is-framed-spec : {M : Type 1} → statement M
-is-framed-spec = tie.close (tie.spec returns (λ c κs. search rules) (λ c κs. search rules) (λ c. search rules) returns-2 returns-3)
+pub is_framed_spec : {M : Type 1} → statement M
+is_framed_spec = tie.close (tie.spec returns (λ c κs. search rules) (λ c κs. search rules) (λ c. search rules) returns_2 returns_3)

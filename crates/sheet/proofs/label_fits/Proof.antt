@@ -4,7 +4,7 @@ use borrow.Author.Rules.{rules}
 use Rattle.sheet.proofs.label_fits.Statement.{statement}
 use Rattle.sheet.proofs.label_fits.Tie as tie
 
-pub label-fits-spec : {M : Type 1} → statement M
-label-fits-spec =
+pub label_fits_spec : {M : Type 1} → statement M
+label_fits_spec =
     tie.close
     (tie.spec (λ c. search rules) (λ c. simp (le-leb _ _ c.if1.true)) (λ c. simp (lt-leb _ _ c.if1.false)))

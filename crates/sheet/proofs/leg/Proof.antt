@@ -11,6 +11,6 @@ returns c =
     rw (e, f)
 
 -- the search closes the other needs
-pub leg-spec : {M : Type 1} → statement M
-leg-spec = tie.close (tie.spec (λ c. search rules) (λ c. search rules) (λ c. search rules) (λ c. search rules) (λ c. search rules) (λ c κs. search rules)
+pub leg_spec : {M : Type 1} → statement M
+leg_spec = tie.close (tie.spec (λ c. search rules) (λ c. search rules) (λ c. search rules) (λ c. search rules) (λ c. search rules) (λ c κs. search rules)
     (λ c. search rules) (λ c. search rules) (λ c. search rules) (λ c κs. search rules) returns)

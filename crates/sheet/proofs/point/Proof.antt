@@ -11,6 +11,6 @@ returns c =
     λ i. record { x = c.before.before.before.before.get-be32.ensures i; y = y i; z = z i }
 
 -- the search closes the other needs
-pub point-spec : {M : Type 1} → statement M
-point-spec = tie.close (tie.spec (λ c κs. search rules) (λ c. search rules) (λ c. search rules) (λ c. search rules) (λ c κs. search rules) (λ c. search rules)
+pub point_spec : {M : Type 1} → statement M
+point_spec = tie.close (tie.spec (λ c κs. search rules) (λ c. search rules) (λ c. search rules) (λ c. search rules) (λ c κs. search rules) (λ c. search rules)
     (λ c. search rules) (λ c. search rules) (λ c κs. search rules) returns)

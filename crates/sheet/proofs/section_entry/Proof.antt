@@ -5,9 +5,9 @@ use Rattle.format.specs.Bytes.{pick}
 use Rattle.sheet.proofs.section_entry.Statement.{statement}
 use Rattle.sheet.proofs.section_entry.Tie as tie
 
-pub section-entry-spec : {M : Type 1} → statement M
+pub section_entry_spec : {M : Type 1} → statement M
 unfolding pick
-section-entry-spec =
+section_entry_spec =
     tie.close
     (tie.spec (λ c κs. search rules)
     (λ c. rw (eq-eqb _ _ c.before.if1.true) c.undated-entry.ensures) (λ c κs. search rules)

@@ -13,7 +13,7 @@ returns c =
     λ i. record { legs = c.before.before.before.before.before.before.before.before.get-be32.ensures i; total = t i; e = e i; h = h i; v = v i }
 
 -- the search closes the other needs
-pub traverse-spec : {M : Type 1} → statement M
-traverse-spec = tie.close (tie.spec (λ c κs. search rules) (λ c. search rules) (λ c. search rules) (λ c. search rules) (λ c κs. search rules)
+pub traverse_spec : {M : Type 1} → statement M
+traverse_spec = tie.close (tie.spec (λ c κs. search rules) (λ c. search rules) (λ c. search rules) (λ c. search rules) (λ c κs. search rules)
     (λ c. search rules) (λ c. search rules) (λ c. search rules) (λ c κs. search rules) (λ c. search rules) (λ c. search rules) (λ c. search rules)
     (λ c κs. search rules) (λ c. search rules) (λ c. search rules) (λ c. search rules) (λ c κs. search rules) returns)

@@ -4,8 +4,8 @@ use mathlib.Core.Path.{◌≡◌, sym, ◌∙◌}
 use Rattle.format.specs.Items.{item_of}
 use Rattle.decode.specs.Seen.{Reads}
 use Rattle.decode.specs.declared.Item.{Item as Told}
-use Rattle.item.proofs.Steps.{comes-error}
-use Rattle.step.proofs.Laws.{tells-room, none_of, peek-short, peek-long, peek-fits}
+use Rattle.item.proofs.Steps.{comes_error}
+use Rattle.step.proofs.Laws.{tells_room, none_of, peek_short, peek_long, peek_fits}
 use borrow.Author.Rules.{rules}
 use Rattle.step.proofs.peek.Statement.{statement}
 use Rattle.step.proofs.peek.Tie as tie
@@ -18,34 +18,34 @@ returns : tie.Need-returns
 returns c =
     let a = c.before.before.before.before.before.before.before.before in
     let R = reads_at c.before.before.before.before.before.before _ c.before.before.before.before.it2.given.1 in
-    peek-short _ _ _ a.args.len _ a.requires.1 a.requires.0 _ _ _ _ _ R (sym c.before.before.kept_of.ensures.0 ∙ c.enum_told.given.1)
+    peek_short _ _ _ a.args.len _ a.requires.1 a.requires.0 _ _ _ _ _ R (sym c.before.before.kept_of.ensures.0 ∙ c.enum_told.given.1)
 
-sub-if1 : tie.Need-overflow-sub-if1
-sub-if1 c =
+sub_if1 : tie.Need-overflow-sub-if1
+sub_if1 c =
     let W = rw c.before.kept.given.1 at c.before.before.before.kept_of.ensures.1 in
     omega (arith, W, c.before.before.before.before.before.before.before.before.before.requires.0)
 
-returns-2 : tie.Need-returns-2
-returns-2 c =
+returns_2 : tie.Need-returns-2
+returns_2 c =
     let a = c.before.before.before.before.before.before.before.before.before.before in
     let R = reads_at c.before.before.before.before.before.before.before.before _ c.before.before.before.before.before.before.it2.given.1 in
     let W = rw c.before.before.kept.given.1 at c.before.before.before.before.kept_of.ensures.1 in
-    peek-long _ _ _ a.args.len _ a.requires.1 a.requires.0 _ _ _ _ _ R _ (sym c.before.before.before.before.kept_of.ensures.0 ∙ c.before.before.kept.given.1) (omega (arith, W, a.requires.0)) c.if1.true
+    peek_long _ _ _ a.args.len _ a.requires.1 a.requires.0 _ _ _ _ _ R _ (sym c.before.before.before.before.kept_of.ensures.0 ∙ c.before.before.kept.given.1) (omega (arith, W, a.requires.0)) c.if1.true
 
-returns-3 : tie.Need-returns-3
-returns-3 c =
+returns_3 : tie.Need-returns-3
+returns_3 c =
     let a = c.before.before.before.before.before in
-    tells-room _ _ _ (comes-error _ _ _ a.args.len _ a.requires.1 a.requires.0 _ (reads_at c.before.before.before _ c.before.it.given.1))
+    tells_room _ _ _ (comes_error _ _ _ a.args.len _ a.requires.1 a.requires.0 _ (reads_at c.before.before.before _ c.before.it.given.1))
 
-returns-4 : tie.Need-returns-4
-returns-4 c =
+returns_4 : tie.Need-returns-4
+returns_4 c =
     let a = c.before.before.before.before.before.before.before.before.before.before.before in
     let R = reads_at c.before.before.before.before.before.before.before.before.before _ c.before.before.before.before.before.before.before.it2.given.1 in
     let W = rw c.before.before.before.kept.given.1 at c.before.before.before.before.before.kept_of.ensures.1 in
-    peek-fits _ _ _ a.args.len _ a.requires.1 a.requires.0 _ _ _ _ _ R _ _ (sym c.before.before.before.before.before.kept_of.ensures.0 ∙ c.before.before.before.kept.given.1) W c.before.if1.false c.made-step.ensures.0
+    peek_fits _ _ _ a.args.len _ a.requires.1 a.requires.0 _ _ _ _ _ R _ _ (sym c.before.before.before.before.before.kept_of.ensures.0 ∙ c.before.before.before.kept.given.1) W c.before.if1.false c.made_step.ensures.0
 
-returns-5 : tie.Need-returns-5
-returns-5 c =
+returns_5 : tie.Need-returns-5
+returns_5 c =
     let a = c.before.before.before in
     none_of _ _ _ c.before.decode.result c.match.keys3 c.before.decode.ensures
 
@@ -54,4 +54,4 @@ pub peek_spec : {M : Type 1} → statement M
 peek_spec =
     tie.close
     (tie.spec (λ c κs. search rules) (λ c. search rules) (λ c. search rules) (λ c κs. search rules) (λ c. search rules)
-    (λ c. search rules) returns sub-if1 returns-2 (λ c. search rules) (λ c κs. search rules) returns-3 returns-4 returns-5)
+    (λ c. search rules) returns sub_if1 returns_2 (λ c. search rules) (λ c κs. search rules) returns_3 returns_4 returns_5)

@@ -134,21 +134,21 @@ module _ {M : Type 1} {𝓤 : Ura M} (𝓛 : Logic 𝓤) (at_mem : Memory → SP
   h' r = record { file = h.file; stand = r.stand }
 
   -- the call
-  abbrev given-on : Bor (List ℕ) × (Stand × (Bor (List ℕ) × (Bor (List ℕ) × Unit {0})))
-  given-on = (h.file, (h.stand, (y, (z, tt))))
+  abbrev given_on : Bor (List ℕ) × (Stand × (Bor (List ℕ) × (Bor (List ℕ) × Unit {0})))
+  given_on = (h.file, (h.stand, (y, (z, tt))))
 
   abbrev passed : Vals step-at.signature (κ', (κ₂, (κ'', tt)))
   passed = (fv ∷ [], (sv h.stand ∷ [], (yv ∷ [], (zv ∷ [], tt))))
 
   abbrev to : (StepAt 𝓛 at_mem run).Ghost
-  to = (((κ', (κ₂, (κ'', tt))), (q', (q₂, (q'', tt))), tt, given-on, passed), tt)
+  to = (((κ', (κ₂, (κ'', tt))), (q', (q₂, (q'', tt))), tt, given_on, passed), tt)
 
   -- what is known of the call's result and of what the buffers hold after it
   abbrev Heard : Taken → List ℕ → List ℕ → Type 0
   Heard r ys zs = Steps h.stand y.now h.file.now z.now r ys zs
 
-  asked : ent 𝓤 (on_entry 𝓛 step-at.signature (κ', (κ₂, (κ'', tt))) (q', (q₂, (q'', tt))) given-on passed) ((StepAt 𝓛 at_mem run).pre to)
-  asked = qed 𝓛 ((‵ (flft κ' q') ⊛ ‵ (flft κ₂ q₂) ⊛ ‵ (flft κ'' q'') ⊛ ‵ ftrue) ∷ ‵ (owns (ShrSlice (named 0) κ' u8 ∷ St.the_row ∷ MutRef (named 1) κ₂ B ∷ MutSlice (named 2) κ'' u8 ∷ []) given-on passed) ∷ []) ∵ join ! $ frame ! $ done !
+  asked : ent 𝓤 (on_entry 𝓛 step-at.signature (κ', (κ₂, (κ'', tt))) (q', (q₂, (q'', tt))) given_on passed) ((StepAt 𝓛 at_mem run).pre to)
+  asked = qed 𝓛 ((‵ (flft κ' q') ⊛ ‵ (flft κ₂ q₂) ⊛ ‵ (flft κ'' q'') ⊛ ‵ ftrue) ∷ ‵ (owns (ShrSlice (named 0) κ' u8 ∷ St.the_row ∷ MutRef (named 1) κ₂ B ∷ MutSlice (named 2) κ'' u8 ∷ []) given_on passed) ∷ []) ∵ join ! $ frame ! $ done !
 
   -- what the reader owns gives what the callee asks, with the tokens and out, and is kept
   apart : Is St.the_row h.stand (sv h.stand ∷ []) → ent 𝓤 (⋆ 𝓛 (‵ Own ∷ (‵ (flft κ' q') ⊛ ‵ (flft κ₂ q₂) ⊛ ‵ (flft κ'' q'') ⊛ ‵ ftrue) ∷ ‵ (owns (MutRef (named 2) κ₂ B ∷ MutSlice (named 3) κ'' u8 ∷ []) (y, (z, tt)) (yv ∷ [], (zv ∷ [], tt))) ∷ [])) (sep 𝓤 ((StepAt 𝓛 at_mem run).pre to) (sem 𝓛 Own))
@@ -190,8 +190,8 @@ module _ {M : Type 1} {𝓤 : Ura M} (𝓛 : Logic 𝓤) (at_mem : Memory → SP
         move ! (1 ∷ 5 ∷ 6 ∷ []) $ use3 𝓛 (raw ((StepAt 𝓛 at_mem run).pre to) ⊛ ‵ Own) (apart (LL.owed D L h _ g).1.0) $ split ! $
         -- [what is asked; what the reader owns; its cell; the open borrow; obs; auth; _9; …]
         calls_at ! fm (StepAt 𝓛 at_mem run) known to (and_then ! (load ! (from ! (stop !)) (look ! 14 refl)) (and_then ! (load ! (from ! (stop !)) (look ! 12 refl)) (and_then ! (load ! (from ! (stop !)) (look ! 10 refl)) (and_then ! (load ! (from ! (stop !)) (look ! 6 refl)) (no_more !))))) (λ w.
-        use1 𝓛 (later (some (λ (r : Taken). ((‵ (flft κ' q') ⊛ ‵ (flft κ₂ q₂) ⊛ ‵ (flft κ'' q'') ⊛ ‵ ftrue) ⊛ ‵ ((Sd.the_row).own_val r (w ∷ []))) ⊛ raw (ensured 𝓛 step-at.ended (step-at.clauses 𝓛 at_mem run) (κ', (κ₂, (κ'', tt))) given-on tt r)))) (id⊢ 𝓤 _) $ await ! tt $ pick ! (λ r.
-        split ! $ move ! (1 ∷ []) $ use1 𝓛 (some (λ (ws : Lasts step-at.ended (κ', (κ₂, (κ'', tt))) given-on). ‵ (lasts step-at.ended (κ', (κ₂, (κ'', tt))) given-on ws) ⊛ raw (fact 𝓤 (Heard r ws.1.1.0 ws.1.1.1.0)))) (id⊢ 𝓤 _) $ pick ! (λ ws.
+        use1 𝓛 (later (some (λ (r : Taken). ((‵ (flft κ' q') ⊛ ‵ (flft κ₂ q₂) ⊛ ‵ (flft κ'' q'') ⊛ ‵ ftrue) ⊛ ‵ ((Sd.the_row).own_val r (w ∷ []))) ⊛ raw (ensured 𝓛 step-at.ended (step-at.clauses 𝓛 at_mem run) (κ', (κ₂, (κ'', tt))) given_on tt r)))) (id⊢ 𝓤 _) $ await ! tt $ pick ! (λ r.
+        split ! $ move ! (1 ∷ []) $ use1 𝓛 (some (λ (ws : Lasts step-at.ended (κ', (κ₂, (κ'', tt))) given_on). ‵ (lasts step-at.ended (κ', (κ₂, (κ'', tt))) given_on ws) ⊛ raw (fact 𝓤 (Heard r ws.1.1.0 ws.1.1.1.0)))) (id⊢ 𝓤 _) $ pick ! (λ ws.
         split ! $ move ! (1 ∷ []) $ heard ! (Heard r ws.1.1.0 ws.1.1.1.0) (λ e. fsplit ! $ drop ! $ fsplit ! $ drop ! $ fsplit ! $ move ! (1 ∷ []) $ fsplit ! $ fsplit ! $ move ! (1 ∷ []) $ feq_l ! (λ l.
         -- [out's last list; true; the label's; the tokens and the result; what the reader owns; its cell; the open borrow; obs; auth; _9; …]
         move ! (3 ∷ []) $ split ! $ move ! (1 ∷ []) $ peeks ! Sd.the_row (Is Sd.the_row) (shows 𝓛 Sd.the_row) r (w ∷ []) (λ is. drop ! $
@@ -212,20 +212,20 @@ module _ {M : Type 1} {𝓤 : Ura M} (𝓛 : Logic 𝓤) (at_mem : Memory → SP
 module _ {M : Type 1} {𝓤 : Ura M} (𝓛 : Logic 𝓤) (mem : Memory → SProp 𝓤) (run : Routine → Fun 𝓤) where
   open 𝓛 use {H}
 
-  step-walks : (C : Calls 𝓤 H) (Λ : Loops 𝓤 H) → FmC 𝓤 H 𝓛.laws C → Triple 𝓤 (C #step·step-at) (StepAt 𝓛 mem run) → Walks 𝓛 stepping.ended stayed (WpFn 𝓤 H C Λ code.function) (stepping.clauses 𝓛 mem run)
-  step-walks C Λ fm known = walked 𝓛 stepping.ended stayed (stepping.clauses 𝓛 mem run) (WpFn 𝓤 H C Λ code.function) (λ κs. (mut_vals, (mut_vals, (mut_slice_vals, tt)))) (λ κs. (mut_Tells (named 0) κs.0 (T.the_row (named_lft 4 1 tt κs)), (mut_Tells (named 2) κs.1.1.0 B, (mut_slice_Tells (named 3) κs.1.1.1.0 u8, tt))))
+  step_walks : (C : Calls 𝓤 H) (Λ : Loops 𝓤 H) → FmC 𝓤 H 𝓛.laws C → Triple 𝓤 (C #step·step-at) (StepAt 𝓛 mem run) → Walks 𝓛 stepping.ended stayed (WpFn 𝓤 H C Λ code.function) (stepping.clauses 𝓛 mem run)
+  step_walks C Λ fm known = walked 𝓛 stepping.ended stayed (stepping.clauses 𝓛 mem run) (WpFn 𝓤 H C Λ code.function) (λ κs. (mut_vals, (mut_vals, (mut_slice_vals, tt)))) (λ κs. (mut_Tells (named 0) κs.0 (T.the_row (named_lft 4 1 tt κs)), (mut_Tells (named 2) κs.1.1.0 B, (mut_slice_Tells (named 3) κs.1.1.1.0 u8, tt))))
       (λ κs qs bounds a g are. via 𝓤 _ (fst∗ 𝓤 _ (emp 𝓤)) (walk 𝓛 mem run κs.0 κs.1.0 κs.1.1.0 κs.1.1.1.0 bounds qs.0 qs.1.0 qs.1.1.0 qs.1.1.1.0 a.0.ref_ptr.0 a.0.ref_ptr.1 a.0.ghost_name a.0.now a.1.0 a.1.1.0 are.1.1.0.0.1 C Λ fm known))
 
-step-meets : {M : Type 1} {𝓤 : Ura M} (𝓛 : Logic 𝓤) → (mem : Memory → SProp 𝓤) (run : Routine → Fun 𝓤) (𝓣 : Tables 𝓤 𝓛.H) → Triple 𝓤 (𝓣.C #step·step-at) (StepAt 𝓛 mem run)
+step_meets : {M : Type 1} {𝓤 : Ura M} (𝓛 : Logic 𝓤) → (mem : Memory → SProp 𝓤) (run : Routine → Fun 𝓤) (𝓣 : Tables 𝓤 𝓛.H) → Triple 𝓤 (𝓣.C #step·step-at) (StepAt 𝓛 mem run)
     → Meets 𝓛 stepping.signature (WpFn 𝓤 𝓛.H 𝓣.C 𝓣.Λ code.function) (stepping.spec 𝓛 mem run)
-step-meets {𝓤 = 𝓤} 𝓛 mem run 𝓣 known =
+step_meets {𝓤 = 𝓤} 𝓛 mem run 𝓣 known =
     walk_Meets 𝓛 stepping.ended stayed (Goes-ref 𝓛 4 0 tt behind, (Goes-gave_ref 𝓛 4 2 tt buffer, (Goes-gave_slice 𝓛 4 3 tt (plain (λ _. u8)), tt))) (stepping.clauses 𝓛 mem run)
-    (WpFn 𝓤 𝓛.H 𝓣.C 𝓣.Λ code.function) (WpFn-mono 𝓤 𝓛.H 𝓛.laws 𝓣 code.function) (step-walks 𝓛 mem run 𝓣.C 𝓣.Λ (fm_of 𝓤 𝓛.H 𝓛.laws 𝓣) known)
+    (WpFn 𝓤 𝓛.H 𝓣.C 𝓣.Λ code.function) (WpFn-mono 𝓤 𝓛.H 𝓛.laws 𝓣 code.function) (step_walks 𝓛 mem run 𝓣.C 𝓣.Λ (fm_of 𝓤 𝓛.H 𝓛.laws 𝓣) known)
 
 pub step_spec : {M : Type 1} → stated.statement M
 unfolding code.routine tables_of
 step_spec 𝓤 𝓛 𝓜 𝓡 =
     entered 𝓤 𝓛.H (triple_of 𝓛 stepping.signature (stepping.spec 𝓛 𝓜.mem 𝓡.run))
     (tables 𝓤 𝓛.H 𝓜 𝓡 code.env).C (tables 𝓤 𝓛.H 𝓜 𝓡 code.env).Λ #step·step code.function (code.unfolded 𝓤 𝓛.H 𝓜 𝓡)
-    (step-meets 𝓛 𝓜.mem 𝓡.run (tables_of 𝓤 𝓛.H 𝓜 (tables 𝓤 𝓛.H 𝓜 𝓡 code.env))
+    (step_meets 𝓛 𝓜.mem 𝓡.run (tables_of 𝓤 𝓛.H 𝓜 (tables 𝓤 𝓛.H 𝓜 𝓡 code.env))
     (cited 𝓤 𝓛.H (StepAt 𝓛 𝓜.mem 𝓡.run) 𝓜 𝓡 code.env #step·step-at step-at-def.routine code.calls-step::step-at (step-at-thm.met 𝓤 𝓛 𝓜 𝓡)))

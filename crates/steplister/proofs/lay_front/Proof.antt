@@ -17,8 +17,8 @@ returns c =
     (refl, rw (z2, z3, z1) at c.before.before.put_front.ensures)
 
 -- the search closes the other needs
-pub lay-front-spec : {M : Type 1} → statement M
-lay-front-spec =
+pub lay_front_spec : {M : Type 1} → statement M
+lay_front_spec =
     tie.close
     (tie.spec (λ c. search rules) (λ c. search rules) (λ c. search rules) (λ c. search rules) (λ c. search rules)
     (λ c. search rules) (λ c. search rules) (λ c. search rules) (λ c. search rules) (λ c κs. search rules) (λ c. search rules)

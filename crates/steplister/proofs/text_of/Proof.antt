@@ -3,15 +3,15 @@ use native.Mathlib.Omega.{arith}
 use mathlib.Core.Path.{sym, ◌∙◌}
 use lib.ListN.{take}
 use lib.Seq.{length-take-le}
-use Rattle.listing.proofs.Lister.{bytes_take, prints-too-long, prints-shut}
-use Rattle.listing.proofs.Stores.{wrote-front}
-use Rattle.steplister.proofs.Text.{opens, stepped-text}
+use Rattle.listing.proofs.Lister.{bytes_take, prints_too_long, prints_shut}
+use Rattle.listing.proofs.Stores.{wrote_front}
+use Rattle.steplister.proofs.Text.{opens, stepped_text}
 use borrow.Author.Rules.{rules}
 use Rattle.steplister.proofs.text_of.Statement.{statement}
 use Rattle.steplister.proofs.text_of.Tie as tie
 
-slice-aggregate-file : tie.Need-slice-aggregate-file
-slice-aggregate-file c = sym (length-take-le _ _ c.before.before.before.before.requires.1)
+slice_aggregate_file : tie.Need-slice-aggregate-file
+slice_aggregate_file c = sym (length-take-le _ _ c.before.before.before.before.requires.1)
 
 returns : tie.Need-returns
 returns c =
@@ -19,37 +19,37 @@ returns c =
     let file = take s.args.n s.args.input.now in
     let l = length-take-le s.args.n s.args.input.now s.requires.1 in
     let W = c.before.before.list.ensures in
-    let t = prints-too-long file (omega (arith, l, c.before.before.before.before.before.if1.true)) in
-    (omega (arith, W.1), wrote-front _ _ _ _ W.0 (omega (arith, W.1, s.requires.3)) ∙ sym t)
+    let t = prints_too_long file (omega (arith, l, c.before.before.before.before.before.if1.true)) in
+    (omega (arith, W.1), wrote_front _ _ _ _ W.0 (omega (arith, W.1, s.requires.3)) ∙ sym t)
 
-lay-front-requires : tie.Need-lay-front-requires
-lay-front-requires c κs =
+lay_front_requires : tie.Need-lay-front-requires
+lay_front_requires c κs =
     let r = (opens c.before.before.before.before.opening.ensures c.before.before.head2.given.1).room in
     let p = c.before.before.before.before.before.before.before.before.before.before.requires in
-    (r.title-fits, r.time-fits, omega (arith, r.place-least, r.inside), omega (arith, r.title-fits, r.time-fits, p.2))
+    (r.title_fits, r.time_fits, omega (arith, r.place_least, r.inside), omega (arith, r.title_fits, r.time_fits, p.2))
 
-gather-requires : tie.Need-gather-requires
-gather-requires c κs =
+gather_requires : tie.Need-gather-requires
+gather_requires c κs =
     let o = c.before.before.before.before.before.before.before.before.before in
     let s = o.before.before.before.before.before.before in
     let l = length-take-le s.args.n s.args.input.now s.requires.1 in
     let r = (opens o.opening.ensures c.before.before.before.before.before.before.before.head2.given.1).room in
     let f = c.before.before.before.before.lay-front.ensures.0 in
-    (omega (arith, l, o.before.if1.false), omega (arith, r.title-fits, r.time-fits, f), omega (arith, s.requires.3))
+    (omega (arith, l, o.before.if1.false), omega (arith, r.title_fits, r.time_fits, f), omega (arith, s.requires.3))
 
-returns-2 : tie.Need-returns-2
-returns-2 c =
+returns_2 : tie.Need-returns-2
+returns_2 c =
     let o = c.before.before.before.before.before.before.before.before in
     let s = o.before.before.before.before.before.before in
     let file = take s.args.n s.args.input.now in
     let l = length-take-le s.args.n s.args.input.now s.requires.1 in
     let W = c.before.before.list2.ensures in
     let e = rw c.before.before.before.before.before.before.head.given.1 at o.opening.ensures.same in
-    let t = prints-shut file (omega (arith, l, o.before.if1.false)) (sym e) in
-    (omega (arith, W.1), wrote-front _ _ _ _ W.0 (omega (arith, W.1, s.requires.3)) ∙ sym t)
+    let t = prints_shut file (omega (arith, l, o.before.if1.false)) (sym e) in
+    (omega (arith, W.1), wrote_front _ _ _ _ W.0 (omega (arith, W.1, s.requires.3)) ∙ sym t)
 
-returns-3 : tie.Need-returns-3
-returns-3 c =
+returns_3 : tie.Need-returns-3
+returns_3 c =
     let g = c.before.before.before.before.before.before.before.before.before in
     let f = g.before.before.before.before.before in
     let h = f.before.before.before in
@@ -61,13 +61,13 @@ returns-3 c =
     let F = f.lay-front in
     let G = g.gather in
     let P = c.before.before.stop-text.ensures in
-    let t = stepped-text O (omega (arith, l, o.before.if1.false)) s.args.sheet.now F.ensures (omega (arith, F.auto, s.requires.2)) G.ensures in
+    let t = stepped_text O (omega (arith, l, o.before.if1.false)) s.args.sheet.now F.ensures (omega (arith, F.auto, s.requires.2)) G.ensures in
     (P.0, P.1 ∙ t bytes (omega (arith, F.auto, G.auto, s.requires.2)))
 
 -- the search closes the other needs
-pub text-of-spec : {M : Type 1} → statement M
-text-of-spec =
+pub text_of_spec : {M : Type 1} → statement M
+text_of_spec =
     tie.close
-    (tie.spec slice-aggregate-file (λ c. search rules) (λ c κs. search rules) (λ c. search rules) returns (λ c κs. search rules)
-    (λ c. search rules) (λ c. search rules) (λ c κs. search rules) (λ c. search rules) lay-front-requires gather-requires
-    (λ c κs. search rules) (λ c. search rules) returns-2 (λ c. search rules) (λ c. search rules) returns-3)
+    (tie.spec slice_aggregate_file (λ c. search rules) (λ c κs. search rules) (λ c. search rules) returns (λ c κs. search rules)
+    (λ c. search rules) (λ c. search rules) (λ c κs. search rules) (λ c. search rules) lay_front_requires gather_requires
+    (λ c κs. search rules) (λ c. search rules) returns_2 (λ c. search rules) (λ c. search rules) returns_3)

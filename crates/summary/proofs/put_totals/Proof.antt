@@ -1,29 +1,29 @@
 -- `summary::put_totals` meets its contract. Assumes nothing.
 use Rattle.std.proofs.Common.{◌≡◌, ℕ, ◌+◌, ◌-◌, ◌*◌, ◌<◌, ◌≤◌, length, refl, ◌∙◌, subst, arith, length-set, lt-length-set, rules}
-use Rattle.summary.proofs.Sums.{totalled_none, totalled-next, totalled-sum}
+use Rattle.summary.proofs.Sums.{totalled_none, totalled_next, totalled_sum}
 use Rattle.format.specs.Summary.{bit_at}
 use Rattle.summary.specs.Bits.{sum_to, Totalled}
-use Rattle.summary.proofs.Sums.{totalled_none, totalled-next}
+use Rattle.summary.proofs.Sums.{totalled_none, totalled_next}
 use Rattle.summary.proofs.put_totals.Statement.{statement}
 use Rattle.summary.proofs.put_totals.Tie as tie
 
-abbrev invariant-loop : tie.invariant-loop
-invariant-loop words₀ w sum₀ j₀ words sum j = (j ≤ w) × (length words ≡ length words₀) × (sum ≡ sum_to (bit_at words₀) (64 * j)) × (sum ≤ 64 * j) × Totalled words₀ words w j
+abbrev invariant_loop : tie.invariant_loop
+invariant_loop words₀ w sum₀ j₀ words sum j = (j ≤ w) × (length words ≡ length words₀) × (sum ≡ sum_to (bit_at words₀) (64 * j)) × (sum ≤ 64 * j) × Totalled words₀ words w j
 
-abbrev decreases-loop : tie.decreases-loop
-decreases-loop words₀ w sum₀ j₀ words sum j = w - j
+abbrev decreases_loop : tie.decreases_loop
+decreases_loop words₀ w sum₀ j₀ words sum j = w - j
 
-loop-holds : tie.Need-loop-init invariant-loop decreases-loop
+loop_holds : tie.Need-loop-init invariant_loop decreases_loop
 unfolding sum_to
-loop-holds c =
+loop_holds c =
     (omega arith, refl, refl, omega arith, totalled_none c.before.args.words.now c.before.args.w)
 
-slice-read-ones-of : tie.Need-slice-read-ones-of invariant-loop decreases-loop
-slice-read-ones-of c =
+slice_read_ones_of : tie.Need-slice-read-ones-of invariant_loop decreases_loop
+slice_read_ones_of c =
     let l = c.before.before.loop in lt-length-set l.words (c.before.before.before.before.args.w + l.j) l.sum (omega arith)
 
-loop-again : tie.Need-loop-preserved invariant-loop decreases-loop
-loop-again c =
+loop_again : tie.Need-loop-preserved invariant_loop decreases_loop
+loop_again c =
     let l = c.before.before.before.loop in
     let w = c.before.before.before.before.before.args.w in
     let h : l.j < w = c.before.before.loop-test.true in
@@ -31,20 +31,20 @@ loop-again c =
     let g : l.sum + c.ones-of.result ≤ 64 * (l.j + 1) = omega (arith, c.before.before, c.ones-of.ensures.1) in (
       omega arith,
       length-set l.words (w + l.j) l.sum ∙ l.invariant.1,
-      totalled-sum l.j l.sum c.ones-of.result h l.invariant.2 l.invariant.4 c.ones-of.ensures.0,
+      totalled_sum l.j l.sum c.ones-of.result h l.invariant.2 l.invariant.4 c.ones-of.ensures.0,
       g,
-      totalled-next l.j l.sum h p l.invariant.2 l.invariant.4,
+      totalled_next l.j l.sum h p l.invariant.2 l.invariant.4,
     )
 
-returns : tie.Need-returns invariant-loop decreases-loop
+returns : tie.Need-returns invariant_loop decreases_loop
 returns c =
     let e : c.before.loop.j ≡ c.before.before.before.args.w = omega (arith, c.loop-test.false) in
     subst (λ (k : ℕ). Totalled c.before.before.before.args.words.now c.before.loop.words c.before.before.before.args.w k) e c.before.loop.invariant.4
 
 -- the search closes the other needs
-pub put-totals-spec : {M : Type 1} → statement M
-put-totals-spec =
+pub put_totals_spec : {M : Type 1} → statement M
+put_totals_spec =
     tie.close
-    (tie.spec invariant-loop decreases-loop loop-holds (λ c. search rules) (λ c. search rules) (λ c. search rules) (λ c. search rules)
-    slice-read-ones-of (λ c κs. search rules) (λ c. search rules) (λ c. search rules) (λ c. search rules) loop-again
+    (tie.spec invariant_loop decreases_loop loop_holds (λ c. search rules) (λ c. search rules) (λ c. search rules) (λ c. search rules)
+    slice_read_ones_of (λ c κs. search rules) (λ c. search rules) (λ c. search rules) (λ c. search rules) loop_again
     (λ c. search rules) returns)

@@ -1,11 +1,11 @@
 -- `table::empty` meets its contract. Assumes nothing.
 use mathlib.Core.Path.{refl}
-use Rattle.table.proofs.Taking.{good-empty, none-empty}
+use Rattle.table.proofs.Taking.{good_empty, none_empty}
 use Rattle.table.proofs.empty.Statement.{statement}
 use Rattle.table.proofs.empty.Tie as tie
 
 returns : tie.Need-returns
-returns c = (good-empty _ _, none-empty _, refl)
+returns c = (good_empty _ _, none_empty _, refl)
 
-pub empty-spec : {M : Type 1} → statement M
-empty-spec = tie.close (tie.spec returns)
+pub empty_spec : {M : Type 1} → statement M
+empty_spec = tie.close (tie.spec returns)

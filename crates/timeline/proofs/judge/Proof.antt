@@ -10,27 +10,27 @@ unfolding pick
 returns c =
     rw (c.before.before.before.before.before.first2.given.1, c.before.before.second2.given.1) (simp (lt-ltb _ _ c.if1.true))
 
-returns-2 : tie.Need-returns-2
+returns_2 : tie.Need-returns-2
 unfolding pick
-returns-2 c =
+returns_2 c =
     rw (c.before.before.before.before.before.before.first2.given.1, c.before.before.before.second2.given.1)
     (simp (le-ltb _ _ c.before.if1.false, lt-ltb _ _ c.if2.true))
 
-returns-3 : tie.Need-returns-3
-returns-3 c = rw c.before.first.given.1
+returns_3 : tie.Need-returns-3
+returns_3 c = rw c.before.first.given.1
 
-returns-4 : tie.Need-returns-4
-returns-4 c = rw (c.before.before.before.before.first2.given.1, c.before.second.given.1)
+returns_4 : tie.Need-returns-4
+returns_4 c = rw (c.before.before.before.before.first2.given.1, c.before.second.given.1)
 
-returns-5 : tie.Need-returns-5
+returns_5 : tie.Need-returns-5
 unfolding pick
-returns-5 c =
+returns_5 c =
     rw (c.before.before.before.before.before.before.first2.given.1, c.before.before.before.second2.given.1)
     (simp (le-ltb _ _ c.before.if1.false, le-ltb _ _ c.if2.false))
 
 -- the search closes the other needs
-pub judge-spec : {M : Type 1} → statement M
-judge-spec =
+pub judge_spec : {M : Type 1} → statement M
+judge_spec =
     tie.close
-    (tie.spec (λ c. search rules) (λ c. search rules) (λ c. search rules) (λ c. search rules) returns returns-2 returns-3 returns-4
-    returns-5)
+    (tie.spec (λ c. search rules) (λ c. search rules) (λ c. search rules) (λ c. search rules) returns returns_2 returns_3 returns_4
+    returns_5)

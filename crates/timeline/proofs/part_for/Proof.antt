@@ -3,8 +3,8 @@ use borrow.Author.Rules.{rules}
 use Rattle.timeline.proofs.part_for.Statement.{statement}
 use Rattle.timeline.proofs.part_for.Tie as tie
 
-pub part-for-spec : {M : Type 1} → statement M
-part-for-spec =
+pub part_for_spec : {M : Type 1} → statement M
+part_for_spec =
     tie.close
     (tie.spec (λ c. search rules) (λ c κs. search rules) (λ c. search rules) (λ c κs. search rules) (λ c. search rules) (λ c. search rules)
     (λ c. search rules)

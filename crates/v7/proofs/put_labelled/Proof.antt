@@ -1,15 +1,15 @@
 -- `v7::put_labelled` meets its contract. Assumes nothing.
-use Rattle.part.proofs.Laying.{lays-within, lays-then}
-use Rattle.format.proofs.WritingLaws.{common-le}
-use Rattle.format.specs.V7Codes.{labelledCodes}
+use Rattle.part.proofs.Laying.{lays_within, lays_then}
+use Rattle.format.proofs.WritingLaws.{common_le}
+use Rattle.format.specs.V7Codes.{labelled_codes}
 use native.Mathlib.Omega.{arith}
 use borrow.Author.Rules.{rules}
 use Rattle.v7.proofs.put_labelled.Statement.{statement}
 use Rattle.v7.proofs.put_labelled.Tie as tie
 
-put-shorten-requires : tie.Need-put-shorten-requires
-put-shorten-requires c κs =
-    let h = common-le c.before.before.before.before.before.before.args.last.now
+put_shorten_requires : tie.Need-put-shorten-requires
+put_shorten_requires c κs =
+    let h = common_le c.before.before.before.before.before.before.args.last.now
     c.before.before.before.before.before.before.args.name.now in
     let e = c.before.common-start.ensures in (
       omega (arith, c.before.before.before.before.before.before.requires),
@@ -18,10 +18,10 @@ put-shorten-requires c κs =
       omega (arith, h, e),
     )
 
-put-added-requires : tie.Need-put-added-requires
-put-added-requires c κs =
+put_added_requires : tie.Need-put-added-requires
+put_added_requires c κs =
     let c8 = c.before.before.before.before.before.before.before.before in
-    let h = common-le c8.before.before.before.before.before.before.before.args.last.now
+    let h = common_le c8.before.before.before.before.before.before.before.args.last.now
     c8.before.before.before.before.before.before.before.args.name.now in
     let e = c8.before.before.common-start.ensures in (
       omega (
@@ -36,20 +36,20 @@ put-added-requires c κs =
     )
 
 returns : tie.Need-returns
-unfolding labelledCodes
+unfolding labelled_codes
 returns c =
     let c8 = c.before.before.before.before.before.before.before.before in
     let c16 = c8.before.before.before.before.before.before.before.before in
     let e = c16.before.common-start.ensures in
-    lays-within
-    (lays-then (rw e at c8.before.before.before.before.before.before.before.put-shorten.ensures)
-    (lays-then c8.before.before.put.ensures (lays-then (rw e at c.before.before.before.before.before.before.put-added.ensures)
+    lays_within
+    (lays_then (rw e at c8.before.before.before.before.before.before.before.put-shorten.ensures)
+    (lays_then c8.before.before.put.ensures (lays_then (rw e at c.before.before.before.before.before.before.put-added.ensures)
     c.before.before.put2.ensures)))
     _ (omega (arith, c16.before.before.before.before.before.before.requires))
 
 -- the search closes the other needs
-pub put-labelled-spec : {M : Type 1} → statement M
-put-labelled-spec =
+pub put_labelled_spec : {M : Type 1} → statement M
+put_labelled_spec =
     tie.close
-    (tie.spec (λ c κs. search rules) put-shorten-requires (λ c. search rules) (λ c κs. search rules) put-added-requires (λ c κs. search rules)
+    (tie.spec (λ c κs. search rules) put_shorten_requires (λ c. search rules) (λ c κs. search rules) put_added_requires (λ c κs. search rules)
     (λ c. search rules) returns)

@@ -11,17 +11,17 @@ returns c =
     let h : 0 < c.before.before.fields.given.0.1.0 = omega (arith, c.if1.true) in
     rw (c.before.before.fields.given.1, lt-ltb 0 _ h)
 
-returns-2 : tie.Need-returns-2
-returns-2 c =
+returns_2 : tie.Need-returns-2
+returns_2 c =
     let h : c.before.before.fields.given.0.1.0 ≤ 0 = omega (arith, c.if1.false) in
     rw (c.before.before.fields.given.1, le-ltb 0 _ h)
 
-returns-3 : tie.Need-returns-3
-returns-3 c = rw c.before.before.fields2.given.1
+returns_3 : tie.Need-returns-3
+returns_3 c = rw c.before.before.fields2.given.1
 
 -- the search closes the other needs
-pub unable-spec : {M : Type 1} → statement M
-unable-spec =
+pub unable_spec : {M : Type 1} → statement M
+unable_spec =
     tie.close
-    (tie.spec (λ c. search rules) returns (λ c. search rules) (λ c. search rules) (λ c. search rules) returns-2 returns-3 (λ c. search rules)
+    (tie.spec (λ c. search rules) returns (λ c. search rules) (λ c. search rules) (λ c. search rules) returns_2 returns_3 (λ c. search rules)
     (λ c. search rules))

@@ -7,15 +7,15 @@ use Rattle.viewer.proofs.exact.Statement.{statement}
 use Rattle.viewer.proofs.exact.Tie as tie
 
 -- what the call gave is the difference
-less-at : (c : tie.After-less) → c.less.result ≡ c.before.args.a -ℤ c.before.args.o
-less-at c = c.less.ensures ∙ passed c.before.args.a c.before.args.o c.before.ranges.a c.before.ranges.o
+less_at : (c : tie.After-less) → c.less.result ≡ c.before.args.a -ℤ c.before.args.o
+less_at c = c.less.ensures ∙ passed c.before.args.a c.before.args.o c.before.ranges.a c.before.ranges.o
 
-int-to-float-result : tie.Need-int-to-float-result
-int-to-float-result c = float_fits _ _ c.before.less.type-inv (less-at c.before) c.before.before.requires
+int_to_float_result : tie.Need-int-to-float-result
+int_to_float_result c = float_fits _ _ c.before.less.type-inv (less_at c.before) c.before.before.requires
 
 returns : tie.Need-returns
-returns c = float_is _ _ c.before.less.type-inv (less-at c.before)
+returns c = float_is _ _ c.before.less.type-inv (less_at c.before)
 
 -- the search closes the other need
-pub exact-spec : {M : Type 1} → statement M
-exact-spec = tie.close (tie.spec (λ c κs. search rules) int-to-float-result returns)
+pub exact_spec : {M : Type 1} → statement M
+exact_spec = tie.close (tie.spec (λ c κs. search rules) int_to_float_result returns)

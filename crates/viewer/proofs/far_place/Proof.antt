@@ -4,53 +4,53 @@ use lib.Dec.{ltb}
 use lib.IntN.{◌-ℤ◌, nat_abs}
 use borrow.Author.Rules.{rules}
 use Rattle.format.specs.Viewer.{farthest}
-use Rattle.viewer.proofs.Differences.{came-far, far-first, far-second, far-third}
+use Rattle.viewer.proofs.Differences.{came_far, far_first, far_second, far_third}
 use Rattle.viewer.proofs.far_place.Statement.{statement}
 use Rattle.viewer.proofs.far_place.Tie as tie
 
 -- what each call says
-x-at : (y : tie.After-is-far) → let a = y.before.before.before.args in y.is-far.result ≡ ltb farthest (nat_abs (a.c.x -ℤ a.origin.x))
-x-at y =
+x_at : (y : tie.After-is-far) → let a = y.before.before.before.args in y.is-far.result ≡ ltb farthest (nat_abs (a.c.x -ℤ a.origin.x))
+x_at y =
     let a = y.before.before.before.args in
-    came-far a.c.x a.origin.x _ y.before.before.struct_told.given.0.1 y.before.struct-told2.given.0.1 y.is-far.ensures
+    came_far a.c.x a.origin.x _ y.before.before.struct_told.given.0.1 y.before.struct-told2.given.0.1 y.is-far.ensures
 
-y-at : (y : tie.After-is-far2)
+y_at : (y : tie.After-is-far2)
     → let a = y.before.before.before.before.before.before.before.args in y.is-far2.result ≡ ltb farthest (nat_abs (a.c.y -ℤ a.origin.y))
-y-at y =
+y_at y =
     let a = y.before.before.before.before.before.before.before.args in
-    came-far a.c.y a.origin.y _ y.before.before.struct-told3.given.1.0.1 y.before.struct-told4.given.1.0.1 y.is-far2.ensures
+    came_far a.c.y a.origin.y _ y.before.before.struct-told3.given.1.0.1 y.before.struct-told4.given.1.0.1 y.is-far2.ensures
 
-z-at : (y : tie.After-is-far3)
+z_at : (y : tie.After-is-far3)
     → let a = y.before.before.before.before.before.before.before.before.before.before.before.args in
     y.is-far3.result ≡ ltb farthest (nat_abs (a.c.z -ℤ a.origin.z))
-z-at y =
+z_at y =
     let a = y.before.before.before.before.before.before.before.before.before.before.before.args in
-    came-far a.c.z a.origin.z _ y.before.before.struct-told5.given.1.1.0.1 y.before.struct-told6.given.1.1.0.1 y.is-far3.ensures
+    came_far a.c.z a.origin.z _ y.before.before.struct-told5.given.1.1.0.1 y.before.struct-told6.given.1.1.0.1 y.is-far3.ensures
 
 returns : tie.Need-returns
 returns c =
     let a = c.before.before.before.before.args in
-    far-first (a.c.x -ℤ a.origin.x) (a.c.y -ℤ a.origin.y) (a.c.z -ℤ a.origin.z) (sym (x-at c.before) ∙ c.if1.true)
+    far_first (a.c.x -ℤ a.origin.x) (a.c.y -ℤ a.origin.y) (a.c.z -ℤ a.origin.z) (sym (x_at c.before) ∙ c.if1.true)
 
-returns-2 : tie.Need-returns-2
-returns-2 c =
+returns_2 : tie.Need-returns-2
+returns_2 c =
     let d = c.before.before.before.before in
     let a = d.before.before.before.before.args in
-    far-second (a.c.x -ℤ a.origin.x) (a.c.y -ℤ a.origin.y) (a.c.z -ℤ a.origin.z)
-    (sym (x-at d.before) ∙ d.if1.false)
-    (sym (y-at c.before) ∙ c.if2.true)
+    far_second (a.c.x -ℤ a.origin.x) (a.c.y -ℤ a.origin.y) (a.c.z -ℤ a.origin.z)
+    (sym (x_at d.before) ∙ d.if1.false)
+    (sym (y_at c.before) ∙ c.if2.true)
 
-returns-3 : tie.Need-returns-3
-returns-3 c =
+returns_3 : tie.Need-returns-3
+returns_3 c =
     let e = c.before.before.before in
     let d = e.before.before.before.before in
     let a = d.before.before.before.before.args in
-    far-third (a.c.x -ℤ a.origin.x) (a.c.y -ℤ a.origin.y) (a.c.z -ℤ a.origin.z)
-    (sym (x-at d.before) ∙ d.if1.false)
-    (sym (y-at e.before) ∙ e.if2.false)
+    far_third (a.c.x -ℤ a.origin.x) (a.c.y -ℤ a.origin.y) (a.c.z -ℤ a.origin.z)
+    (sym (x_at d.before) ∙ d.if1.false)
+    (sym (y_at e.before) ∙ e.if2.false)
     _
-    (z-at c)
+    (z_at c)
 
 -- the search closes the other needs
-pub far-place-spec : {M : Type 1} → statement M
-far-place-spec = tie.close (tie.spec (λ c κs. search rules) returns (λ c κs. search rules) returns-2 (λ c κs. search rules) returns-3)
+pub far_place_spec : {M : Type 1} → statement M
+far_place_spec = tie.close (tie.spec (λ c κs. search rules) returns (λ c κs. search rules) returns_2 (λ c κs. search rules) returns_3)

@@ -1,4 +1,4 @@
--- `viewer::place_at` meets its contract. Assumes nothing.
+-- `viewer::place_at_lem` meets its contract. Assumes nothing.
 use mathlib.Core.Path.{refl}
 use borrow.Author.Rules.{rules}
 use Rattle.reach.proofs.Numbers.{read}
@@ -15,5 +15,5 @@ returns c =
     rw (bits-x, bits-y, bits-z, x.Signed-of.ensures, y.signed-of2.ensures, c.signed-of3.ensures, x.before.point.ensures) refl
 
 -- the search closes the other needs
-pub place-at-spec : {M : Type 1} → statement M
-place-at-spec = tie.close (tie.spec (λ c κs. search rules) (λ c κs. search rules) (λ c κs. search rules) (λ c κs. search rules) returns)
+pub place_at_spec : {M : Type 1} → statement M
+place_at_spec = tie.close (tie.spec (λ c κs. search rules) (λ c κs. search rules) (λ c κs. search rules) (λ c κs. search rules) returns)

@@ -11,17 +11,17 @@ use Rattle.wire.proofs.Laws.{copy_step}
 use Rattle.wire.proofs.copy.Statement.{statement}
 use Rattle.wire.proofs.copy.Tie as tie
 
-abbrev invariant-loop : tie.invariant-loop
-invariant-loop src dst₀ i₀ dst i = (i ≤ length src) × (length dst ≡ length dst₀) × (dst ≡ take i src ++ drop i dst₀)
+abbrev invariant_loop : tie.invariant_loop
+invariant_loop src dst₀ i₀ dst i = (i ≤ length src) × (length dst ≡ length dst₀) × (dst ≡ take i src ++ drop i dst₀)
 
-abbrev decreases-loop : tie.decreases-loop
-decreases-loop src dst₀ i₀ dst i = length src - i
+abbrev decreases_loop : tie.decreases_loop
+decreases_loop src dst₀ i₀ dst i = length src - i
 
-loop-holds : tie.Need-loop-init invariant-loop decreases-loop
-loop-holds c = (omega arith, refl, refl)
+loop_holds : tie.Need-loop-init invariant_loop decreases_loop
+loop_holds c = (omega arith, refl, refl)
 
-loop-again : tie.Need-loop-preserved invariant-loop decreases-loop
-loop-again c =
+loop_again : tie.Need-loop-preserved invariant_loop decreases_loop
+loop_again c =
     let d = c.before.before.before.args.dst.now in
     let s = c.before.before.before.args.src.now in
     let l = c.before.before.loop in (
@@ -31,7 +31,7 @@ loop-again c =
           ∙ copy_step s d l.i (omega arith) (omega arith),
     )
 
-returns : tie.Need-returns invariant-loop decreases-loop
+returns : tie.Need-returns invariant_loop decreases_loop
 unfolding over
 returns c =
     let e : c.before.loop.i ≡ length c.before.before.args.src.now = omega arith in
@@ -41,5 +41,5 @@ returns c =
 pub copy_spec : {M : Type 1} → statement M
 copy_spec =
     tie.close
-    (tie.spec invariant-loop decreases-loop loop-holds (λ c. omega arith) (λ c. omega arith) (λ c. omega arith) (λ c. omega arith) loop-again
+    (tie.spec invariant_loop decreases_loop loop_holds (λ c. omega arith) (λ c. omega arith) (λ c. omega arith) (λ c. omega arith) loop_again
     (λ c. search rules) returns)

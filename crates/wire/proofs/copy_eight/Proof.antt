@@ -14,5 +14,5 @@ returns c =
     c.before.before.put-le64.ensures ∙ ap (λ (x : List ℕ). over x d) g
 
 -- the search closes the other needs
-pub copy-eight-spec : {M : Type 1} → statement M
-copy-eight-spec = tie.close (tie.spec (λ c κs. search rules) (λ c κs. search rules) (λ c. search rules) returns)
+pub copy_eight_spec : {M : Type 1} → statement M
+copy_eight_spec = tie.close (tie.spec (λ c κs. search rules) (λ c κs. search rules) (λ c. search rules) returns)

@@ -1,16 +1,16 @@
 use native.Mathlib.Omega.{arith}
-use Rattle.wire.proofs.Laws.{laps-ends}
+use Rattle.wire.proofs.Laws.{laps_ends}
 use borrow.Author.Rules.{rules}
 use Rattle.wire.proofs.copy_short.Statement.{statement}
 use Rattle.wire.proofs.copy_short.Tie as tie
 
 -- the search closes the other needs
-pub copy-short-spec : {M : Type 1} → statement M
-copy-short-spec =
+pub copy_short_spec : {M : Type 1} → statement M
+copy_short_spec =
     tie.close
     (tie.spec (λ c κs. search rules) (λ c. search rules) (λ c. search rules) (λ c κs. search rules) (λ c. search rules) (λ c. search rules)
     (λ c. search rules) (λ c. search rules) (λ c. search rules) (λ c. search rules) (λ c κs. search rules) (λ c. search rules)
     (λ c. let p = c.before.before.before.before.before.before.before.before.before.before.before.before.requires in
     let h = c.before.before.before.before.before.before.before.before.before.if1.false in
-    laps-ends _ _ _ _ 8 c.before.before.before.before.before.before.before.copy-eight.ensures c.before.before.copy-eight2.ensures
+    laps_ends _ _ _ _ 8 c.before.before.before.before.before.before.before.copy-eight.ensures c.before.before.copy-eight2.ensures
     (omega arith) (omega arith) (omega arith)))

@@ -15,8 +15,8 @@ returns c =
     refl (omega (arith, a.requires)) (omega (arith, a.requires))
 
 -- the search closes the other needs
-pub copy-sixteen-spec : {M : Type 1} → statement M
-copy-sixteen-spec =
+pub copy_sixteen_spec : {M : Type 1} → statement M
+copy_sixteen_spec =
     tie.close
     (tie.spec (λ c κs. search rules) (λ c. search rules) (λ c. search rules) (λ c. search rules) (λ c. search rules) (λ c. search rules)
     (λ c. search rules) (λ c κs. search rules) (λ c. search rules) returns)

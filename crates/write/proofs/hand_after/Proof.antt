@@ -3,8 +3,8 @@ use borrow.Author.Rules.{rules}
 use Rattle.write.proofs.hand_after.Statement.{statement}
 use Rattle.write.proofs.hand_after.Tie as tie
 
-pub hand-after-spec : {M : Type 1} → statement M
-hand-after-spec =
+pub hand_after_spec : {M : Type 1} → statement M
+hand_after_spec =
     tie.close
     (tie.spec (λ c. search rules) (λ c κs. search rules) (λ c. search rules) (λ c κs. search rules) (λ c. search rules) (λ c κs. search rules)
     (λ c. search rules)

@@ -6,5 +6,5 @@ returns : tie.Need-returns
 returns c = rw c.mark_of.ensures
 
 -- the search closes the other needs
-pub hand-of-spec : {M : Type 1} → statement M
-hand-of-spec = tie.close (tie.spec (λ c κs. search rules) returns)
+pub hand_of_spec : {M : Type 1} → statement M
+hand_of_spec = tie.close (tie.spec (λ c κs. search rules) returns)

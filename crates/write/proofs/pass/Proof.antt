@@ -1,77 +1,77 @@
 -- `write::pass` meets its contract. Assumes nothing.
 use native.Mathlib.Omega.{arith}
 use Rattle.format.specs.Writing.{v8}
-use Rattle.write.proofs.Whole.{pass-flawed, pass-sheet}
+use Rattle.write.proofs.Whole.{pass_flawed, pass_sheet}
 use lib.ListN.{length-take, length-drop}
 use borrow.Author.Rules.{rules}
 use Rattle.write.proofs.pass.Statement.{statement}
 use Rattle.write.proofs.pass.Tie as tie
 
-add-middle : tie.Need-overflow-add-middle
-add-middle c =
+add_middle : tie.Need-overflow-add-middle
+add_middle c =
     let F = rw c.before.front.given.1 at c.before.before.before.read-front.ensures in
-    omega (arith, F.inside, F.title-short, F.time-short)
+    omega (arith, F.inside, F.title_short, F.time_short)
 
 add_begin : tie.Need-overflow-add-begin
 add_begin c =
     let F = rw c.before.front.given.1 at c.before.before.before.read-front.ensures in
-    omega (arith, F.inside, F.title-short, F.time-short)
+    omega (arith, F.inside, F.title_short, F.time_short)
 
-sub-put-header : tie.Need-overflow-sub-put-header
-sub-put-header c =
+sub_put_header : tie.Need-overflow-sub-put-header
+sub_put_header c =
     let F = rw c.before.before.front.given.1 at c.before.before.before.before.read-front.ensures in
-    omega (arith, F.inside, F.title-short, F.time-short)
+    omega (arith, F.inside, F.title_short, F.time_short)
 
-part-put-header-start : tie.Need-slice-bounds-put-header-start
-part-put-header-start c =
+part_put_header_start : tie.Need-slice-bounds-put-header-start
+part_put_header_start c =
     let F = rw c.before.before.front.given.1 at c.before.before.before.before.read-front.ensures in
-    omega (arith, F.inside, F.title-short, F.time-short)
+    omega (arith, F.inside, F.title_short, F.time_short)
 
-part-put-header-end : tie.Need-slice-bounds-put-header-end
-part-put-header-end c =
+part_put_header_end : tie.Need-slice-bounds-put-header-end
+part_put_header_end c =
     let F = rw c.before.before.front.given.1 at c.before.before.before.before.read-front.ensures in
-    omega (arith, F.inside, F.title-short, F.time-short)
+    omega (arith, F.inside, F.title_short, F.time_short)
 
-sub-put-header-2 : tie.Need-overflow-sub-put-header-2
-sub-put-header-2 c =
+sub_put_header_2 : tie.Need-overflow-sub-put-header-2
+sub_put_header_2 c =
     let F = rw c.before.before.before.front.given.1 at c.before.before.before.before.before.read-front.ensures in
-    omega (arith, F.inside, F.title-short, F.time-short)
+    omega (arith, F.inside, F.title_short, F.time_short)
 
-part-put-header-start-2 : tie.Need-slice-bounds-put-header-start-2
-part-put-header-start-2 c =
+part_put_header_start_2 : tie.Need-slice-bounds-put-header-start-2
+part_put_header_start_2 c =
     let F = rw c.before.before.before.front.given.1 at c.before.before.before.before.before.read-front.ensures in
-    omega (arith, F.inside, F.title-short, F.time-short)
+    omega (arith, F.inside, F.title_short, F.time_short)
 
-part-put-header-end-2 : tie.Need-slice-bounds-put-header-end-2
-part-put-header-end-2 c =
+part_put_header_end_2 : tie.Need-slice-bounds-put-header-end-2
+part_put_header_end_2 c =
     let F = rw c.before.before.before.front.given.1 at c.before.before.before.before.before.read-front.ensures in
-    omega (arith, F.inside, F.title-short, F.time-short)
+    omega (arith, F.inside, F.title_short, F.time_short)
 
-put-header-requires : tie.Need-put-header-requires
-put-header-requires c κs =
+put_header_requires : tie.Need-put-header-requires
+put_header_requires c κs =
     let F = rw c.before.before.before.before.front.given.1 at c.before.before.before.before.before.before.read-front.ensures in
-    (F.extended-small, simp (length-take, length-drop) (omega (arith, F.title-short)), simp (length-take, length-drop) (omega (arith, F.time-short)))
+    (F.extended_small, simp (length-take, length-drop) (omega (arith, F.title_short)), simp (length-take, length-drop) (omega (arith, F.time_short)))
 
-put-records-requires : tie.Need-put-records-requires
-put-records-requires c κs =
+put_records_requires : tie.Need-put-records-requires
+put_records_requires c κs =
     let F = rw c.before.before.before.before.before.before.before.before.front.given.1 at
     c.before.before.before.before.before.before.before.before.before.before.read-front.ensures in
     (F.inside, omega (arith, c.before.before.before.put-header.ensures.most))
 
 returns : tie.Need-returns
 returns c =
-    pass-flawed v8 _ _ _ c.before.before.before.version_of.ensures (rw c.enum_told.given.1 at c.before.before.read-front.ensures)
+    pass_flawed v8 _ _ _ c.before.before.before.version_of.ensures (rw c.enum_told.given.1 at c.before.before.read-front.ensures)
 
-returns-2 : tie.Need-returns-2
-returns-2 c =
+returns_2 : tie.Need-returns-2
+returns_2 c =
     let F = rw c.before.before.before.before.before.before.before.before.before.before.before.front.given.1 at
     c.before.before.before.before.before.before.before.before.before.before.before.before.before.read-front.ensures in
-    pass-sheet v8 _ _ _ _ _ _ _ _ _ _ _ c.before.before.before.before.before.before.before.before.before.before.before.before.before.before.version_of.ensures F c.before.before.before.before.before.before.put-header.ensures c.before.before.put-records.ensures
+    pass_sheet v8 _ _ _ _ _ _ _ _ _ _ _ c.before.before.before.before.before.before.before.before.before.before.before.before.before.before.version_of.ensures F c.before.before.before.before.before.before.put-header.ensures c.before.before.put-records.ensures
 
 -- the search closes the other needs
 pub pass_spec : {M : Type 1} → statement M
 pass_spec =
     tie.close
-    (tie.spec (λ c κs. search rules) (λ c κs. search rules) (λ c. search rules) (λ c. search rules) add-middle add_begin sub-put-header
-    part-put-header-start part-put-header-end sub-put-header-2 part-put-header-start-2 part-put-header-end-2 put-header-requires
-    put-records-requires returns (λ c. search rules) returns-2)
+    (tie.spec (λ c κs. search rules) (λ c κs. search rules) (λ c. search rules) (λ c. search rules) add_middle add_begin sub_put_header
+    part_put_header_start part_put_header_end sub_put_header_2 part_put_header_start_2 part_put_header_end_2 put_header_requires
+    put_records_requires returns (λ c. search rules) returns_2)

@@ -1,7 +1,7 @@
 -- `write::write` meets its contract. Assumes nothing.
-use Rattle.format.specs.Sheet.{frontHeader, sheetResult}
-use Rattle.format.specs.Writing.{v8, writeOutcome, writeBuffer}
-use Rattle.counts.proofs.Files.{passes-refused, passes-small, passes-done}
+use Rattle.format.specs.Sheet.{front_header, sheet_result}
+use Rattle.format.specs.Writing.{v8, write_outcome, write_buffer}
+use Rattle.counts.proofs.Files.{passes_refused, passes_small, passes_done}
 use mathlib.Core.List.{◌++◌}
 use lib.Seq.{length-take-le}
 use native.Mathlib.Omega.{arith}
@@ -10,35 +10,35 @@ use Rattle.write.proofs.write.Statement.{statement}
 use Rattle.write.proofs.write.Tie as tie
 
 returns : tie.Need-returns
-unfolding writeOutcome writeBuffer
+unfolding write_outcome write_buffer
 returns c =
     let a = c.before.before.before.before.before.before.before.before.before.before.args in
     let p = c.before.before.before.before.before.before.pass.ensures in
-    passes-small v8 (frontHeader a.sheet.now) (sheetResult a.sheet.now) a.out.now
+    passes_small v8 (front_header a.sheet.now) (sheet_result a.sheet.now) a.out.now
     c.before.before.before.before.before.before.pass.new.1.0 c.before.before.before.before.before.before.pass.result p.kept
     p.answer c.before.before.answer2.given.1 c.if1.true
 
-slice-aggregate-pass-2 : tie.Need-slice-aggregate-pass-2
-slice-aggregate-pass-2 c =
+slice_aggregate_pass_2 : tie.Need-slice-aggregate-pass-2
+slice_aggregate_pass_2 c =
     let e = length-take-le c.before.before.before.answer2.given.0.0
     (c.before.before.before.before.before.before.before.pass.new.1.0 ++
     c.before.before.before.before.before.before.before.before.before.before.before.args.out.now) (omega (arith, c.before.if1.false)) in
     omega (arith, e)
 
-returns-2 : tie.Need-returns-2
-unfolding writeOutcome writeBuffer
-returns-2 c =
+returns_2 : tie.Need-returns-2
+unfolding write_outcome write_buffer
+returns_2 c =
     let a = c.before.before.before.before.before.before.before.before.before.args in
     let p = c.before.before.before.before.before.pass.ensures in
-    passes-refused v8 (frontHeader a.sheet.now) (sheetResult a.sheet.now) a.out.now c.before.before.before.before.before.pass.new.1.0
+    passes_refused v8 (front_header a.sheet.now) (sheet_result a.sheet.now) a.out.now c.before.before.before.before.before.pass.new.1.0
     c.before.before.before.before.before.pass.result p.kept p.answer c.before.answer.given.1
 
-returns-3 : tie.Need-returns-3
-unfolding writeOutcome writeBuffer
-returns-3 c =
+returns_3 : tie.Need-returns-3
+unfolding write_outcome write_buffer
+returns_3 c =
     let a = c.before.before.before.before.before.before.before.before.before.before.before.before.before.before.args in
     let p = c.before.before.before.before.before.before.before.before.before.before.pass.ensures in
-    passes-done v8 (frontHeader a.sheet.now) (sheetResult a.sheet.now) a.out.now
+    passes_done v8 (front_header a.sheet.now) (sheet_result a.sheet.now) a.out.now
     c.before.before.before.before.before.before.before.before.before.before.pass.new.1.0
     c.before.before.before.before.before.before.before.before.before.before.pass.result p.kept p.answer
     c.before.before.before.before.before.before.answer2.given.1 c.before.before.before.before.if1.false
@@ -49,5 +49,5 @@ pub write_spec : {M : Type 1} → statement M
 write_spec =
     tie.close
     (tie.spec (λ c. search rules) (λ c. search rules) (λ c κs. search rules) (λ c. search rules) (λ c. search rules) (λ c. search rules)
-    returns (λ c. search rules) slice-aggregate-pass-2 (λ c κs. search rules) (λ c. search rules) returns-2 (λ c. search rules)
-    returns-3)
+    returns (λ c. search rules) slice_aggregate_pass_2 (λ c κs. search rules) (λ c. search rules) returns_2 (λ c. search rules)
+    returns_3)

@@ -1,6 +1,6 @@
 -- `write_v7::finish` meets its contract. Assumes nothing.
 use Rattle.format.specs.Writing.{v7}
-use Rattle.counts.proofs.Left.{finish-closed}
+use Rattle.counts.proofs.Left.{finish_closed}
 use borrow.Author.Rules.{rules}
 use Rattle.write_v7.proofs.finish.Statement.{statement}
 use Rattle.write_v7.proofs.finish.Tie as tie
@@ -10,7 +10,7 @@ returns c =
     let c8 = c.before.before.before.before.before.before.before.before in
     let a = c8.before.args in
     let W = c.before.before.before.before.before.before.within.ensures in
-    finish-closed v7 _ _ (record { bytes = a.total; records = a.number; fault = a.fault }) _ _ _ _ W.0 W.1
+    finish_closed v7 _ _ (record { bytes = a.total; records = a.number; fault = a.fault }) _ _ _ _ W.0 W.1
     c.before.before.before.put-closing.ensures _ c.settle.ensures
 
 -- the search closes the other needs

@@ -7,5 +7,5 @@ returns : tie.Need-returns
 returns c = rw c.position-after.ensures
 
 -- the search closes the other needs
-pub hand-found-spec : {M : Type 1} → statement M
-hand-found-spec = tie.close (tie.spec (λ c κs. search rules) returns)
+pub hand_found_spec : {M : Type 1} → statement M
+hand_found_spec = tie.close (tie.spec (λ c κs. search rules) returns)
