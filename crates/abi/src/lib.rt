@@ -1,4 +1,5 @@
 // Answers as numbers, for C and Rust.
+#![tactic(auto)]
 ghost use Rattle.std.specs.Prelude.{◌≡◌};
 ghost use Rattle.format.specs.Summary.{holds};
 ghost use Rattle.format.specs.Answers.{later_of, opened_of, stepped_of, viewed_of, summed_of, entrances_of};
@@ -12,7 +13,7 @@ use format::{Answer, Entrances, Handed, Later, NextEntrance, Opened, Stepped, Su
 // An answer. Number 0 is success, with bytes, records and version; any other is the
 // refusal's number, with its place in `bytes`.
 #[repr(C)]
-#[derive(Drop)]
+#[derive(Clone, Copy)]
 pub struct AnswerNumbers {
     pub number: u64,
     pub bytes: usize,
@@ -53,7 +54,7 @@ pub fn tell(a: Answer) -> AnswerNumbers
 // What opening a step reader answers. Number 0 is success, with the version and the first
 // item's place; any other is the refusal's number, with its place.
 #[repr(C)]
-#[derive(Drop)]
+#[derive(Clone, Copy)]
 pub struct OpenNumbers {
     pub number: u64,
     pub place: usize,
@@ -80,7 +81,7 @@ pub fn tell_open(o: Opened) -> OpenNumbers
 // What a step answers: 1 a record, with its bytes and how many bytes of the label were
 // kept; 2 no record; 3 the end; 4 a refusal, with its number, and its place in `bytes`.
 #[repr(C)]
-#[derive(Drop)]
+#[derive(Clone, Copy)]
 pub struct StepNumbers {
     pub what: u64,
     pub bytes: usize,
@@ -125,7 +126,7 @@ pub fn tell_step(s: Stepped) -> StepNumbers
 // time line; 0 neither; or 3 and the file that is refused, 1 or 2, with the refusal's
 // number and place.
 #[repr(C)]
-#[derive(Drop)]
+#[derive(Clone, Copy)]
 pub struct Compared {
     pub which: u64,
     pub file: u64,
@@ -175,7 +176,7 @@ pub fn tell_later(l: Later, line: Handed) -> Compared
 // Legs for the viewer. Number 0 is success, with how many legs came; any other is the
 // refusal's number, with its place.
 #[repr(C)]
-#[derive(Drop)]
+#[derive(Clone, Copy)]
 pub struct ViewNumbers {
     pub number: u64,
     pub place: usize,
@@ -202,7 +203,7 @@ pub fn tell_viewed(r: Viewed) -> ViewNumbers
 // What a summary takes. Number 0 is success, with the words; any other is the refusal's
 // number, with its place.
 #[repr(C)]
-#[derive(Drop)]
+#[derive(Clone, Copy)]
 pub struct SummaryNumbers {
     pub number: u64,
     pub place: usize,
@@ -230,7 +231,7 @@ pub fn tell_summed(s: Summed) -> SummaryNumbers
 // found 1 with the next entrance's record, or 0 where there is none; any other is the
 // refusal's number, with its place.
 #[repr(C)]
-#[derive(Drop)]
+#[derive(Clone, Copy)]
 pub struct EntranceNumbers {
     pub number: u64,
     pub place: usize,

@@ -1,4 +1,5 @@
 // The library for C and Rust: each answer as numbers.
+#![tactic(auto)]
 ghost use Rattle.std.specs.Prelude.{◌≡◌, length, replicate};
 ghost use Rattle.format.specs.Header.{opening_of};
 ghost use Rattle.format.specs.Reading.{read_outcome, read_buffer};
@@ -36,7 +37,7 @@ use sha256::{BLOCK, DIGEST, RUNNING_NUMBERS};
 // How far a survey reaches. Number 0 is success, with how many legs took part and the
 // least and the greatest x, y and z; any other is the refusal's number, with its place.
 #[repr(C)]
-#[derive(Drop)]
+#[derive(Clone, Copy)]
 pub struct ReachNumbers {
     pub number: u64,
     pub place: usize,
@@ -64,7 +65,7 @@ pub extern "C" fn cockledrift_read(file: &[u8], sheet: &mut [u8]) -> AnswerNumbe
 // how many of the file's bytes stand from there on. Any other is the number of a refusal, with
 // its place.
 #[repr(C)]
-#[derive(Drop)]
+#[derive(Clone, Copy)]
 pub struct SalvageNumbers {
     pub refused: u64,
     pub bytes: usize,

@@ -1,5 +1,6 @@
 // Writing one record after another: the codes of each go behind those before it, and
 // bytes, records and the first fault are counted.
+#![tactic(auto)]
 ghost use Rattle.std.specs.Prelude.{◌≡◌, [], ◌+◌, ◌≤◌, length};
 ghost use Rattle.format.specs.Fields.{record_of, state_of};
 ghost use Rattle.format.specs.Refusals.{or_else};
@@ -17,7 +18,7 @@ use format::{Answer, FILE_LIMIT, Fields, Position, Setting, Verdict};
 
 // The bytes so far, until they are over what refusal 16 allows; the records so far; and
 // the refusal of the first record that cannot be written.
-#[derive(Drop)]
+#[derive(Clone, Copy)]
 pub struct Tally {
     pub bytes: usize,
     pub records: usize,

@@ -1,4 +1,5 @@
 // One item of a file: what its bytes say, read where they lie.
+#![tactic(auto)]
 ghost use Rattle.std.specs.Prelude.{◌≡◌, ℕ, ◌≤◌, length, drop};
 ghost use Rattle.format.specs.Bytes.{le16, le32, widened};
 ghost use Rattle.format.specs.Items.{point_of, dimensions_of, traverse_of, move_item, error_item, day_item, span_item, days_item, day_of_seconds, seconds_item, two_seconds_item, item_of};
@@ -13,7 +14,7 @@ use length::{part_of, whole_part};
 use number::{get_le16, get_le32, wide};
 
 // What an item with a label is besides it; `Only` changes the label and no more.
-#[derive(Drop)]
+#[derive(Clone, Copy)]
 pub enum Body {
     Only,
     Section { last: u8, size: Dimensions },
@@ -22,7 +23,7 @@ pub enum Body {
 }
 
 // An item; the bytes that its label gains are count bytes of it, from `from` on.
-#[derive(Drop)]
+#[derive(Clone, Copy)]
 pub enum Item {
     Faulty {
         number: u8,

@@ -2,6 +2,7 @@
 // bytes before the run, the replacement's codes, the records behind the run written anew
 // until reading the old file and writing the new one are in the same state, and from
 // there on the old bytes.
+#![tactic(auto)]
 ghost use Rattle.std.specs.Prelude.{◌≡◌, ◌+◌, ◌≤◌, length, take, drop};
 ghost use Rattle.format.specs.Answers.{answer_of};
 ghost use Rattle.format.specs.Codes.{codes_limit, closing};
@@ -29,7 +30,7 @@ use scan::Place;
 
 // What the codes of the next record find, with the counts so far. The label's bytes are
 // lent beside it.
-#[derive(Drop)]
+#[derive(Clone, Copy)]
 struct Pen {
     count: Tally,
     setting: Setting,
@@ -37,7 +38,7 @@ struct Pen {
 }
 
 // Where reading the old file stands, with so many records to follow, and the pen.
-#[derive(Drop)]
+#[derive(Clone, Copy)]
 struct Went {
     place: Place,
     pen: Pen,
@@ -46,7 +47,7 @@ struct Went {
 
 // An old file with a run of its records: where reading stands before the run and behind
 // it, with `rest` records to follow.
-#[derive(Drop)]
+#[derive(Clone, Copy)]
 struct Splice {
     old: Old,
     run: Run,
@@ -56,7 +57,7 @@ struct Splice {
 }
 
 // Whether a replacement has a bad record.
-#[derive(Drop)]
+#[derive(Clone, Copy)]
 enum Flaw {
     Unflawed,
     At { number: usize },

@@ -1,6 +1,7 @@
 // The values that a survey is made of and the types that the library's functions
 // answer with. What each case of an answer says in document 01's numbers stands in
 // specs/Answers.antt.
+#![tactic(auto)]
 
 ghost use Rattle.std.specs.Prelude.{◌≡◌};
 ghost use Rattle.format.specs.State.{start_setting};
@@ -26,7 +27,7 @@ pub const NOT_SAID: u8 = 5;
 
 // A place, in centimetres. Coordinates, dimensions and traverse errors are i32,
 // kept as their bit patterns: nothing here computes with them.
-#[derive(Drop)]
+#[derive(Clone, Copy)]
 pub struct Point {
     pub x: u32,
     pub y: u32,
@@ -34,7 +35,7 @@ pub struct Point {
 }
 
 // A passage's left, right, up and down.
-#[derive(Drop)]
+#[derive(Clone, Copy)]
 pub struct Dimensions {
     pub left: u32,
     pub right: u32,
@@ -44,7 +45,7 @@ pub struct Dimensions {
 
 // The error of a traverse: its legs, its length, and the error with its
 // horizontal and vertical parts.
-#[derive(Drop)]
+#[derive(Clone, Copy)]
 pub struct Traverse {
     pub legs: u32,
     pub total: u32,
@@ -54,7 +55,7 @@ pub struct Traverse {
 }
 
 // A survey date, in days; day 0 is 1 January 1900.
-#[derive(Drop)]
+#[derive(Clone, Copy)]
 pub enum Dated {
     Undated,
     Day { day: u16 },
@@ -62,7 +63,7 @@ pub enum Dated {
 }
 
 // A version's codes of no date, a day, a range with its span and a range with two days.
-#[derive(Drop)]
+#[derive(Clone, Copy)]
 pub struct DateCodes {
     pub none: u8,
     pub day: u8,
@@ -72,7 +73,7 @@ pub struct DateCodes {
 
 // How an item shortens the label: it empties it; 16 bytes off, then back to a dot;
 // some bytes off, and one at least stays; some bytes off.
-#[derive(Drop)]
+#[derive(Clone, Copy)]
 pub enum Cut {
     Empty,
     ToDot { dots: usize },
@@ -81,14 +82,14 @@ pub enum Cut {
 }
 
 // How many bytes of the label stay, or that it is too short.
-#[derive(Drop)]
+#[derive(Clone, Copy)]
 pub enum Kept {
     Keeps { bytes: usize },
     Lacks,
 }
 
 // The numbers of a label part: unfinished; or their size, D and A.
-#[derive(Drop)]
+#[derive(Clone, Copy)]
 pub enum LabelPart {
     Unfinished,
     Numbers {
@@ -99,7 +100,7 @@ pub enum LabelPart {
 }
 
 // The number that bytes of a time line spell, or that they are not readable.
-#[derive(Drop)]
+#[derive(Clone, Copy)]
 pub enum Spelled {
     Number { value: u64 },
     Unreadable,
@@ -107,7 +108,7 @@ pub enum Spelled {
 
 // What a file says of its time: a refusal; or the seconds since 1970, and the
 // place and the length of the time line.
-#[derive(Drop)]
+#[derive(Clone, Copy)]
 pub enum Stamp {
     Unstamped {
         number: u8,
@@ -122,7 +123,7 @@ pub enum Stamp {
 
 // A part of one of two files: the file, 1 or 2, and the part's place and length in it;
 // all 0 for the empty part.
-#[derive(Drop)]
+#[derive(Clone, Copy)]
 pub struct Handed {
     pub file: u8,
     pub place: usize,
@@ -130,14 +131,14 @@ pub struct Handed {
 }
 
 // The position that MOVE and LINE set.
-#[derive(Drop)]
+#[derive(Clone, Copy)]
 pub enum Position {
     Unset,
     Stands { point: Point },
 }
 
 // Style, date and position: the state but for the label.
-#[derive(Drop)]
+#[derive(Clone, Copy)]
 pub struct Setting {
     pub style: u8,
     pub date: Dated,
@@ -156,7 +157,7 @@ pub fn start_setting() -> Setting
 }
 
 // A leg but for its label.
-#[derive(Drop)]
+#[derive(Clone, Copy)]
 pub struct Leg {
     pub flags: u8,
     pub style: u8,
@@ -166,7 +167,7 @@ pub struct Leg {
 }
 
 // A station but for its label.
-#[derive(Drop)]
+#[derive(Clone, Copy)]
 pub struct Station {
     pub flags: u8,
     pub place: Point,
@@ -174,7 +175,7 @@ pub struct Station {
 
 // A cross-section but for its label: whether it is the last in its passage, when it
 // was measured, and the passage's dimensions.
-#[derive(Drop)]
+#[derive(Clone, Copy)]
 pub struct Section {
     pub last: u8,
     pub date: Dated,
@@ -185,7 +186,7 @@ pub struct Section {
 // cross-section's stand by themselves: as structs, with a date in them, they would be
 // copied once more in reading. For the same end the unused byte puts the date of a
 // cross-section where a leg has its own.
-#[derive(Drop)]
+#[derive(Clone, Copy)]
 pub enum Fields {
     Leg {
         flags: u8,
@@ -209,14 +210,14 @@ pub enum Fields {
 }
 
 // A refusal by its number and place, or none.
-#[derive(Drop)]
+#[derive(Clone, Copy)]
 pub enum Verdict {
     Good,
     Refusal { number: u8, place: usize },
 }
 
 // The answer of reading, writing, converting and editing.
-#[derive(Drop)]
+#[derive(Clone, Copy)]
 pub enum Answer {
     Done {
         bytes: usize,
@@ -230,7 +231,7 @@ pub enum Answer {
 }
 
 // The answer of opening a step reader: the version and the first item's place.
-#[derive(Drop)]
+#[derive(Clone, Copy)]
 pub enum Opened {
     At { version: u8, place: usize },
     Refused { number: u8, place: usize },
@@ -238,7 +239,7 @@ pub enum Opened {
 
 // The answer of one step: a record of so many bytes and how many bytes of the label
 // were kept since the last that carried one, no record, the end, or a refusal.
-#[derive(Drop)]
+#[derive(Clone, Copy)]
 pub enum Stepped {
     Record { bytes: usize, kept: usize },
     Nothing,
@@ -247,7 +248,7 @@ pub enum Stepped {
 }
 
 // The answer of a comparison: the later file, or the refusal with the file that it names.
-#[derive(Drop)]
+#[derive(Clone, Copy)]
 pub enum Later {
     First,
     Second,
@@ -257,7 +258,7 @@ pub enum Later {
 }
 
 // A corner of a box: x, y and z in centimetres, as numbers.
-#[derive(Drop)]
+#[derive(Clone, Copy)]
 pub struct Corner {
     pub x: i32,
     pub y: i32,
@@ -266,7 +267,7 @@ pub struct Corner {
 
 // The answer of how far a survey reaches: how many legs took part, the least and the
 // greatest x, y and z of their ends; or a refusal.
-#[derive(Drop)]
+#[derive(Clone, Copy)]
 pub enum Reached {
     Box {
         legs: usize,
@@ -280,7 +281,7 @@ pub enum Reached {
 }
 
 // What the viewer counts from: x, y and z in centimetres, as numbers.
-#[derive(Drop)]
+#[derive(Clone, Copy)]
 pub struct Origin {
     pub x: i32,
     pub y: i32,
@@ -288,14 +289,14 @@ pub struct Origin {
 }
 
 // The answer of legs for the viewer: how many came, or a refusal.
-#[derive(Drop)]
+#[derive(Clone, Copy)]
 pub enum Viewed {
     Legs { legs: usize },
     Refused { number: u8, place: usize },
 }
 
 // The next entrance: the least marked record at or after another, or none.
-#[derive(Drop)]
+#[derive(Clone, Copy)]
 pub enum NextEntrance {
     At { record: usize },
     Nowhere,
@@ -303,7 +304,7 @@ pub enum NextEntrance {
 
 // The answer of a question over a stretch of records: how many entrances it holds and
 // where the next one is; or a refusal.
-#[derive(Drop)]
+#[derive(Clone, Copy)]
 pub enum Entrances {
     Hold { count: u64, next: NextEntrance },
     Refused { number: u8, place: usize },
@@ -311,7 +312,7 @@ pub enum Entrances {
 
 // The answer of making a summary and of bringing it up to date: the words that it takes;
 // or a refusal.
-#[derive(Drop)]
+#[derive(Clone, Copy)]
 pub enum Summed {
     Takes { words: usize },
     Refused { number: u8, place: usize },

@@ -1,4 +1,5 @@
 // Opening a file: its length and its header, and where its items start.
+#![tactic(auto)]
 ghost use Rattle.std.specs.Prelude.{◌≡◌, ◌+◌, ◌-◌, ◌≤◌, length, take, get_or};
 ghost use Rattle.format.specs.Bytes.{same};
 ghost use Rattle.format.specs.Header.{magic, good_version, extended_byte, closed_header, time_line, title_line, opening_of, file_limit, time_limit, title_limit};
@@ -8,7 +9,7 @@ use format::{FILE_LIMIT, TIME_LIMIT, TITLE_LIMIT};
 
 // What opening a file finds: a refusal by number and place; or the version, the
 // first item's place, extended 0 or 1, and the lengths of title and time line.
-#[derive(Drop)]
+#[derive(Clone, Copy)]
 pub enum Head {
     Shut {
         number: u8,
@@ -24,7 +25,7 @@ pub enum Head {
 }
 
 // A line: how many bytes stand before its linefeed; or that it breaks a rule.
-#[derive(Drop)]
+#[derive(Clone, Copy)]
 enum TextLine {
     Ends { length: usize },
     Broken,

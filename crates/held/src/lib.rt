@@ -1,5 +1,6 @@
 // Where a step reader stands, as numbers that its caller holds from one step to the next.
 // Any numbers are some stand: nothing that a caller puts there is unsafe.
+#![tactic(auto)]
 ghost use Rattle.std.specs.Prelude.{◌≡◌, ◌+◌, ◌%◌, ◌≤◌, ◌<◌};
 ghost use Rattle.format.specs.Label.{label_limit};
 ghost use Rattle.format.specs.Answers.{stepped_of};
@@ -16,7 +17,7 @@ use step::{Phase, Stand};
 pub const STAND_NUMBERS: usize = 14;
 
 // 0 going, 1 at the end, any other refused with a number and a place.
-#[derive(Drop)]
+#[derive(Clone, Copy)]
 struct PhaseNumbers {
     kind: u64,
     number: u64,
@@ -24,7 +25,7 @@ struct PhaseNumbers {
 }
 
 // 0 no date, 1 a day, any other a range.
-#[derive(Drop)]
+#[derive(Clone, Copy)]
 struct DateNumbers {
     kind: u64,
     day: u64,
@@ -32,7 +33,7 @@ struct DateNumbers {
 }
 
 // 0 unset, any other a place.
-#[derive(Drop)]
+#[derive(Clone, Copy)]
 struct PlaceNumbers {
     kind: u64,
     x: u64,
@@ -292,7 +293,7 @@ fn lead_on(s: &mut [u64; STAND_NUMBERS], place: usize, len: usize, to: Point)
 }
 
 // What a step came to: a record; none; or it was not taken.
-#[derive(Drop)]
+#[derive(Clone, Copy)]
 pub enum Brief {
     Other,
     Nothing,

@@ -1,5 +1,6 @@
 // What an item of a file does to the state. The label is lent, so nothing is copied but
 // the bytes that the label gains.
+#![tactic(auto)]
 ghost use Rattle.std.specs.Prelude.{◌≡◌, [], ℕ, ◌+◌, ◌≤◌, ◌<◌, length, take, drop};
 ghost use Rattle.format.specs.Items.{Style as style_item, Date as date_item, item_of};
 ghost use Rattle.format.specs.Label.{label_limit};
@@ -20,7 +21,7 @@ use label::{Relabelled, label_step};
 // What an item comes to: a refusal; the end; its size and the label's new length,
 // with the setting after it; the same with a record, and how many bytes of the label
 // before it were kept.
-#[derive(Drop)]
+#[derive(Clone, Copy)]
 pub enum Step {
     Bad {
         number: u8,

@@ -1,6 +1,7 @@
 // Whether a file is house-written (request #114's word for one that document 01's writing
 // rules would have produced): its records are read one after another, and the codes of each
 // are compared with the file's bytes.
+#![tactic(auto)]
 ghost use Rattle.std.specs.Prelude.{◌≡◌, ◌+◌, ◌-◌, ◌≤◌, length, take, drop};
 ghost use Rattle.format.specs.Bytes.{same, le32};
 ghost use Rattle.format.specs.Fields.{record_of};
@@ -19,7 +20,7 @@ use format::{Fields, LABEL_LIMIT, Point, Position, Setting};
 use scan::{Found, Place};
 
 // A file's header, as opening the file found it.
-#[derive(Drop)]
+#[derive(Clone, Copy)]
 pub struct Old {
     pub version: u8,
     pub place: usize,
@@ -29,7 +30,7 @@ pub struct Old {
 }
 
 // A run of `count` records from `first` on.
-#[derive(Drop)]
+#[derive(Clone, Copy)]
 pub struct Run {
     pub first: usize,
     pub count: usize,
@@ -37,7 +38,7 @@ pub struct Run {
 
 // What stands next: a refusal; what the writing rules do not give; the end; or a
 // record, and where reading then stands.
-#[derive(Drop)]
+#[derive(Clone, Copy)]
 pub enum Taken {
     Refused { number: u8, place: usize },
     Foreign,
@@ -46,7 +47,7 @@ pub enum Taken {
 }
 
 // The same of some records: the end comes after fewer, or they are passed.
-#[derive(Drop)]
+#[derive(Clone, Copy)]
 enum Stretch {
     Refused { number: u8, place: usize },
     Foreign,
@@ -56,7 +57,7 @@ enum Stretch {
 
 // A refusal; a file that is not house-written; one that is and has too few records; or
 // where reading stands before the run and behind it, with so many records to follow.
-#[derive(Drop)]
+#[derive(Clone, Copy)]
 pub enum Judged {
     Refused {
         number: u8,
@@ -197,14 +198,14 @@ pub fn take_record(
 
 // Another item; or a LINE whose label part is one byte, and which is as the writing rules
 // give it: how many bytes of the label stay, and how many come.
-#[derive(Drop)]
+#[derive(Clone, Copy)]
 enum Brief {
     Other,
     Line { keep: usize, add: usize },
 }
 
 // The same, with where reading then stands.
-#[derive(Drop)]
+#[derive(Clone, Copy)]
 enum Passing {
     Other,
     Passed { place: Place },

@@ -1,4 +1,5 @@
 // What a code says in a version.
+#![tactic(auto)]
 ghost use Rattle.std.specs.Prelude.{◌≡◌, List, ℕ, ◌≤◌, length, drop, get_or};
 ghost use Rattle.format.specs.Items.{section_item, old_part, new_part, old_date_item, v7_date_item, old_middle_item, old_low_item, old_high_item, new_date_item, new_low_item, new_high_item, item_of};
 ghost use Rattle.length.specs.Parts.{part_at};
@@ -8,7 +9,7 @@ use format::Cut;
 use number::index;
 
 // What follows a label part: i16 or i32 dimensions, or a place.
-#[derive(Drop)]
+#[derive(Clone, Copy)]
 pub enum Tail {
     Short { last: u8 },
     Long { last: u8 },
@@ -17,7 +18,7 @@ pub enum Tail {
 }
 
 // What a code says in a version. A bare line has no label part.
-#[derive(Drop)]
+#[derive(Clone, Copy)]
 pub enum Kind {
     Reserved,
     Stop,

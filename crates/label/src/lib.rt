@@ -1,5 +1,6 @@
 // The current label: its buffer of 4,096 bytes, and the one step that changes it in
 // every version. The buffer is lent, beside plain numbers: nothing here copies it.
+#![tactic(auto)]
 ghost use Rattle.std.specs.Prelude.{◌≡◌, ℕ, ◌+◌, ◌≤◌, length, take};
 ghost use Rattle.std.proofs.Math.Seq.{paste};
 ghost use Rattle.format.specs.Label.{dot_from, kept_to_dot, kept_of, label_step, label_limit};
@@ -8,14 +9,14 @@ ghost use Rattle.wire.specs.Laid.{laid};
 
 use format::{Cut, Kept, LABEL_LIMIT};
 
-#[derive(Drop)]
+#[derive(Clone, Copy)]
 pub struct Label {
     pub bytes: [u8; LABEL_LIMIT],
     pub len: usize,
 }
 
 // The place of a dot, or the want of one.
-#[derive(Drop)]
+#[derive(Clone, Copy)]
 pub enum Dot {
     At(usize),
     Missing,
@@ -23,7 +24,7 @@ pub enum Dot {
 
 // What a step comes to: the label would be too short, or too long; or its new length,
 // and how many bytes of the old one were kept.
-#[derive(Drop)]
+#[derive(Clone, Copy)]
 pub enum Relabelled {
     TooShort,
     TooLong,

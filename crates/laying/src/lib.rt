@@ -2,6 +2,7 @@
 // in its buffer as it was, and for a pass of reading, which lays record behind record, so that
 // what stands behind one is free. Which item it is, reading and stepping each tell in a function
 // of their own: one with two callers would not be joined to the loop of reading.
+#![tactic(auto)]
 ghost use Rattle.std.specs.Prelude.{◌≡◌, ◌+◌, ◌-◌, ◌^◌, ◌≤◌, ◌<◌, length, take};
 ghost use Rattle.short.specs.Brief.{place_at, station_at};
 ghost use Rattle.format.specs.State.{leg, station, section};
@@ -18,7 +19,7 @@ use item::{leg_at, station_at};
 // label's new length, where it leads and how many bytes of the label were kept; a station or
 // a cross-section, with the record's bytes; the label's length after a trim; or
 // the same of a MOVE, with where it leads.
-#[derive(Drop)]
+#[derive(Clone, Copy)]
 pub enum Quick {
     Other,
     Leg {
@@ -44,7 +45,7 @@ pub enum Quick {
 
 // How many bytes of the label an item keeps, how many it adds, the item's own size, and where
 // in the sheet its record goes.
-#[derive(Drop)]
+#[derive(Clone, Copy)]
 pub struct Joint {
     pub keep: usize,
     pub add: usize,

@@ -1,5 +1,6 @@
 // The bytes and records of a v8 file's sheet, before any is written. Only the lengths of
 // labels count here, so no label is kept: v3 to v7 look for dots, and v8 does not.
+#![tactic(auto)]
 ghost use Rattle.std.specs.Prelude.{◌≡◌, Bool, ℕ, ◌≤◌, length, drop};
 ghost use Rattle.format.specs.Items.{Date as date_item, Style as style_item, move_item, day_item, span_item, days_item, error_item, new_part};
 ghost use Rattle.format.specs.State.{apply, next_of};
@@ -20,7 +21,7 @@ use short::{Short, new_item, sides};
 
 // What the items of a file come to: the sheet's bytes and records before the first refused
 // item, and the refusal, if there is one.
-#[derive(Drop)]
+#[derive(Clone, Copy)]
 pub struct Passed {
     pub verdict: Verdict,
     pub bytes: usize,
@@ -29,7 +30,7 @@ pub struct Passed {
 
 // What an item comes to: a refusal; the end; another style; a position; its size, where
 // it makes no record; its size, the label's new length and its record's bytes.
-#[derive(Drop)]
+#[derive(Clone, Copy)]
 enum Measured {
     Bad {
         number: u8,
@@ -222,7 +223,7 @@ fn any_item(s: &[u8], len: usize, style: u8, placed: bool) -> Measured
 
 // The size, the label's new length and the record's bytes, where the item is one of the
 // commonest and makes a record; or a MOVE.
-#[derive(Drop)]
+#[derive(Clone, Copy)]
 enum Counted {
     Other,
     Moved,

@@ -1,5 +1,6 @@
 // Label parts of v8, written: how many bytes of the previous label to drop, how many to
 // append, and those. Each piece is written where it fits.
+#![tactic(auto)]
 ghost use Rattle.std.specs.Prelude.{◌≡◌, ◌++◌, ◌-◌, ◌≤◌, length, drop};
 ghost use Rattle.format.specs.Bytes.{same};
 ghost use Rattle.format.specs.Codes.{common, kept_bytes, length_codes, short_part, part_codes};
@@ -7,7 +8,7 @@ ghost use Rattle.part.specs.Lays.{Lays};
 ghost use Rattle.format.specs.Label.{label_limit};
 
 // How many bytes two labels have in common at their start, and whether they are the same.
-#[derive(Drop)]
+#[derive(Clone, Copy)]
 pub struct Overlap {
     pub kept: usize,
     pub same: bool,

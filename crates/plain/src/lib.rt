@@ -1,6 +1,7 @@
 // The commonest records of a sheet: their codes are one item whose label part takes one
 // byte, since style, date and position go on. They are found and written without being
 // taken apart; every other record goes the general way.
+#![tactic(auto)]
 ghost use Rattle.std.specs.Prelude.{◌≡◌, [], ◌∷◌, ◌++◌, true, ◌+◌, ◌*◌, ◌≤◌, ◌<◌, length, get_or};
 ghost use Rattle.format.specs.Bytes.{be16, be32, to_le16, to_le32, over};
 ghost use Rattle.format.specs.Codes.{short_part};
@@ -14,7 +15,7 @@ use format::{Dated, Position, SHEET_VERSION};
 
 // What kind of record it is, and so what ends its codes: a place, or dimensions as i16
 // (narrow) or as i32 (wide).
-#[derive(Drop)]
+#[derive(Clone, Copy)]
 pub enum Form {
     Leg,
     Station,
@@ -23,14 +24,14 @@ pub enum Form {
 }
 
 // The code of a record's item, and its form.
-#[derive(Drop)]
+#[derive(Clone, Copy)]
 enum Head {
     Other,
     Known { code: u8, form: Form },
 }
 
 // A record of so many bytes that keeps so many of the previous label, and its item's code.
-#[derive(Drop)]
+#[derive(Clone, Copy)]
 pub struct Item {
     pub size: usize,
     pub kept: usize,
@@ -39,7 +40,7 @@ pub struct Item {
 }
 
 // Such a record, or another.
-#[derive(Drop)]
+#[derive(Clone, Copy)]
 pub enum Plain {
     Other,
     One { item: Item },

@@ -1,5 +1,6 @@
 // Reading a whole file into a sheet: a first pass judges every item and measures the
 // sheet, a second lays the records in.
+#![tactic(auto)]
 ghost use Rattle.std.specs.Prelude.{◌≡◌, List, [], ℕ, ◌+◌, ◌^◌, ◌≤◌, ◌<◌, length, replicate};
 ghost use Rattle.format.specs.State.{start_setting};
 ghost use Rattle.format.specs.Reading.{items_of, read_outcome, read_buffer};
@@ -34,7 +35,7 @@ use table::Index;
 
 // How far a pass has come: the next item's place, where the next record goes, how many records
 // there were, and the label's length.
-#[derive(Drop)]
+#[derive(Clone, Copy)]
 struct Progress {
     at: usize,
     out: usize,
@@ -43,14 +44,14 @@ struct Progress {
 }
 
 // Where a pass stands: how far it has come, and the setting there.
-#[derive(Drop)]
+#[derive(Clone, Copy)]
 struct Stand {
     here: Progress,
     setting: Setting,
 }
 
 // What an item is taken by: the file's version, the label's length, and where its record goes.
-#[derive(Drop)]
+#[derive(Clone, Copy)]
 struct Before {
     version: u8,
     len: usize,
@@ -59,7 +60,7 @@ struct Before {
 
 // How far an item takes a pass: its size, the label's new length, and the bytes and the number of
 // the records that it makes.
-#[derive(Drop)]
+#[derive(Clone, Copy)]
 struct Moved {
     size: usize,
     len: usize,
@@ -68,7 +69,7 @@ struct Moved {
 }
 
 // Whether a pass judges names (#108): by an index, in the buffer that is lent to it.
-#[derive(Drop)]
+#[derive(Clone, Copy)]
 enum Rule {
     Off,
     On { index: Index },
@@ -76,7 +77,7 @@ enum Rule {
 
 // What an item comes to in a pass: a refusal; the end; or how far it takes the pass, with the
 // setting and the index after it.
-#[derive(Drop)]
+#[derive(Clone, Copy)]
 enum Turned {
     Bad {
         number: u8,
@@ -91,7 +92,7 @@ enum Turned {
 
 // What one of the commonest items comes to: another item; the label's length after a trim; or
 // where the pass stands behind it. (A trim leaves all else as it was, and so copies nothing.)
-#[derive(Drop)]
+#[derive(Clone, Copy)]
 enum Common {
     Other,
     Trim { len: usize },
@@ -451,7 +452,7 @@ fn refused_at(number: u8, here: Progress) -> Passed
 }
 
 // Which items a pass goes over, and where the first record goes.
-#[derive(Drop)]
+#[derive(Clone, Copy)]
 struct Course {
     version: u8,
     place: usize,
@@ -516,7 +517,7 @@ fn measured(file: &[u8], sheet: &mut [u8], course: Course) -> Passed
 
 // A header that was opened, in numbers: the version, the first item's place, the flag, and
 // how many bytes the title and the time line have.
-#[derive(Drop)]
+#[derive(Clone, Copy)]
 struct Heading {
     version: u8,
     place: usize,
@@ -624,7 +625,7 @@ pub fn read(file: &[u8], sheet: &mut [u8]) -> Answer
 
 // What salvaging answers: the sheet's bytes and records, the file's version, and the report:
 // the refusal and its place, and the file's bytes from there on; or a refusal.
-#[derive(Drop)]
+#[derive(Clone, Copy)]
 pub enum Salvaged {
     Saved {
         bytes: usize,
@@ -641,7 +642,7 @@ pub enum Salvaged {
 }
 
 // Why reading stopped, in numbers: 0 and the file's length for a whole file.
-#[derive(Drop)]
+#[derive(Clone, Copy)]
 struct Report {
     number: u8,
     place: usize,

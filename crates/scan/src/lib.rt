@@ -1,5 +1,6 @@
 // The records of a file, one at a time: the items are read where they lie, up to the
 // next one that makes a record.
+#![tactic(auto)]
 ghost use Rattle.std.specs.Prelude.{◌≡◌, ◌++◌, ◌+◌, ◌-◌, ◌≤◌, ◌<◌, length, take};
 ghost use Rattle.scan.specs.Places.{Starts, ended_at, Finds};
 ghost use Rattle.scan.specs.Keeping.{Swaps, Keeps};
@@ -11,7 +12,7 @@ use label::Relabelled;
 
 // Where reading stands: the next item's place, the label's length and the setting. The
 // label's bytes are lent beside it.
-#[derive(Drop)]
+#[derive(Clone, Copy)]
 pub struct Place {
     pub at: usize,
     pub len: usize,
@@ -20,7 +21,7 @@ pub struct Place {
 
 // What comes next: a refusal; the end; or a record, whose label is in the buffer, and
 // where reading then stands.
-#[derive(Drop)]
+#[derive(Clone, Copy)]
 pub enum Found {
     Refused { number: u8, place: usize },
     End,

@@ -1,4 +1,5 @@
 // SHA-256 (FIPS 180-4): of bytes in one slice, and of bytes that come in parts.
+#![tactic(auto)]
 ghost use Rattle.std.specs.Prelude.{◌≡◌, ◌+◌, ◌-◌, ◌*◌, ◌/◌, ◌%◌, ◌^◌, ◌<◌, ◌≤◌, ◌∷◌, ◌++◌, length, take, replicate, slice_index, slice_set};
 ghost use Rattle.format.specs.Bytes.{to_be32};
 ghost use Rattle.wire.specs.Laid.{laid};
@@ -29,7 +30,7 @@ const K: [u32; 64] = [
 ];
 
 // The eight words of a hash value, or the working variables.
-#[derive(Drop)]
+#[derive(Clone, Copy)]
 pub struct Hash {
     pub a: u32,
     pub b: u32,
@@ -43,7 +44,7 @@ pub struct Hash {
 
 // What was taken in: the hash value of the whole blocks, and how many bytes came. The
 // bytes behind the whole blocks wait at the front of a block that is lent beside it.
-#[derive(Drop)]
+#[derive(Clone, Copy)]
 pub struct Running {
     pub hash: Hash,
     pub length: u64,

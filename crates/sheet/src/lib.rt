@@ -1,5 +1,6 @@
 // The sheet read back: its front, and the record at the front of the bytes that
 // follow one another behind it. Labels and texts stay where they stand.
+#![tactic(auto)]
 ghost use Rattle.std.specs.Prelude.{◌≡◌, ℕ, ◌+◌, ◌≤◌, length, drop};
 ghost use Rattle.format.specs.Bytes.{be32};
 ghost use Rattle.format.specs.Header.{ends_in_return};
@@ -11,7 +12,7 @@ use format::{LABEL_LIMIT, SHEET_VERSION, TIME_LIMIT, TITLE_LIMIT, UNDATED_VERSIO
 
 // The record at the front: none that is well-formed; or its size with the length
 // bytes, its fields, and where its label starts (it runs to the record's end).
-#[derive(Drop)]
+#[derive(Clone, Copy)]
 pub enum Entry {
     Flawed,
     Whole {
@@ -23,7 +24,7 @@ pub enum Entry {
 
 // A sheet's version byte and header record: not good; or what the header says, with
 // the lengths of the title, which starts at 7, and of the time line behind it.
-#[derive(Drop)]
+#[derive(Clone, Copy)]
 pub enum Front {
     Flawed,
     Whole {

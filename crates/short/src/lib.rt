@@ -1,6 +1,7 @@
 // The commonest items: a LINE, a LABEL or an XSECT whose label part is one byte, a LINE of v8
 // with the same label and a MOVE, with bytes enough behind them; and the code of v3 to v7 that
 // drops some bytes of the label. Anything unusual is another item's: nothing is refused here.
+#![tactic(auto)]
 ghost use Rattle.std.specs.Prelude.{◌≡◌, ℕ, ◌≤◌, length};
 ghost use Rattle.format.specs.Label.{label_limit};
 ghost use Rattle.short.specs.Brief.{NewPart, OldPart, Repeats, Trims, sides_of, Finds, FindsNew, FindsOld};
@@ -9,7 +10,7 @@ use format::LABEL_LIMIT;
 use number::index;
 
 // A label part of one byte: how many bytes of the label stay, and how many come.
-#[derive(Drop)]
+#[derive(Clone, Copy)]
 enum Part {
     Long,
     Brief { keep: usize, add: usize },
@@ -18,7 +19,7 @@ enum Part {
 // Another item; a LINE or a LABEL with its label part and its flags; a LINE with the same
 // label; an XSECT with its label part and its code; the label's length after some bytes of it
 // were dropped; or a MOVE.
-#[derive(Drop)]
+#[derive(Clone, Copy)]
 pub enum Short {
     Other,
     Line { keep: usize, add: usize, flags: u8 },

@@ -1,5 +1,6 @@
 // Stepping through a file, an item at a time. Where a reader stands is a small value: the
 // label's bytes stand in a buffer beside it, which is lent to each step and never copied.
+#![tactic(auto)]
 ghost use Rattle.std.specs.Prelude.{◌≡◌, ℕ, ◌+◌, ◌≤◌, length, take};
 ghost use Rattle.format.specs.Header.{opening_of};
 ghost use Rattle.format.specs.Stepping.{open_stand, step_of, step_buffer};
@@ -24,7 +25,7 @@ use laying::{Quick, joint_of, lay_line, lay_place, lay_section};
 use short::{Short, new_item, old_item, sides};
 
 // Whether a reader goes on; or is at the end, or at a refusal, for good.
-#[derive(Drop)]
+#[derive(Clone, Copy)]
 pub enum Phase {
     Going,
     Ended,
@@ -33,7 +34,7 @@ pub enum Phase {
 
 // Where a reader stands: its phase, the version, the next item's place, the label's
 // length, and the rest of the state.
-#[derive(Drop)]
+#[derive(Clone, Copy)]
 pub struct Stand {
     pub phase: Phase,
     pub version: u8,
@@ -43,14 +44,14 @@ pub struct Stand {
 }
 
 // A step's answer, and where the reader then stands.
-#[derive(Drop)]
+#[derive(Clone, Copy)]
 pub struct Taken {
     pub answer: Stepped,
     pub stand: Stand,
 }
 
 // Whether a buffer has room for the record of an item, and else how much it needs.
-#[derive(Drop)]
+#[derive(Clone, Copy)]
 enum Room {
     Enough,
     Lacks { bytes: usize },
@@ -445,7 +446,7 @@ pub fn next_at(file: &[u8], stand: Stand, bytes: &mut [u8; LABEL_LIMIT], out: &m
 }
 
 // A step reader: the file that it was given, and where it stands in it.
-#[derive(Drop)]
+#[derive(Clone, Copy)]
 pub struct Reader<'a> {
     pub file: &'a [u8],
     pub stand: Stand,

@@ -1,5 +1,6 @@
 // Prints the sheet of a 3d file as text, as the lister does, by steps: the records that
 // they answer are laid one behind the other. The file is standard input.
+#![tactic(auto)]
 ghost use Rattle.std.specs.Prelude.{◌≡◌, ◌∷◌, ◌+◌, ◌≤◌, length, take};
 ghost use Rattle.format.specs.Bytes.{over};
 ghost use Rattle.format.specs.Header.{title_limit, time_limit};
@@ -17,7 +18,7 @@ use listing::Printed;
 const INPUT_LIMIT: usize = 16384;
 
 // What stepping came to: the answer that ended it, and the sheet's bytes up to there.
-#[derive(Drop)]
+#[derive(Clone, Copy)]
 struct Gathered {
     last: Stepped,
     bytes: usize,

@@ -1,5 +1,6 @@
 // What strict reading adds to reading, request #108: each station and cross-section is judged
 // by an index of names in lent room.
+#![tactic(auto)]
 ghost use Rattle.std.specs.Prelude.{◌≡◌, ◌≤◌, ◌<◌, length, take};
 ghost use Rattle.format.specs.Fields.{record_of, state_of};
 ghost use Rattle.format.specs.Reading.{next};
@@ -14,7 +15,7 @@ use short::{Short, short_item};
 use table::{Found, Index, Station};
 
 // What judging a record comes to: a refusal; or the index after it.
-#[derive(Drop)]
+#[derive(Clone, Copy)]
 pub enum Judged {
     Faulty { number: u8 },
     Fine { index: Index },

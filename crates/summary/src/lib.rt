@@ -1,6 +1,7 @@
 // The summary of a sheet's entrances: a mark for each record, 64 to a word, lowest bit first
 // and spare bits 0, then as many words with a running total at each word's start. It is
 // made of a sheet, asked, and brought up to date in its place after an edit.
+#![tactic(auto)]
 ghost use Rattle.std.specs.Prelude.{◌≡◌, ℕ, ◌+◌, ◌-◌, ◌*◌, ◌^◌, ◌<◌, ◌≤◌, max, length, drop, slice_index};
 ghost use Rattle.format.specs.Bytes.{over};
 ghost use Rattle.format.specs.Sheet.{sheet_version, records_of};
@@ -12,7 +13,7 @@ ghost use Rattle.summary.specs.Records.{mark_at, RecordsIn, RecordsFit, Marked, 
 use format::{Entrances, NextEntrance, SHEET_VERSION, Summed};
 
 // How many records follow one another; or the number of the first that is not well-formed.
-#[derive(Drop)]
+#[derive(Clone, Copy)]
 enum Counted {
     Whole { records: usize },
     Flawed { number: usize },

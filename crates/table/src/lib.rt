@@ -2,6 +2,7 @@
 // front on, and the names from its end downwards. It is a hash table with chains. Each
 // node has the heads of two chains, and all nodes are hung anew where the names outgrow
 // the heads in use.
+#![tactic(auto)]
 ghost use Rattle.std.specs.Prelude.{◌≡◌, [], ◌+◌, ◌*◌, ◌/◌, ◌%◌, ◌≤◌, ◌<◌, length};
 ghost use Rattle.format.specs.Bytes.{to_le32};
 ghost use Rattle.table.specs.Hash.{factor_of, mix_of, hash_from, hash_of};
@@ -16,7 +17,7 @@ use piece::{get_le24, get_le40, lay, lay_words, le24_bytes, same_name};
 
 // How many names there are, how many bytes they take, how many nodes' heads are in use,
 // and the seed of the hash.
-#[derive(Drop)]
+#[derive(Clone, Copy)]
 pub struct Index {
     pub count: usize,
     pub back: usize,
@@ -24,13 +25,13 @@ pub struct Index {
     pub seed: u64,
 }
 
-#[derive(Drop)]
+#[derive(Clone, Copy)]
 pub enum Found {
     At { place: Point },
     Missing { hash: u32 },
 }
 
-#[derive(Drop)]
+#[derive(Clone, Copy)]
 pub enum Added {
     Full,
     Kept { index: Index },
@@ -38,7 +39,7 @@ pub enum Added {
 
 // What a station does: its name is there with the same place, or with another; there
 // is no room for it; or it is added.
-#[derive(Drop)]
+#[derive(Clone, Copy)]
 pub enum Station {
     Known,
     Moved,

@@ -1,5 +1,6 @@
 // The v8 file of a sheet, in two passes. The codes are written where they fit, so the
 // same pass measures when it is lent no bytes.
+#![tactic(auto)]
 ghost use Rattle.std.specs.Prelude.{◌≡◌, ◌≤◌, ◌<◌, length, drop};
 ghost use Rattle.format.specs.Sheet.{records_of, front_header, sheet_result};
 ghost use Rattle.format.specs.Answers.{answer_of};
@@ -14,7 +15,7 @@ use format::{Answer, Fields, Position, Setting};
 
 // What the codes of a record find, but for the position: style and date, their mark, and
 // where in the sheet the previous label stands.
-#[derive(Drop)]
+#[derive(Clone, Copy)]
 struct Hand {
     style: u8,
     date: format::Dated,
@@ -74,7 +75,7 @@ fn hand_after(hand: Hand, setting: Setting, fields: Fields, from: usize, to: usi
 }
 
 // What a record of so many bytes comes to: how many its codes take, and what it leaves.
-#[derive(Drop)]
+#[derive(Clone, Copy)]
 struct Coded {
     size: usize,
     bytes: usize,
@@ -84,7 +85,7 @@ struct Coded {
 
 // The record at a place of a sheet: none that is well-formed, or one that is, with its
 // fields.
-#[derive(Drop)]
+#[derive(Clone, Copy)]
 enum Entered {
     Flawed,
     Put { coded: Coded, fields: Fields },

@@ -1,5 +1,6 @@
 // The v7 file of a sheet, in two passes, as the v8 file is written: what differs are the
 // codes, the closing and what cannot be written.
+#![tactic(auto)]
 ghost use Rattle.std.specs.Prelude.{◌≡◌, ◌∷◌, ◌++◌, ◌+◌, ◌≤◌, ◌<◌, eqb, length, drop};
 ghost use Rattle.format.specs.Answers.{answer_of};
 ghost use Rattle.format.specs.Header.{file_limit};
@@ -20,7 +21,7 @@ use format::{Answer, Fields, Setting, Verdict};
 // What the codes of a record find: a setting and the mark of its style and date, and where
 // in the sheet the previous label stands. v7 has no styles: that of the setting is what
 // legs are looked for with, normal or not said.
-#[derive(Drop)]
+#[derive(Clone, Copy)]
 struct Hand {
     setting: Setting,
     mark: u64,
@@ -92,7 +93,7 @@ fn hand_after(hand: Hand, fields: Fields, from: usize, to: usize) -> Hand
 
 // The record at a place of a sheet: none that is well-formed; or its size, the bytes of
 // its codes, whether v7 cannot carry it, and what it leaves.
-#[derive(Drop)]
+#[derive(Clone, Copy)]
 enum Turned {
     Flawed,
     Put {

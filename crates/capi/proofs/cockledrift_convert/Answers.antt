@@ -1,0 +1,7 @@
+-- `capi::cockledrift_convert` meets its contract. Assumes nothing.
+use Rattle.capi.proofs.Tells.{tells}
+use Rattle.capi.proofs.cockledrift_convert.Goals as goal
+
+pub returns : goal.returns
+returns c =
+        (tells c.convert-converted.result c.tell.ensures c.convert-converted.ensures.answer, (c.convert-converted.ensures.sheet.0, c.convert-converted.ensures.sheet.1))

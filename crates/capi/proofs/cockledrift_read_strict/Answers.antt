@@ -1,0 +1,8 @@
+-- `capi::cockledrift_read_strict` meets its contract. Assumes nothing.
+use Rattle.capi.proofs.Tells.{tells}
+use Rattle.capi.proofs.cockledrift_read_strict.Goals as goal
+
+pub returns : goal.returns
+returns c =
+    let R = c.read_strict-a in
+    (tells R.result c.tell.ensures R.ensures.0, (R.ensures.1.0, R.ensures.1.1))

@@ -1,0 +1,8 @@
+-- `capi::cockledrift_summary_update` meets its contract. Assumes nothing.
+use mathlib.Core.Path.{ap, ◌∙◌}
+use Rattle.abi.specs.Summaries.{summary_numbers}
+use Rattle.capi.proofs.cockledrift_summary_update.Goals as goal
+
+pub returns : goal.returns
+returns c =
+    let e = c.update-s.ensures in record { answer = c.tell_summed.ensures ∙ ap summary_numbers e.0; words = e.1 }

@@ -1,0 +1,12 @@
+-- `layout::days_of` meets its contract. Assumes nothing.
+use mathlib.Core.Path.{refl}
+use Rattle.layout.proofs.days_of.Goals as goal
+
+pub returns-in-Undated : goal.returns-in-Undated
+returns-in-Undated c = rw c.in-Undated.is (refl, refl, refl)
+
+pub returns-in-Day : goal.returns-in-Day
+returns-in-Day c = rw c.in-Day.is (refl, refl, refl)
+
+pub returns-in-Range : goal.returns-in-Range
+returns-in-Range c = rw c.in-Range.is (refl, refl, refl)

@@ -1,0 +1,32 @@
+-- `listing::records_verdict` meets its contract: the verdict on what is left is that on all. Assumes nothing.
+use native.Mathlib.Omega.{arith}
+use Prim.Native.Nat.{◌-◌}
+use Rattle.sheet.specs.declared.Entry.TheVariants.{Whole}
+use Rattle.listing.proofs.Sheets.{EntryAt, entry_none, entry_at, judged_none, judged_more, judged_good, judged_bad}
+use Rattle.listing.proofs.records_verdict.Goals as goal
+
+pub loop-at-init : goal.loop-at-init
+loop-at-init c = judged_none _ _ _ c.requires
+
+pub returns-then-at-sheet : goal.returns-then-at-sheet
+returns-then-at-sheet c = judged_good c.loop-at.invariant c.if-at-sheet.true
+
+pub returns-in-Flawed : goal.returns-in-Flawed
+returns-in-Flawed c =
+    let T = rw c.in-Flawed.is at c.read_entry-found.ensures in
+    judged_bad c.loop-at.invariant c.if-at-sheet.false
+    (entry_none _ c.args.sheet.now c.loop-at.at T)
+
+pub overflow_add-record : goal.overflow_add-record
+overflow_add-record c =
+    let i = c.loop-at.invariant in
+    omega (arith, i.few, i.inside, c.well_formed)
+
+pub loop-at-preserved : goal.loop-at-preserved
+loop-at-preserved c =
+    judged_more c.loop-at.invariant
+    (entry_at _ c.args.sheet.now
+    c.loop-at.at _ _ _
+    ((let it : EntryAt c.args.layout
+    c.args.sheet.now c.loop-at.at
+    (Whole c.in-Whole.size c.in-Whole.fields c.in-Whole.from) = rw c.in-Whole.is at c.read_entry-found.ensures in it)))

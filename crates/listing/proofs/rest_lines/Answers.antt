@@ -1,0 +1,52 @@
+-- `listing::rest_lines` meets its contract: what is put so far and what is left of the sheet come to all lines. Assumes nothing.
+use native.Mathlib.Omega.{arith}
+use Prim.Native.Nat.{◌-◌}
+use mathlib.Core.Path.{◌∙◌}
+use Rattle.listing.proofs.Stores.{put_length}
+use Rattle.sheet.specs.declared.Entry.TheVariants.{Whole}
+use Rattle.listing.proofs.Sheets.{EntryAt, EntryPlace, entry_none, entry_at, entry_place, listed_none, listed_more, listed_all}
+use Rattle.listing.proofs.rest_lines.Goals as goal
+
+pub loop-out-init : goal.loop-out-init
+loop-out-init c = listed_none _ _ _ _ _ c.requires.0
+
+pub end_line-requires : goal.end_line-requires
+end_line-requires c =
+    let i = c.loop-out.invariant in
+    omega (arith, i.put.few, i.inside, c.requires)
+
+pub shape_of-out-in-Flawed : goal.shape_of-out-in-Flawed
+shape_of-out-in-Flawed c =
+    put_length c.end_line.ensures ∙ put_length c.loop-out.invariant.put
+
+pub returns-in-Flawed : goal.returns-in-Flawed
+returns-in-Flawed c =
+    let T = rw c.in-Flawed.is at c.read_entry-found.ensures in
+    listed_all c.loop-out.invariant
+    (entry_none _ c.args.sheet.now
+    c.loop-out.at T) c.end_line.ensures
+
+pub record_line-k-requires : goal.record_line-k-requires
+record_line-k-requires c =
+    let i = c.loop-out.invariant in (
+      omega (arith, i.put.few, i.inside, c.requires),
+      ((let it : EntryPlace c.args.sheet.now c.loop-out.at
+    c.in-Whole.size c.in-Whole.label = entry_place _ _ _ _ _ _ ((let it : EntryAt c.args.layout
+    c.args.sheet.now c.loop-out.at
+    (Whole c.in-Whole.size c.in-Whole.fields c.in-Whole.label) = rw c.in-Whole.is at c.read_entry-found.ensures in it)) c.loop-out.invariant.inside in it)).label_short,
+    )
+
+pub overflow_add-records : goal.overflow_add-records
+overflow_add-records c =
+    let i = c.loop-out.invariant in
+    omega (arith, i.few, i.inside, c.requires)
+
+pub loop-out-preserved : goal.loop-out-preserved
+loop-out-preserved c =
+    listed_more c.loop-out.invariant
+    (λ i. (c.shared_slice_known-1.given i).fits)
+    (entry_at _ c.args.sheet.now
+    c.loop-out.at _ _ _
+    ((let it : EntryAt c.args.layout
+    c.args.sheet.now c.loop-out.at
+    (Whole c.in-Whole.size c.in-Whole.fields c.in-Whole.label) = rw c.in-Whole.is at c.read_entry-found.ensures in it))) c.record_line-k.ensures

@@ -1,0 +1,7 @@
+-- `listing::signed_number` meets its contract: a space, a sign and the digits. Assumes nothing.
+use Rattle.listing.proofs.Stores.{put_then}
+use Rattle.listing.proofs.signed_number.Goals as goal
+
+pub returns : goal.returns
+returns c =
+    put_then c.put-k.ensures c.signed.ensures

@@ -1,0 +1,13 @@
+-- `plain::find` meets its contract. Assumes nothing.
+use Rattle.plain.proofs.Placing.{Framed, framed_by, head_fits, found_by}
+use Rattle.plain.proofs.find.Goals as goal
+
+pub with_label-requires : goal.with_label-requires
+with_label-requires c =
+    let z = (let it : Framed c.args.s.now c.type_size.result = framed_by c.is_framed.ensures c.if-not-is_framed.false c.get_be16.ensures.0 c.type_size.ensures in it) in
+    (z.there, head_fits z _ _ c.head_of-found.result c.args.version c.head_of-found.ensures)
+
+pub returns : goal.returns
+returns c =
+        found_by ((let it : Framed c.args.s.now c.type_size.result = framed_by c.is_framed.ensures c.if-not-is_framed.false c.get_be16.ensures.0 c.type_size.ensures in it)) c.args.mark c.args.position c.args.version c.with_label.result c.head_of-found.result c.args.last.now
+    c.head_of-found.ensures c.with_label.ensures

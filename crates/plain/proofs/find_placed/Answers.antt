@@ -1,0 +1,14 @@
+-- `plain::find_placed` meets its contract. Assumes nothing.
+use Rattle.plain.proofs.Placing.{Framed, framed_by, head_fits, placed_told, placed_by}
+use Rattle.plain.proofs.find_placed.Goals as goal
+
+pub with_label-requires : goal.with_label-requires
+with_label-requires c =
+        let z = (let it : Framed c.args.s.now c.type_size.result = framed_by c.is_framed.ensures c.if-not-is_framed.false c.get_be16.ensures.0 c.type_size.ensures in it) in
+    let h = c.placed_head-found in
+    (z.there, head_fits z c.args.mark c.args.position h.result 0 (placed_told h.result c.args.s.now c.args.mark c.args.position h.ensures 0))
+
+pub returns : goal.returns
+returns c =
+        placed_by ((let it : Framed c.args.s.now c.type_size.result = framed_by c.is_framed.ensures c.if-not-is_framed.false c.get_be16.ensures.0 c.type_size.ensures in it)) c.args.mark c.args.position c.with_label.result c.placed_head-found.result c.args.last.now
+    c.placed_head-found.ensures c.with_label.ensures

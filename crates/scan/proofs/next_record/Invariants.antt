@@ -1,0 +1,13 @@
+-- `scan::next_record` meets its contract. Assumes nothing.
+use Prim.Native.Nat.{◌-◌}
+use mathlib.Core.List.{[]}
+use lib.ListN.{length}
+use Rattle.scan.proofs.Walk.{Going}
+use Rattle.scan.proofs.next_record.Given as goal
+
+abbrev pub invariant-loop-number : goal.invariant-loop-number
+invariant-loop-number l =
+    Going l.version l.file (record { at = l.initial.at; len = l.initial.len; setting = l.initial.setting }) l.initial.bytes l.at l.len l.setting l.bytes
+
+abbrev pub decreases-loop-number : goal.decreases-loop-number
+decreases-loop-number l = length l.file - l.at

@@ -1,0 +1,57 @@
+-- `clock` meets its contract: three fields, then their bounds. Assumes nothing.
+use native.Mathlib.Omega.{arith}
+use mathlib.Core.Path.{sym, ◌∙◌}
+use lib.ListN.{drop}
+use borrow.Author.Tests.{le-leb, lt-leb}
+use Rattle.format.specs.Bytes.{pick}
+use Rattle.format.specs.Times.{text_clock}
+use Rattle.seconds.specs.Reading.{clock_of}
+use Rattle.seconds.proofs.Digits.{Said, field_told, field_untold}
+use Rattle.seconds.proofs.clock.Goals as goal
+
+pub returns-in_default : goal.returns-in_default
+unfolding clock_of text_clock pick
+returns-in_default c =
+    simp (field_untold 2 (omega arith) (drop 15 c.args.line.now) (sym c.in_default.is ∙ c.number-hours.ensures))
+
+pub returns-in_default-minutes : goal.returns-in_default-minutes
+unfolding clock_of text_clock pick
+returns-in_default-minutes c =
+    simp (((let it : Said 2 (drop 15 c.args.line.now) c.in-Number.hour = field_told 2 (omega arith) _ _ (sym c.in-Number.is ∙ c.number-hours.ensures) in it)).digits, field_untold 2 (omega arith) (drop 18 c.args.line.now) (sym c.in_default-minutes.is ∙ c.number-minutes.ensures))
+
+pub returns-in_default-seconds : goal.returns-in_default-seconds
+unfolding clock_of text_clock pick
+returns-in_default-seconds c =
+    simp (((let it : Said 2 (drop 15 c.args.line.now) c.in-Number.hour = field_told 2 (omega arith) _ _ (sym c.in-Number.is ∙ c.number-hours.ensures) in it)).digits, ((let it : Said 2 (drop 18 c.args.line.now) c.in-Number-minutes.minute = field_told 2 (omega arith) _ _ (sym c.in-Number-minutes.is ∙ c.number-minutes.ensures) in it)).digits, field_untold 2 (omega arith) (drop 21 c.args.line.now) (sym c.in_default-seconds.is ∙ c.number-seconds.ensures))
+
+pub returns-then-hour-gt23 : goal.returns-then-hour-gt23
+unfolding clock_of text_clock pick
+returns-then-hour-gt23 c =
+    let h = (let it : Said 2 (drop 15 c.args.line.now) c.in-Number.hour = field_told 2 (omega arith) _ _ (sym c.in-Number.is ∙ c.number-hours.ensures) in it) in
+    let m = (let it : Said 2 (drop 18 c.args.line.now) c.in-Number-minutes.minute = field_told 2 (omega arith) _ _ (sym c.in-Number-minutes.is ∙ c.number-minutes.ensures) in it) in
+    let s = (let it : Said 2 (drop 21 c.args.line.now) c.in-Number-seconds.second = field_told 2 (omega arith) _ _ (sym c.in-Number-seconds.is ∙ c.number-seconds.ensures) in it) in
+    simp (h.digits, m.digits, s.digits, lt-leb _ 23 (rw h.is at c.if-hour-gt23.true))
+
+pub returns-then-minute-gt59 : goal.returns-then-minute-gt59
+unfolding clock_of text_clock pick
+returns-then-minute-gt59 c =
+    let h = (let it : Said 2 (drop 15 c.args.line.now) c.in-Number.hour = field_told 2 (omega arith) _ _ (sym c.in-Number.is ∙ c.number-hours.ensures) in it) in
+    let m = (let it : Said 2 (drop 18 c.args.line.now) c.in-Number-minutes.minute = field_told 2 (omega arith) _ _ (sym c.in-Number-minutes.is ∙ c.number-minutes.ensures) in it) in
+    let s = (let it : Said 2 (drop 21 c.args.line.now) c.in-Number-seconds.second = field_told 2 (omega arith) _ _ (sym c.in-Number-seconds.is ∙ c.number-seconds.ensures) in it) in
+    simp (h.digits, m.digits, s.digits, le-leb _ 23 (rw h.is at c.if-hour-gt23.false), lt-leb _ 59 (rw m.is at c.if-minute-gt59.true))
+
+pub returns-then-second-gt59 : goal.returns-then-second-gt59
+unfolding clock_of text_clock pick
+returns-then-second-gt59 c =
+    let h = (let it : Said 2 (drop 15 c.args.line.now) c.in-Number.hour = field_told 2 (omega arith) _ _ (sym c.in-Number.is ∙ c.number-hours.ensures) in it) in
+    let m = (let it : Said 2 (drop 18 c.args.line.now) c.in-Number-minutes.minute = field_told 2 (omega arith) _ _ (sym c.in-Number-minutes.is ∙ c.number-minutes.ensures) in it) in
+    let s = (let it : Said 2 (drop 21 c.args.line.now) c.in-Number-seconds.second = field_told 2 (omega arith) _ _ (sym c.in-Number-seconds.is ∙ c.number-seconds.ensures) in it) in
+    simp (h.digits, m.digits, s.digits, le-leb _ 23 (rw h.is at c.if-hour-gt23.false), le-leb _ 59 (rw m.is at c.if-minute-gt59.false), lt-leb _ 59 (rw s.is at c.if-second-gt59.true))
+
+pub returns : goal.returns
+unfolding clock_of text_clock pick
+returns c =
+    let h = (let it : Said 2 (drop 15 c.args.line.now) c.in-Number.hour = field_told 2 (omega arith) _ _ (sym c.in-Number.is ∙ c.number-hours.ensures) in it) in
+    let m = (let it : Said 2 (drop 18 c.args.line.now) c.in-Number-minutes.minute = field_told 2 (omega arith) _ _ (sym c.in-Number-minutes.is ∙ c.number-minutes.ensures) in it) in
+    let s = (let it : Said 2 (drop 21 c.args.line.now) c.in-Number-seconds.second = field_told 2 (omega arith) _ _ (sym c.in-Number-seconds.is ∙ c.number-seconds.ensures) in it) in
+    simp (h.digits, m.digits, s.digits, le-leb _ 23 (rw h.is at c.if-hour-gt23.false), le-leb _ 59 (rw m.is at c.if-minute-gt59.false), le-leb _ 59 (rw s.is at c.if-second-gt59.false)) (rw (h.is, m.is, s.is))

@@ -1,0 +1,76 @@
+-- `sheet::read_entry` meets its contract: each arm hands on what the function of its kind tells. Assumes nothing.
+use Rattle.sheet.proofs.Entries.{unframed, kind_leg, kind_station, kind_section, kind_error, kind_other, entry_told}
+use borrow.Author.Tests.{not-true, not-false}
+use native.Mathlib.Omega.{arith}
+use Prim.Native.Nat.{ℕ, ◌+◌, ◌≤◌}
+use mathlib.Core.Path.{◌≡◌, sym, ◌∙◌}
+use mathlib.Core.Bool.{true}
+use lib.ListN.{length, drop}
+use Rattle.format.specs.Bytes.{be16}
+use Rattle.format.specs.Sheet.{Entry, framed, leg_entry, station_entry, section_in, error_entry, entry_of}
+use Rattle.format.proofs.SheetLaws.{frame}
+use Rattle.sheet.specs.Seen.{Told, EntryTold}
+use Rattle.sheet.specs.declared.Entry.{Entry as Found}
+use Rattle.sheet.proofs.read_entry.Goals as goal
+
+-- what is told of a body of its kind is told of the record
+told_at : (y : tie.After-size-of) (r : Found) (f : ℕ → Entry) → Told r y.before.before.before.before.before.args.s.now (f y.type_size.result)
+    → f (be16 y.before.before.before.before.before.args.s.now) ≡ entry_of y.before.before.before.before.before.args.version
+    y.before.before.before.before.before.args.s.now
+    → EntryTold r y.before.before.before.before.before.args.version y.before.before.before.before.before.args.s.now
+told_at y r f T e = entry_told _ _ (λ i. (y.before.before.before.before.shared-slice-known.given i).fits) r (rw (size_at_lem y, e) at T)
+
+pub returns-then-not-is_framed : goal.returns-then-not-is_framed
+returns-then-not-is_framed c =
+    record {
+      same = unframed c.args.version c.args.s.now
+          (sym c.is_framed.ensures ∙ not-true _ c.if-not-is_framed.true);
+      inside = tt;
+      formed = tt;
+    }
+
+pub leg_entry-requires : goal.leg_entry-requires
+leg_entry-requires c = (let it : 2 + c.type_size.result ≤ length c.args.s.now = omega (arith, (let it : c.type_size.result ≡ be16 c.args.s.now = c.type_size.ensures ∙ c.get_be16.ensures.0 in it), frame _ ((let it : framed c.args.s.now ≡ true = sym c.is_framed.ensures ∙ not-false _ c.if-not-is_framed.false in it))) in it)
+
+pub returns-then-kind-eq1 : goal.returns-then-kind-eq1
+returns-then-kind-eq1 c =
+    told_at c.before.before.before c.leg_entry.result
+    (λ n. leg_entry n (drop 2 c.args.s.now)) c.leg_entry.ensures
+    (kind_leg _ _ ((let it : framed c.args.s.now ≡ true = sym c.is_framed.ensures ∙ not-false _ c.if-not-is_framed.false in it)) c.if-kind-eq1.true)
+
+pub station_entry-requires : goal.station_entry-requires
+station_entry-requires c = (let it : 2 + c.type_size.result ≤ length c.args.s.now = omega (arith, (let it : c.type_size.result ≡ be16 c.args.s.now = c.type_size.ensures ∙ c.get_be16.ensures.0 in it), frame _ ((let it : framed c.args.s.now ≡ true = sym c.is_framed.ensures ∙ not-false _ c.if-not-is_framed.false in it))) in it)
+
+pub returns-then-kind-eq2 : goal.returns-then-kind-eq2
+returns-then-kind-eq2 c =
+    told_at c.before.before.before.before c.station_entry.result
+    (λ n. station_entry n (drop 2 c.args.s.now)) c.station_entry.ensures
+    (kind_station _ _ ((let it : framed c.args.s.now ≡ true = sym c.is_framed.ensures ∙ not-false _ c.if-not-is_framed.false in it)) c.if-kind-eq2.true)
+
+pub section_entry-requires : goal.section_entry-requires
+section_entry-requires c = (let it : 2 + c.type_size.result ≤ length c.args.s.now = omega (arith, (let it : c.type_size.result ≡ be16 c.args.s.now = c.type_size.ensures ∙ c.get_be16.ensures.0 in it), frame _ ((let it : framed c.args.s.now ≡ true = sym c.is_framed.ensures ∙ not-false _ c.if-not-is_framed.false in it))) in it)
+
+pub returns-then-kind-eq3 : goal.returns-then-kind-eq3
+returns-then-kind-eq3 c =
+    told_at c.before.before.before.before.before c.section_entry.result
+    (λ n. section_in c.args.version n
+    (drop 2 c.args.s.now)) c.section_entry.ensures
+    (kind_section _ _ ((let it : framed c.args.s.now ≡ true = sym c.is_framed.ensures ∙ not-false _ c.if-not-is_framed.false in it)) c.if-kind-eq3.true)
+
+pub error_entry-requires : goal.error_entry-requires
+error_entry-requires c = (let it : 2 + c.type_size.result ≤ length c.args.s.now = omega (arith, (let it : c.type_size.result ≡ be16 c.args.s.now = c.type_size.ensures ∙ c.get_be16.ensures.0 in it), frame _ ((let it : framed c.args.s.now ≡ true = sym c.is_framed.ensures ∙ not-false _ c.if-not-is_framed.false in it))) in it)
+
+pub returns-then-kind-eq4 : goal.returns-then-kind-eq4
+returns-then-kind-eq4 c =
+    told_at c.before.before.before.before.before.before c.error_entry.result
+    (λ n. error_entry n (drop 2 c.args.s.now))
+    c.error_entry.ensures (kind_error _ _ ((let it : framed c.args.s.now ≡ true = sym c.is_framed.ensures ∙ not-false _ c.if-not-is_framed.false in it)) c.if-kind-eq4.true)
+
+pub returns : goal.returns
+returns c =
+    record {
+      same = kind_other _ _ ((let it : framed c.args.s.now ≡ true = sym c.is_framed.ensures ∙ not-false _ c.if-not-is_framed.false in it)) c.if-kind-eq1.false
+          c.if-kind-eq2.false c.if-kind-eq3.false c.if-kind-eq4.false;
+      inside = tt;
+      formed = tt;
+    }

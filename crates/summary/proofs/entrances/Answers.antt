@@ -1,0 +1,20 @@
+-- `summary::entrances` meets its contract. Assumes nothing.
+use Rattle.summary.proofs.Asking.{short, turned, past, held}
+use Rattle.summary.proofs.entrances.Goals as goal
+
+pub returns-then-words-least : goal.returns-then-words-least
+returns-then-words-least c =
+    short c.args.words.now c.args.records c.args.from c.args.to c.words_for-least.result c.words_for-least.ensures c.if-words-least.true
+
+pub returns-then-to-from : goal.returns-then-to-from
+returns-then-to-from c =
+    turned c.args.words.now c.args.records c.args.from c.args.to c.words_for-least.result c.words_for-least.ensures c.if-words-least.false c.if-to-from.true
+
+pub returns-then-n-to : goal.returns-then-n-to
+returns-then-n-to c =
+        past c.args.words.now c.args.records c.args.from c.args.to c.words_for-least.result c.words_for-least.ensures c.if-words-least.false c.if-to-from.false c.if-n-to.true
+
+pub returns : goal.returns
+returns c =
+        held c.args.words.now c.args.records c.args.from c.args.to c.words_for-least.result c.words_for-least.ensures c.if-words-least.false
+    c.count_marks-count.result c.next_mark-next.result c.if-to-from.false c.if-n-to.false c.count_marks-count.ensures c.next_mark-next.ensures

@@ -1,0 +1,43 @@
+-- `summary::summarize_records` meets its contract. Assumes nothing.
+use Rattle.std.proofs.Common.{drop, ◌∙◌, arith}
+use Rattle.format.specs.Sheet.{records_of}
+use Rattle.format.specs.Summary.{marks_in}
+use Rattle.format.proofs.SummaryLaws.{length_marks}
+use Rattle.summary.proofs.Words.{put_to}
+use Rattle.summary.proofs.Renewing.{made, make_flawed, make_short, make_done}
+use Rattle.summary.proofs.summarize_records.Goals as goal
+
+pub returns-then-words-least : goal.returns-then-words-least
+returns-then-words-least c =
+        let C = rw c.in-Whole.is at c.count_records-counted.ensures in
+    make_short (records_of c.args.version (drop c.args.begin c.args.sheet.now)) c.args.words.now _ c.words_for-least.result C.good C.many c.words_for-least.ensures c.if-words-least.true
+
+pub put_marks-requires : goal.put_marks-requires
+put_marks-requires c =
+    let C = rw c.in-Whole.is at c.count_records-counted.ensures in (
+      c.requires,
+      record {
+        version = c.args.version;
+        good = C.good;
+        room = omega (arith, C.many, c.words_for-least.ensures, c.if-words-least.false);
+        few = omega (arith, C.many, C.few, c.well_formed);
+      },
+    )
+
+pub finish-requires : goal.finish-requires
+finish-requires c =
+    let C = rw c.in-Whole.is at c.count_records-counted.ensures in
+    (omega (arith, c.words_for-least.ensures, c.if-words-least.false, c.put_marks.auto.0), omega (arith, C.few, c.well_formed))
+
+pub returns-in-Flawed : goal.returns-in-Flawed
+returns-in-Flawed c =
+        let C = rw c.in-Flawed.is at c.count_records-counted.ensures in
+    make_flawed (records_of c.args.version (drop c.args.begin c.args.sheet.now)) c.args.words.now _ C
+
+pub returns-else-words-least : goal.returns-else-words-least
+returns-else-words-least c =
+        let C = rw c.in-Whole.is at c.count_records-counted.ensures in
+    let x = records_of c.args.version (drop c.args.begin c.args.sheet.now) in
+    make_done x c.args.words.now _ c.words_for-least.result C.good C.many c.words_for-least.ensures c.finish.new.0 c.if-words-least.false
+    (made c.args.words.now c.put_marks.new.0 c.finish.new.0 (marks_in x.records) _ (length_marks x.records ∙ C.many) c.put_marks.auto.0
+    (put_to C.many (c.put_marks.ensures c.args.version C.good)) c.finish.ensures)

@@ -1,0 +1,14 @@
+-- `summary::update_marks` meets its contract. Assumes nothing.
+use Rattle.summary.proofs.Renewing.{update_short, update_done}
+use Rattle.summary.proofs.update_marks.Goals as goal
+
+pub returns-then-words-most : goal.returns-then-words-most
+returns-then-words-most c =
+            update_short c.args.words.now c.args.new.now c.args.n c.args.first c.args.count c.requires.1 c.args.added c.words_for-taken.result c.words_for.result c.larger-most.result
+    c.requires.2.good c.requires.2.many c.words_for-taken.ensures c.words_for.ensures c.larger-most.ensures c.if-words-most.true
+
+pub returns : goal.returns
+returns c =
+            update_done c.args.words.now c.args.new.now c.args.n c.args.first c.args.count c.requires.1 c.args.added c.words_for-taken.result c.words_for.result c.larger-most.result
+    c.requires.2.good c.requires.2.many c.words_for-taken.ensures c.words_for.ensures c.larger-most.ensures c.replace.new.0 c.if-words-most.false
+    c.replace.ensures

@@ -1,0 +1,12 @@
+-- `v7::put_station` meets its contract. Assumes nothing.
+use Rattle.format.specs.Bytes.{to_le32}
+use Rattle.part.proofs.Laying.{lays_within}
+use Rattle.format.specs.V7Codes.{v7_codes_limit}
+use native.Mathlib.Omega.{arith}
+use Rattle.v7.proofs.put_station.Goals as goal
+
+pub returns : goal.returns
+unfolding to_le32
+returns c =
+    lays_within (rw c.point_bytes-bytes.ensures at
+    c.put_labelled.ensures) v7_codes_limit (omega arith)

@@ -1,0 +1,21 @@
+-- `viewer::show` meets its contract. Assumes nothing.
+use native.Mathlib.Omega.{arith}
+use Rattle.viewer.proofs.Whole.{needed_few, short_due, shown_fits, shown_due}
+use Rattle.viewer.proofs.show.Goals as goal
+
+pub overflow_mul-needed : goal.overflow_mul-needed
+overflow_mul-needed c =
+        let n = needed_few c.args.sheet.now c.args.origin c.args.out.now c.args.legs c.requires (λ i. (c.shared_slice_known-1.given i).fits) in
+    omega (arith, n, c.well_formed)
+
+pub returns-then-out-needed : goal.returns-then-out-needed
+returns-then-out-needed c =
+        short_due c.args.sheet.now c.args.origin c.args.out.now c.args.legs c.requires c.if-out-needed.true
+
+pub fill-requires : goal.fill-requires
+fill-requires c =
+        shown_fits c.args.sheet.now c.args.origin c.args.out.now c.args.legs c.requires c.if-out-needed.false
+
+pub returns : goal.returns
+returns c =
+            shown_due c.args.sheet.now c.args.origin c.args.out.now c.args.legs c.requires c.if-out-needed.false _ c.fill.ensures

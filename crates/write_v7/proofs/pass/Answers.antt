@@ -1,0 +1,31 @@
+-- `write_v7::pass` meets its contract. Assumes nothing.
+use native.Mathlib.Omega.{arith}
+use Rattle.format.specs.Writing.{v7}
+use Rattle.sheet.specs.Seen.{Fronted}
+use Rattle.write.proofs.Whole.{pass_flawed}
+use Rattle.write_v7.proofs.Front.{pass_v7}
+use lib.ListN.{length-take, length-drop}
+use Rattle.write_v7.proofs.pass.Goals as goal
+
+pub put_header-head-requires : goal.put_header-head-requires
+put_header-head-requires c =
+    let F = (let it : let f = c.front-1.given.0 in
+    Fronted c.version_of-version.result c.args.sheet.now f.0 f.1.0 f.1.1.0 = rw c.in-Whole.is at c.read_front-front.ensures in it) in
+    (simp (length-take, length-drop) (omega (arith, F.title_short)), simp (length-take, length-drop) (omega (arith, F.time_short)))
+
+pub put_records-requires : goal.put_records-requires
+put_records-requires c =
+    (((let it : let f = c.front-1.given.0 in
+    Fronted c.version_of-version.result c.args.sheet.now f.0 f.1.0 f.1.1.0 = rw c.in-Whole.is at c.read_front-front.ensures in it)).inside, omega (arith, c.put_header-head.ensures.most))
+
+pub returns-in-Flawed : goal.returns-in-Flawed
+returns-in-Flawed c =
+    rw c.refused.ensures
+    (pass_flawed v7 _ _ _ c.version_of-version.ensures (rw c.in-Flawed.is at
+    c.read_front-front.ensures))
+
+pub returns-in-Whole : goal.returns-in-Whole
+returns-in-Whole c =
+        let F = front_at c.before.before.before.before.before.before.before.before.before.before.before in
+    pass_v7 _ _ _ _ _ _ _ _ _ _ _ c.version_of-version.ensures F
+    c.put_header-head.ensures c.put_records.ensures
