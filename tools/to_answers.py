@@ -85,7 +85,7 @@ class Function:
                 return "c." + ".".join([arms[0], best[0]] + tail)
             if best:
                 return "c." + ".".join([arms[0], best[0]] + rest)
-        if callee and rest[:1] == ["last"]:
+        if callee and rest[:1] in (["last"], ["new"]) and rest[1:] and rest[1].isdigit():
             params = self.entry["params"].get(callee)
             i, k = 1, 0
             while i < len(rest) and rest[i] == "1":
@@ -235,6 +235,33 @@ def answer_body(fn, body, place, callee_names):
     return PATH.sub(new, body)
 
 
+def spec_arguments(text):
+    """The arguments of tie.spec."""
+    at = text.index("tie.spec")
+    depth, parts, word, i = 0, [], "", at + len("tie.spec")
+    while i < len(text):
+        ch = text[i]
+        if ch in "([{":
+            depth += 1
+        if ch in ")]}":
+            depth -= 1
+            if depth < 0:
+                break
+        if depth == 0 and ch.isspace():
+            if word.strip():
+                parts.append(word.strip())
+            word = ""
+        else:
+            word += ch
+            if depth == 0 and ch == ")":
+                parts.append(word.strip())
+                word = ""
+        i += 1
+    if word.strip():
+        parts.append(word.strip())
+    return parts
+
+
 def turn(crate, name, folder, entry, clauses):
     fn = Function(crate, name, entry, clauses)
     path = f"{folder}/Proof.antt"
@@ -245,7 +272,7 @@ def turn(crate, name, folder, entry, clauses):
     if len(old_needs) != len(new_needs):
         return [f"{path}: {len(old_needs)} needs before port.py and {len(new_needs)} after"]
     count = 0
-    uses, head, kept, invariants, answers, helpers = [], [], [], [], [], {}
+    uses, head, kept, invariants, answers, helpers, inline, problems = [], [], [], [], [], {}, [], []
     for comments, lines in chunks(text):
         if lines[0].startswith("use "):
             uses += [l for l in lines if l.startswith("use ") and not re.search(r"\.(Statement|Tie)\b", l)]
@@ -253,9 +280,20 @@ def turn(crate, name, folder, entry, clauses):
             continue
         whole = "\n".join(lines)
         if "tie.close" in whole or re.search(r"statement M", whole):
+            if "tie.spec" in whole:
+                given = spec_arguments(whole)
+                loops_ = 2 * len(entry["loops"])
+                if len(given) != loops_ + len(entry["needs"]):
+                    listed_problem = [f"{path}: tie.spec has {len(given)} arguments, and there are {loops_} + {len(entry['needs'])}"]
+                else:
+                    listed_problem = []
+                    for arg, (old, new), (place, _) in zip(given[loops_:], entry["needs"], entry["asked_at"]):
+                        it = re.match(r"\(λ c(?: κs)?\.\s*(.*)\)$", arg, re.S)
+                        if it and it[1].strip() not in ("search rules", "omega arith", "refl"):
+                            inline.append((new, place, it[1]))
+                problems += listed_problem
             continue
         kept.append((comments, lines))
-    problems = []
     # helpers over a place's record are put in where they are used
     rest = []
     for comments, lines in kept:
@@ -290,6 +328,29 @@ def turn(crate, name, folder, entry, clauses):
                 break
         return body
 
+    def clause_names(goal):
+        if goal.startswith("returns"):
+            return clauses.get(fn.name_of(), {}).get("ensures", [])
+        for callee in fn.entry["params"]:
+            short = callee.split("::")[-1]
+            if re.match(rf"{re.escape(short)}(-.*)?-requires", goal):
+                return clauses.get(callee, {}).get("requires", [])
+        return []
+
+    def answer(comments, goal, place, unf, text_):
+        text_ = put_helpers(text_)
+        text_ = answer_body(fn, text_, place, clauses)
+        names = clause_names(goal)
+        if len(names) > 1:
+            made = named_parts(text_, names)
+            if made:
+                text_ = made
+            else:
+                problems.append(f"{path}: {goal} has the clauses {names}")
+        answers.append("\n".join(comments + [f"pub {goal} : goal.{goal}"] + ([unf] if unf else []) + [f"{goal} c ={text_}"]))
+        problems.extend(f"{path}: {goal}: {p}" for p in fn.said)
+        fn.said = []
+
     for comments, lines in rest:
         whole = "\n".join(lines)
         it = re.match(r"(?:abbrev )?(\S+) : tie\.Need-([^\s()]+)", whole)
@@ -311,28 +372,9 @@ def turn(crate, name, folder, entry, clauses):
             text_ = whole[body.end():]
             if args[:1] != ["c"]:
                 problems.append(f"{path}: {it[1]} takes {args}")
-            text_ = put_helpers(text_)
-            text_ = answer_body(fn, text_, place, clauses)
             if not unf and text_.strip() in ("search rules", "omega arith", "refl", "tt"):
                 continue
-            names = None
-            if goal.startswith("returns"):
-                names = clauses.get(fn.name_of(), {}).get("ensures", [])
-            else:
-                for callee in fn.entry["params"]:
-                    short = callee.split("::")[-1]
-                    if re.match(rf"{re.escape(short)}(-.*)?-requires", goal):
-                        names = clauses.get(callee, {}).get("requires", [])
-            if names and len(names) > 1:
-                made = named_parts(text_, names)
-                if made:
-                    text_ = made
-                else:
-                    problems.append(f"{path}: {goal} has the clauses {names}")
-            answers.append("\n".join(comments + [f"pub {goal} : goal.{goal}"] + ([unf[0]] if unf else []) + [f"{goal} c ={text_}"]))
-            for p in fn.said:
-                problems.append(f"{path}: {goal}: {p}")
-            fn.said = []
+            answer(comments, goal, place, unf and unf[0], text_)
         elif inv:
             it = re.match(r"(invariant|decreases)[-_](.*)$", inv[1])
             body = re.search(rf"(?m)^{re.escape(inv[1])} (.*?)=(.*)", whole, re.S)
@@ -354,6 +396,8 @@ def turn(crate, name, folder, entry, clauses):
             invariants.append("\n".join(comments + [f"abbrev pub {it[1]}-{new} : goal.{it[1]}-{new}", f"{it[1]}-{new} l ={text_}"]))
         else:
             answers.append("\n".join(comments + [whole if whole.startswith("module") else whole]))
+    for goal, place, text_ in inline:
+        answer([], goal, place, None, "\n    " + text_)
     for kind, parts, module in (("Invariants", invariants, "Given"), ("Answers", answers, "Goals")):
         if not parts:
             continue

@@ -15,14 +15,14 @@ pub returns-then-out-bytes : goal.returns-then-out-bytes
 returns-then-out-bytes c =
         let p = c.pass-answer.ensures in
     let x = passes_small v8 (old_header c.args.file.now c.args.cut.old) (edited_at c.args.file.now c.args.cut c.args.new.now) c.args.out.now
-    c.pass-answer.new.1.1.1.0 c.pass-answer.result p.kept
+    c.pass-answer.new.out c.pass-answer.result p.kept
     p.answer c.in-Done.is c.if-out-bytes.true in
     record { answer = x.0; buffer = x.1 }
 
 pub slice_bounds-pass-end-in-Done-2 : goal.slice_bounds-pass-end-in-Done-2
 slice_bounds-pass-end-in-Done-2 c =
     let e = length-take-le c.in-Done.bytes
-    (c.pass-answer.new.1.1.1.0
+    (c.pass-answer.new.out
     ++ c.args.out.now)
     (omega (arith, c.if-out-bytes.false)) in
     omega (arith, e)
@@ -35,7 +35,7 @@ pub returns-in-Refused : goal.returns-in-Refused
 returns-in-Refused c =
         let p = c.pass-answer.ensures in
     let x = passes_refused v8 (old_header c.args.file.now c.args.cut.old) (edited_at c.args.file.now c.args.cut c.args.new.now) c.args.out.now
-    c.pass-answer.new.1.1.1.0 c.pass-answer.result p.kept p.answer
+    c.pass-answer.new.out c.pass-answer.result p.kept p.answer
     c.in-Refused.is in
     record { answer = x.0; buffer = x.1 }
 
@@ -43,7 +43,7 @@ pub returns-else-out-bytes : goal.returns-else-out-bytes
 returns-else-out-bytes c =
         let p = c.pass-answer.ensures in
     let x = passes_done v8 (old_header c.args.file.now c.args.cut.old) (edited_at c.args.file.now c.args.cut c.args.new.now) c.args.out.now
-    c.pass-answer.new.1.1.1.0
+    c.pass-answer.new.out
     c.pass-answer.result p.kept p.answer
     c.in-Done.is c.if-out-bytes.false c.pass.ensures in
     record { answer = x.0; buffer = x.1 }

@@ -3,3 +3,15 @@ use borrow.Author.Tests.{eq-eqb, ne_eqb}
 use Rattle.held.proofs.phase_of.Goals as goal
 
 ruleset cases = (eq-eqb, ne_eqb)
+
+pub returns-then-kind-eq0 : goal.returns-then-kind-eq0
+returns-then-kind-eq0 c =
+    search cases
+
+pub returns-then-kind-eq1 : goal.returns-then-kind-eq1
+returns-then-kind-eq1 c =
+    search cases
+
+pub returns : goal.returns
+returns c =
+    search (cases, ← c.low8.ensures)

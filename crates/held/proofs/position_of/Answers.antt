@@ -3,3 +3,11 @@ use borrow.Author.Tests.{eq-eqb, ne_eqb}
 use Rattle.held.proofs.position_of.Goals as goal
 
 ruleset cases = (eq-eqb, ne_eqb)
+
+pub returns-then-kind-eq0 : goal.returns-then-kind-eq0
+returns-then-kind-eq0 c =
+    search cases
+
+pub returns : goal.returns
+returns c =
+    search (cases, ← c.low32.ensures, ← c.low32-2.ensures, ← c.low32-3.ensures)

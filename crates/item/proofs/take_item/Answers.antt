@@ -73,3 +73,11 @@ returns-in-Relabel c =
       comes_relabelled c.args.version c.args.s.now c.args.setting _ _ _ _ _ _ _ _ R T,
       relabelled_kept c.args.version c.args.s.now c.args.setting _ _ _ _ _ _ _ _ R T (c.relabel_step.ensures.stays _ L.1),
     )
+
+pub overflow_add-to : goal.overflow_add-to
+overflow_add-to c =
+    omega (arith, (reads_at c.before.before.before _ c.in-Relabel.is).sound.0)
+
+pub slice_bounds-label_step-end : goal.slice_bounds-label_step-end
+slice_bounds-label_step-end c =
+    omega (arith, (reads_at c.before.before.before.before _ c.in-Relabel.is).sound.0)

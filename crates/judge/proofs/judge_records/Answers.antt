@@ -39,7 +39,7 @@ take_record-taken-requires c =
     c.args.from
     c.args.label.now
     c.args.limit c.loop-passed.place
-    c.take_brief-brief.new.1.1.0 c.loop-passed.passed
+    c.take_brief-brief.new.label c.loop-passed.passed
     c.loop-passed.spare.bytes c.loop-passed.room = judging_same c.loop-passed.invariant _ (rw c.in_default.is at c.take_brief-brief.ensures) in it) in
     (judging_ready G, G.spare_whole, G.room_whole)
 
@@ -50,7 +50,7 @@ returns-in-Refused c =
     c.args.from
     c.args.label.now
     c.args.limit c.loop-passed.place
-    c.take_brief-brief.new.1.1.0 c.loop-passed.passed
+    c.take_brief-brief.new.label c.loop-passed.passed
     c.loop-passed.spare.bytes c.loop-passed.room = judging_same c.loop-passed.invariant _ (rw c.in_default.is at c.take_brief-brief.ensures) in it)) _ _ T.0
 
 pub returns-in-Foreign : goal.returns-in-Foreign
@@ -60,7 +60,7 @@ returns-in-Foreign c =
     c.args.from
     c.args.label.now
     c.args.limit c.loop-passed.place
-    c.take_brief-brief.new.1.1.0 c.loop-passed.passed
+    c.take_brief-brief.new.label c.loop-passed.passed
     c.loop-passed.spare.bytes c.loop-passed.room = judging_same c.loop-passed.invariant _ (rw c.in_default.is at c.take_brief-brief.ensures) in it)) T.0
 
 pub returns-in-End : goal.returns-in-End
@@ -70,7 +70,7 @@ returns-in-End c =
     c.args.from
     c.args.label.now
     c.args.limit c.loop-passed.place
-    c.take_brief-brief.new.1.1.0 c.loop-passed.passed
+    c.take_brief-brief.new.label c.loop-passed.passed
     c.loop-passed.spare.bytes c.loop-passed.room = judging_same c.loop-passed.invariant _ (rw c.in_default.is at c.take_brief-brief.ensures) in it))
           T.0,
       c.loop-passed-test.true,
@@ -91,7 +91,7 @@ loop-passed-preserved c =
     c.args.from
     c.args.label.now
     c.args.limit c.loop-passed.place
-    c.take_brief-brief.new.1.1.0 c.loop-passed.passed
+    c.take_brief-brief.new.label c.loop-passed.passed
     c.loop-passed.spare.bytes c.loop-passed.room = judging_same c.loop-passed.invariant _ (rw c.in_default.is at c.take_brief-brief.ensures) in it)) _ _ _
     c.loop-passed-test.true T.0 _ _ T.1 T.2
 

@@ -23,7 +23,7 @@ slice_bounds-stands-end-2 c =
 pub stands-requires : goal.stands-requires
 stands-requires c =
     let P = c.put_codes-size.ensures in
-        let l = length-take-le c.put_codes-size.result c.put_codes-size.new.0
+        let l = length-take-le c.put_codes-size.result c.put_codes-size.new.room
     (omega (arith, P.most, P.kept, c.requires.3)) in
     (c.requires.0.inside.place_inside, c.requires.0.small, omega (arith, l, P.most))
 

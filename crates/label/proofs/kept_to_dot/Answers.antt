@@ -19,3 +19,7 @@ pub returns-in-Missing : goal.returns-in-Missing
 returns-in-Missing c =
         let e = rw c.in-Missing.is at c.nth_dot-found.ensures in
     (e.0 ∙ dot_from_lem c.args.bytes.now c.args.len c.args.n (omega (arith, c.requires)) c.if-len-lt16.false, tt)
+
+pub overflow_add-result : goal.overflow_add-result
+overflow_add-result c =
+    omega (arith, rw c.in-At.is at c.nth_dot-found.ensures.1)

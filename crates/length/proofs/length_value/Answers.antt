@@ -34,3 +34,11 @@ returns c =
     let e = c.index-b.ensures in
     let g = simp part_to_end at c.get_le32.ensures.0 in
     (c.long.ensures.0 ∙ g ∙ search (cases, ← e.0), c.long.ensures.1)
+
+pub bounds-t-0 : goal.bounds-t-0
+bounds-t-0 c =
+    omega (arith, length_some c.args.t.now c.requires)
+
+pub slice_bounds-get_le32-count : goal.slice_bounds-get_le32-count
+slice_bounds-get_le32-count c =
+    omega (arith, length_some c.args.t.now c.requires)

@@ -28,3 +28,7 @@ pub returns : goal.returns
 returns c =
     let e : c.loop-i.i ≡ length c.args.s.now = omega arith in
     put_as c.loop-i.invariant.1 (omega arith) (rw (e, take-length))
+
+pub text_byte-k-requires : goal.text_byte-k-requires
+text_byte-k-requires c =
+    omega (arith, c.loop-i.invariant.1.few, c.requires)

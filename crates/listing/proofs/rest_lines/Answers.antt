@@ -1,5 +1,6 @@
 -- `listing::rest_lines` meets its contract: what is put so far and what is left of the sheet come to all lines. Assumes nothing.
 use native.Mathlib.Omega.{arith}
+use borrow.Author.Rules.{rules}
 use Prim.Native.Nat.{◌-◌}
 use mathlib.Core.Path.{◌∙◌}
 use Rattle.listing.proofs.Stores.{put_length}
@@ -50,3 +51,51 @@ loop-out-preserved c =
     ((let it : EntryAt c.args.layout
     c.args.sheet.now c.loop-out.at
     (Whole c.in-Whole.size c.in-Whole.fields c.in-Whole.label) = rw c.in-Whole.is at c.read_entry-found.ensures in it))) c.record_line-k.ensures
+
+pub slice_bounds-rest-count : goal.slice_bounds-rest-count
+slice_bounds-rest-count c =
+    let i = c.loop-out.invariant.inside in search rules
+
+pub slice_bounds-rest-start : goal.slice_bounds-rest-start
+slice_bounds-rest-start c =
+    let i = c.loop-out.invariant.inside in search rules
+
+pub slice_bounds-rest-end : goal.slice_bounds-rest-end
+slice_bounds-rest-end c =
+    let i = c.loop-out.invariant.inside in search rules
+
+pub slice_bounds-record_line-count : goal.slice_bounds-record_line-count
+slice_bounds-record_line-count c =
+    let i = ((let it : EntryAt c.args.layout
+    c.args.sheet.now c.loop-out.at
+    (Whole c.in-Whole.size c.in-Whole.fields c.in-Whole.label) = rw c.in-Whole.is at c.read_entry-found.ensures in it)).inside in search rules
+
+pub slice_bounds-record_line-start : goal.slice_bounds-record_line-start
+slice_bounds-record_line-start c =
+    let i = ((let it : EntryAt c.args.layout
+    c.args.sheet.now c.loop-out.at
+    (Whole c.in-Whole.size c.in-Whole.fields c.in-Whole.label) = rw c.in-Whole.is at c.read_entry-found.ensures in it)).inside in search rules
+
+pub slice_bounds-record_line-end : goal.slice_bounds-record_line-end
+slice_bounds-record_line-end c =
+    let i = ((let it : EntryAt c.args.layout
+    c.args.sheet.now c.loop-out.at
+    (Whole c.in-Whole.size c.in-Whole.fields c.in-Whole.label) = rw c.in-Whole.is at c.read_entry-found.ensures in it)).inside in search rules
+
+pub overflow_add-at : goal.overflow_add-at
+overflow_add-at c =
+    omega (
+      arith,
+      ((let it : EntryPlace c.args.sheet.now c.loop-out.at
+    c.in-Whole.size c.in-Whole.label = entry_place _ _ _ _ _ _ ((let it : EntryAt c.args.layout
+    c.args.sheet.now c.loop-out.at
+    (Whole c.in-Whole.size c.in-Whole.fields c.in-Whole.label) = rw c.in-Whole.is at c.read_entry-found.ensures in it)) c.loop-out.invariant.inside in it)).behind,
+      c.requires,
+    )
+
+pub loop-out-smaller : goal.loop-out-smaller
+loop-out-smaller c =
+    let p = (let it : EntryPlace c.args.sheet.now c.loop-out.at
+    c.in-Whole.size c.in-Whole.label = entry_place _ _ _ _ _ _ ((let it : EntryAt c.args.layout
+    c.args.sheet.now c.loop-out.at
+    (Whole c.in-Whole.size c.in-Whole.fields c.in-Whole.label) = rw c.in-Whole.is at c.read_entry-found.ensures in it)) c.loop-out.invariant.inside in it) in omega (arith, p.behind, p.least)

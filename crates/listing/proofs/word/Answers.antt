@@ -25,3 +25,7 @@ pub returns : goal.returns
 returns c =
     let e : c.loop-i.i ≡ length c.args.s.now = omega arith in
     put_as c.loop-i.invariant.1 (omega (arith, c.requires.1)) (rw (e, take-length))
+
+pub put-k-requires : goal.put-k-requires
+put-k-requires c =
+    omega (arith, c.loop-i.invariant.1.few)

@@ -1,4 +1,5 @@
 -- `measure::any_item` meets its contract. Assumes nothing.
+use Rattle.measure.specs.declared.Measured.TheVariants.{Bad, Passes}
 use mathlib.Core.Path.{◌≡◌, refl}
 use Rattle.format.specs.Items.{new_part}
 use Rattle.format.specs.State.{next_of}
@@ -7,7 +8,7 @@ use Rattle.kind.specs.Kinds.{kind_item}
 use Rattle.kind.specs.declared.Kind.{Kind}
 use Rattle.measure.specs.Measures.{ComesIn}
 use Rattle.measure.specs.declared.Measured.{Measured}
-use Rattle.measure.proofs.Items.{kind_comes}
+use Rattle.measure.proofs.Items.{kind_comes, nothing_comes, comes_undated}
 use Rattle.measure.proofs.any_item.Goals as goal
 
 -- what comes of the code's kind comes of the item
@@ -19,3 +20,65 @@ kind_at : (y : tie.After-new-kind) (k : Kind) → y.new-kind.result ≡ k → (r
 kind_at y k e r f =
     let a = y.before.before.before.before.args in
     kind_comes a.s.now _ y.before.before.if1.false refl r a.len a.style a.placed _ (rw e at (y.new-kind.ensures.0 a.s.now)) f
+
+pub returns-then-s-lt1 : goal.returns-then-s-lt1
+returns-then-s-lt1 c =
+    (tt, nothing_comes _ c.if-s-lt1.true _ _ _)
+
+pub returns-in-Reserved : goal.returns-in-Reserved
+returns-in-Reserved c =
+    (tt, kind_at c.before.before _ c.in-Reserved.is (Bad 4) (λ st K. refl))
+
+pub returns-in-Stop : goal.returns-in-Stop
+returns-in-Stop c =
+    absurd (rw c.in-Stop.is at c.new_kind-kind.ensures.1)
+
+pub returns-in-Shorten : goal.returns-in-Shorten
+returns-in-Shorten c =
+    absurd (rw c.in-Shorten.is at c.new_kind-kind.ensures.1)
+
+pub returns-in-Style : goal.returns-in-Style
+returns-in-Style c =
+    (
+      c.styled.ensures.0,
+      kind_at c.before.before.before.before _ c.in-Style.is c.styled.result (c.styled.ensures.1 _ _),
+    )
+
+pub returns-in-Move : goal.returns-in-Move
+returns-in-Move c =
+    (c.moved.ensures.0, kind_at c.before.before.before _ c.in-Move.is c.moved.result (c.moved.ensures.1 _ _ _))
+
+pub returns-in-NoDate : goal.returns-in-NoDate
+returns-in-NoDate c =
+    (tt, kind_at c.before.before _ c.in-NoDate.is (Passes 1) (comes_undated _ _ _))
+
+pub returns-in-Day : goal.returns-in-Day
+returns-in-Day c =
+    (c.day.ensures.0, kind_at c.before.before.before _ c.in-Day.is c.day.result (c.day.ensures.1 _ _ _))
+
+pub returns-in-Span : goal.returns-in-Span
+returns-in-Span c =
+    (c.span.ensures.0, kind_at c.before.before.before _ c.in-Span.is c.span.result (c.span.ensures.1 _ _ _))
+
+pub returns-in-Days : goal.returns-in-Days
+returns-in-Days c =
+    (c.days.ensures.0, kind_at c.before.before.before _ c.in-Days.is c.days.result (c.days.ensures.1 _ _ _))
+
+pub returns-in-Seconds : goal.returns-in-Seconds
+returns-in-Seconds c =
+    absurd (rw c.in-Seconds.is at c.new_kind-kind.ensures.1)
+
+pub returns-in-TwoSeconds : goal.returns-in-TwoSeconds
+returns-in-TwoSeconds c =
+    absurd (rw c.in-TwoSeconds.is at c.new_kind-kind.ensures.1)
+
+pub returns-in-Error : goal.returns-in-Error
+returns-in-Error c =
+    (c.error.ensures.0, kind_at c.before.before.before _ c.in-Error.is c.error.result (c.error.ensures.1 _ _))
+
+pub returns-in-Labelled : goal.returns-in-Labelled
+returns-in-Labelled c =
+    (
+      c.labelled.ensures.0,
+      kind_at c.before.before.before.before _ c.in-Labelled.is c.labelled.result (c.labelled.ensures.1 _),
+    )

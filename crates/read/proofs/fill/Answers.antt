@@ -21,7 +21,7 @@ put_front-requires c =
 
 pub slice_bounds-pass-end-2 : goal.slice_bounds-pass-end-2
 slice_bounds-pass-end-2 c =
-        let s = c.put_front.new.0 in
+        let s = c.put_front.new.sheet in
     let h : c.args.bytes ≤ length s = omega (arith, c.requires.1.fits, c.put_front.auto) in
     let e = length-take-le c.args.bytes s h in
     omega (arith, e)

@@ -19,8 +19,8 @@ slice_bounds-clear-end c = rw c.cleared-end.ensures (omega arith)
 
 pub slice_bounds-clear-end-2 : goal.slice_bounds-clear-end-2
 slice_bounds-clear-end-2 c =
-    rw c.cleared-end.ensures (counted c.pass-total.new.1.1.0 _ (omega arith))
+    rw c.cleared-end.ensures (counted c.pass-total.new.lent _ (omega arith))
 
 pub returns : goal.returns
 returns c =
-        let P = rw c.course_of-course.ensures at c.pass-total.ensures in record { total = P.0; room = rw c.cleared-end.ensures (all_cleared c.pass-total.new.1.1.0 _ _ (rw c.cleared-end.ensures at c.clear.ensures) P.1) }
+        let P = rw c.course_of-course.ensures at c.pass-total.ensures in record { total = P.0; room = rw c.cleared-end.ensures (all_cleared c.pass-total.new.lent _ _ (rw c.cleared-end.ensures at c.clear.ensures) P.1) }

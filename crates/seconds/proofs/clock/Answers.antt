@@ -55,3 +55,19 @@ returns c =
     let m = (let it : Said 2 (drop 18 c.args.line.now) c.in-Number-minutes.minute = field_told 2 (omega arith) _ _ (sym c.in-Number-minutes.is ∙ c.number-minutes.ensures) in it) in
     let s = (let it : Said 2 (drop 21 c.args.line.now) c.in-Number-seconds.second = field_told 2 (omega arith) _ _ (sym c.in-Number-seconds.is ∙ c.number-seconds.ensures) in it) in
     simp (h.digits, m.digits, s.digits, le-leb _ 23 (rw h.is at c.if-hour-gt23.false), le-leb _ 59 (rw m.is at c.if-minute-gt59.false), le-leb _ 59 (rw s.is at c.if-second-gt59.false)) (rw (h.is, m.is, s.is))
+
+pub overflow_mul-result : goal.overflow_mul-result
+overflow_mul-result c =
+    omega (arith, c.if-hour-gt23.false, c.if-minute-gt59.false, c.if-second-gt59.false)
+
+pub overflow_mul-result-2 : goal.overflow_mul-result-2
+overflow_mul-result-2 c =
+    omega (arith, c.if-hour-gt23.false, c.if-minute-gt59.false, c.if-second-gt59.false)
+
+pub overflow_add-result : goal.overflow_add-result
+overflow_add-result c =
+    omega (arith, c.if-hour-gt23.false, c.if-minute-gt59.false, c.if-second-gt59.false)
+
+pub overflow_add-result-2 : goal.overflow_add-result-2
+overflow_add-result-2 c =
+    omega (arith, c.if-hour-gt23.false, c.if-minute-gt59.false, c.if-second-gt59.false)

@@ -6,7 +6,7 @@ use borrow.Author.Tests.{not-true, not-false}
 use Rattle.format.specs.Bytes.{pick}
 use Rattle.format.specs.Times.{text_marks, text_zone, text_form}
 use Rattle.seconds.proofs.Digits.{and_no}
-use Rattle.seconds.proofs.Forms.{Whole, whole, no_date, no_clock}
+use Rattle.seconds.proofs.Forms.{zone_length, Whole, whole, no_date, no_clock}
 use Rattle.seconds.proofs.text_form.Goals as goal
 
 pub returns-then-not-known_zone : goal.returns-then-not-known_zone
@@ -52,3 +52,15 @@ returns c = ((let it : Whole
     ((let it : text_marks c.args.line.now ≡ true = sym c.marks.ensures ∙ not-false c.marks.result c.if-not-marks.false in it)) _ _
     (sym c.in-Number.is ∙ c.date-dated.ensures)
     (sym c.in-Number-timed.is ∙ c.clock-timed.ensures) in it)).is
+
+pub marks-requires : goal.marks-requires
+marks-requires c =
+    omega (arith, zone_length _ ((let it : text_zone c.args.line.now ≡ true = sym c.known_zone.ensures ∙ not-false c.known_zone.result c.if-not-known_zone.false in it)))
+
+pub date-dated-requires : goal.date-dated-requires
+date-dated-requires c =
+    omega (arith, zone_length _ ((let it : text_zone c.args.line.now ≡ true = sym c.known_zone.ensures ∙ not-false c.known_zone.result c.if-not-known_zone.false in it)))
+
+pub clock-timed-requires : goal.clock-timed-requires
+clock-timed-requires c =
+    omega (arith, zone_length _ ((let it : text_zone c.args.line.now ≡ true = sym c.known_zone.ensures ∙ not-false c.known_zone.result c.if-not-known_zone.false in it)))

@@ -74,3 +74,11 @@ returns c =
       inside = tt;
       formed = tt;
     }
+
+pub get_be16-requires : goal.get_be16-requires
+get_be16-requires c =
+    omega (arith, frame _ ((let it : framed c.args.s.now ≡ true = sym c.is_framed.ensures ∙ not-false _ c.if-not-is_framed.false in it)))
+
+pub bounds-s-2 : goal.bounds-s-2
+bounds-s-2 c =
+    omega (arith, frame _ ((let it : framed c.args.s.now ≡ true = sym c.is_framed.ensures ∙ not-false _ c.if-not-is_framed.false in it)))

@@ -50,3 +50,24 @@ returns c =
     c.args.sheet.now) = let f = frame _ ((let it : framed (drop 1 c.args.sheet.now) ≡ true = simp part_to_end at (sym c.is_framed.ensures ∙ not-false _ c.if-not-is_framed.false) in it)) in let l = length-drop 1 c.args.sheet.now in
     (f.length_there, omega arith) in it)).1 c.header.result
     (rw e at (simp part_to_end at c.header.ensures))
+
+pub get_be16-requires : goal.get_be16-requires
+get_be16-requires c =
+    simp part_to_end (omega (arith, (let it : (3 ≤ length (drop 1 c.args.sheet.now))
+    × (3 + be16 (drop 1 c.args.sheet.now) ≤ length
+    c.args.sheet.now) = let f = frame _ ((let it : framed (drop 1 c.args.sheet.now) ≡ true = simp part_to_end at (sym c.is_framed.ensures ∙ not-false _ c.if-not-is_framed.false) in it)) in let l = length-drop 1 c.args.sheet.now in
+    (f.length_there, omega arith) in it)))
+
+pub slice_bounds-header-count : goal.slice_bounds-header-count
+slice_bounds-header-count c =
+    omega (arith, (let it : (3 ≤ length (drop 1 c.args.sheet.now))
+    × (3 + be16 (drop 1 c.args.sheet.now) ≤ length
+    c.args.sheet.now) = let f = frame _ ((let it : framed (drop 1 c.args.sheet.now) ≡ true = simp part_to_end at (sym c.is_framed.ensures ∙ not-false _ c.if-not-is_framed.false) in it)) in let l = length-drop 1 c.args.sheet.now in
+    (f.length_there, omega arith) in it))
+
+pub slice_bounds-header-start : goal.slice_bounds-header-start
+slice_bounds-header-start c =
+    omega (arith, (let it : (3 ≤ length (drop 1 c.args.sheet.now))
+    × (3 + be16 (drop 1 c.args.sheet.now) ≤ length
+    c.args.sheet.now) = let f = frame _ ((let it : framed (drop 1 c.args.sheet.now) ≡ true = simp part_to_end at (sym c.is_framed.ensures ∙ not-false _ c.if-not-is_framed.false) in it)) in let l = length-drop 1 c.args.sheet.now in
+    (f.length_there, omega arith) in it))

@@ -23,4 +23,4 @@ lay_short-requires c =
 pub returns : goal.returns
 returns c =
         let Q = rw (c.lesser-at.ensures, c.lesser-old.ensures) at c.lay_short.ensures in
-    shortly c.args.stand c.args.bytes.now c.args.file.now c.args.out.now c.in-Going.is c.full.ensures.1 (omega (arith, c.if-out-lt-RECORD_LIMIT.false)) (omega (arith, c.well_formed)) c.lay_short.result c.lay_short.new.1.1.0 c.lay_short.new.1.1.1.1.1.0 Q
+    shortly c.args.stand c.args.bytes.now c.args.file.now c.args.out.now c.in-Going.is c.full.ensures.1 (omega (arith, c.if-out-lt-RECORD_LIMIT.false)) (omega (arith, c.well_formed)) c.lay_short.result c.lay_short.new.bytes c.lay_short.new.out Q

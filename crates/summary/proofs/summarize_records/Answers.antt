@@ -38,6 +38,6 @@ pub returns-else-words-least : goal.returns-else-words-least
 returns-else-words-least c =
         let C = rw c.in-Whole.is at c.count_records-counted.ensures in
     let x = records_of c.args.version (drop c.args.begin c.args.sheet.now) in
-    make_done x c.args.words.now _ c.words_for-least.result C.good C.many c.words_for-least.ensures c.finish.new.0 c.if-words-least.false
-    (made c.args.words.now c.put_marks.new.0 c.finish.new.0 (marks_in x.records) _ (length_marks x.records ∙ C.many) c.put_marks.auto.0
+    make_done x c.args.words.now _ c.words_for-least.result C.good C.many c.words_for-least.ensures c.finish.new.words c.if-words-least.false
+    (made c.args.words.now c.put_marks.new.words c.finish.new.words (marks_in x.records) _ (length_marks x.records ∙ C.many) c.put_marks.auto.0
     (put_to C.many (c.put_marks.ensures c.args.version C.good)) c.finish.ensures)

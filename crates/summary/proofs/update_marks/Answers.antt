@@ -10,5 +10,5 @@ returns-then-words-most c =
 pub returns : goal.returns
 returns c =
             update_done c.args.words.now c.args.new.now c.args.n c.args.first c.args.count c.requires.1 c.args.added c.words_for-taken.result c.words_for.result c.larger-most.result
-    c.requires.2.good c.requires.2.many c.words_for-taken.ensures c.words_for.ensures c.larger-most.ensures c.replace.new.0 c.if-words-most.false
+    c.requires.2.good c.requires.2.many c.words_for-taken.ensures c.words_for.ensures c.larger-most.ensures c.replace.new.words c.if-words-most.false
     c.replace.ensures

@@ -14,5 +14,5 @@ returns-else-size-part c =
         let e : 64 * (c.args.k / 64) + c.args.k % 64 ≡ c.args.k = omega arith in
     let d : 64 * (c.args.k / 64 + 1) + 0 ≡ c.args.k + (64 - c.args.k % 64) = omega arith in
     let h : 64 - c.args.k % 64 ≤ c.args.size = omega (arith, c.if-size-part.false) in
-    wrote_two c.args.words.now c.write_in-else-size-part.new.0 c.write_in-else-size-part-2.new.0 c.args.k (64 - c.args.k % 64) c.args.size c.args.v h
+    wrote_two c.args.words.now c.write_in-else-size-part.new.words c.write_in-else-size-part-2.new.words c.args.k (64 - c.args.k % 64) c.args.size c.args.v h
     (wrote_at e c.write_in-else-size-part.ensures) (wrote_at d c.write_in-else-size-part-2.ensures)

@@ -33,3 +33,11 @@ returns c =
     let e = c.least-n.ensures in
     let z : min (length (drop i c.args.l.now)) (length (drop i c.args.m.now)) ≡ 0 = simp length-drop (omega arith) in
     omega (arith, common_spent (drop i c.args.l.now) (drop i c.args.m.now) z)
+
+pub bounds-l-i : goal.bounds-l-i
+bounds-l-i c =
+    omega (arith, c.least-n.ensures)
+
+pub bounds-m-i : goal.bounds-m-i
+bounds-m-i c =
+    omega (arith, c.least-n.ensures)

@@ -23,7 +23,7 @@ loop-i-preserved c =
     let s = c.args.src.now in
     let d = c.args.dst.now in
     let h = c.loop-i-test in
-    let e = laps s d l.dst c.copy_sixteen.new.1.0 l.i l.i 16 (l.i + 16) l.invariant.2
+    let e = laps s d l.dst c.copy_sixteen.new.dst l.i l.i 16 (l.i + 16) l.invariant.2
     c.copy_sixteen.ensures (omega arith) (omega arith) refl
     (omega (arith, c.requires))
     (omega (arith, c.requires)) in
@@ -46,6 +46,6 @@ returns c =
     let l = c.loop-i in
     let s = c.args.src.now in
     let d = c.args.dst.now in
-    laps_all s d l.dst c.copy_sixteen-2.new.1.0 l.i (length s - 16) 16 l.invariant.2 c.copy_sixteen-2.ensures
+    laps_all s d l.dst c.copy_sixteen-2.new.dst l.i (length s - 16) 16 l.invariant.2 c.copy_sixteen-2.ensures
     (omega arith) (omega arith) (omega (arith, c.requires))
     (omega (arith, c.requires))

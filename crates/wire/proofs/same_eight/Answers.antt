@@ -9,3 +9,7 @@ returns c =
     let x = c.get_le64-x.result in
     let y = c.get_le64-y.result in
     (rw (c.get_le64-x.ensures, c.get_le64-y.ensures) at (eight_tell x y), omega (arith, trailing_le 64 (bit_xor x y)))
+
+pub overflow_cast-result : goal.overflow_cast-result
+overflow_cast-result c =
+    omega (arith, trailing_le 64 (bit_xor c.get_le64-x.result c.get_le64-y.result))

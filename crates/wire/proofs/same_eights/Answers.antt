@@ -40,3 +40,7 @@ loop-i-preserved c =
 ) at
     c.same_eight-k.ensures.0 in it))) in
     ((omega arith, omega arith, omega (arith, z)), omega arith)
+
+pub overflow_add-result : goal.overflow_add-result
+overflow_add-result c =
+    omega (arith, c.same_eight-k.ensures.1)

@@ -74,7 +74,7 @@ returns-in_default-entered c =
     let W = c.within-room.ensures in
     let T = rw c.in_default-entered.is at c.put_entry-entered.ensures in
     let G = c.loop-at.invariant in
-    let k = rejoined _ c.put_entry-entered.new.1.1.1.1.1.0 _ W.0 T.1 ∙ G.kept in
+    let k = rejoined _ c.put_entry-entered.new.out _ W.0 T.1 ∙ G.kept in
     rw c.refused.ensures (rest_refused v8 _ _ _ _ k 12 _ (going_flawed _ _ _ _ _ _ _ _ _ _ _ _ G c.loop-at-test.true T.0))
 
 pub more-total-requires-in-loop-at : goal.more-total-requires-in-loop-at
@@ -82,7 +82,7 @@ more-total-requires-in-loop-at c =
     omega (arith, c.loop-at.invariant.few, ((let it : let l = c.loop-at in
     let o = c.within-room.result in
     Written c.args.version c.args.sheet.now l.at l.hand l.position (take (length l.out - o) (drop o l.out))
-    c.put_entry-entered.new.1.1.1.1.1.0 c.in-Put.coded c.in-Put.fields = rw c.in-Put.is at c.put_entry-entered.ensures in it)).puts.most)
+    c.put_entry-entered.new.out c.in-Put.coded c.in-Put.fields = rw c.in-Put.is at c.put_entry-entered.ensures in it)).puts.most)
 
 pub overflow_add-number-in-loop-at : goal.overflow_add-number-in-loop-at
 overflow_add-number-in-loop-at c =
@@ -94,7 +94,7 @@ overflow_add-at-in-loop-at c =
     (3 ≤ n) × (c.loop-at.at + n ≤ length c.args.sheet.now) = let T = ((let it : let l = c.loop-at in
     let o = c.within-room.result in
     Written c.args.version c.args.sheet.now l.at l.hand l.position (take (length l.out - o) (drop o l.out))
-    c.put_entry-entered.new.1.1.1.1.1.0 c.in-Put.coded c.in-Put.fields = rw c.in-Put.is at c.put_entry-entered.ensures in it)).told in
+    c.put_entry-entered.new.out c.in-Put.coded c.in-Put.fields = rw c.in-Put.is at c.put_entry-entered.ensures in it)).told in
     let w = found_size _ c.args.sheet.now c.loop-at.at c.loop-at-test.true _ _ _ T in
     (w.0, w.1) in it), c.well_formed)
 
@@ -104,7 +104,7 @@ loop-at-preserved c =
     let W = (let it : let l = c.loop-at in
     let o = c.within-room.result in
     Written c.args.version c.args.sheet.now l.at l.hand l.position (take (length l.out - o) (drop o l.out))
-    c.put_entry-entered.new.1.1.1.1.1.0 c.in-Put.coded c.in-Put.fields = rw c.in-Put.is at c.put_entry-entered.ensures in it) in
+    c.put_entry-entered.new.out c.in-Put.coded c.in-Put.fields = rw c.in-Put.is at c.put_entry-entered.ensures in it) in
     rw c.more-total-in-loop-at.ensures
     (going_told _ _ _ _ _ _ _ _ _ _ _ _ c.loop-at.invariant c.loop-at-test.true _ _ _ W.told _ _ _ _ O.0 O.1 W.puts
     c.first_fault-fault.ensures _ _ W.leaves W.stands)
@@ -116,3 +116,60 @@ pub returns : goal.returns
 returns c =
     let G = c.loop-at.invariant in
     left_end v8 _ _ _ _ _ _ _ _ G.kept (going_end _ _ _ _ _ _ _ _ _ _ _ _ G c.loop-at-test.false) c.finish.ensures
+
+pub slice_bounds-find-count : goal.slice_bounds-find-count
+slice_bounds-find-count c =
+    let N = c.loop-at.invariant.named in omega (arith, N.ordered, N.inside)
+
+pub slice_bounds-find-start : goal.slice_bounds-find-start
+slice_bounds-find-start c =
+    let N = c.loop-at.invariant.named in omega (arith, N.ordered, N.inside)
+
+pub slice_bounds-find-end : goal.slice_bounds-find-end
+slice_bounds-find-end c =
+    let N = c.loop-at.invariant.named in omega (arith, N.ordered, N.inside)
+
+pub slice_bounds-put-count : goal.slice_bounds-put-count
+slice_bounds-put-count c =
+    omega (arith, c.within-room.ensures.0)
+
+pub slice_bounds-put-start : goal.slice_bounds-put-start
+slice_bounds-put-start c =
+    omega (arith, c.within-room.ensures.0)
+
+pub slice_bounds-put-end : goal.slice_bounds-put-end
+slice_bounds-put-end c =
+    omega (arith, c.within-room.ensures.0)
+
+pub overflow_sub-last : goal.overflow_sub-last
+overflow_sub-last c =
+    omega (arith, c.loop-at.invariant.named.ordered)
+
+pub loop-at-smaller-in-One : goal.loop-at-smaller-in-One
+loop-at-smaller-in-One c =
+    let S = (let it : let l = c.loop-at in let i = c.in-One.item in
+    Sizes c.args.sheet.now l.at l.hand.from l.hand.to i.size i.kept (label_at i.form) = plain_sizes _ _ _ _ _ _ _ _ _ _ _ c.loop-at-test.true c.loop-at.invariant.named.inside ((let it : let l = c.loop-at in let i = c.in-One.item in
+    Plainly c.args.version (take (length c.args.sheet.now - l.at) (drop l.at c.args.sheet.now)) l.hand.mark l.position
+    (part c.args.sheet.now l.hand.from l.hand.to) i.size i.kept i.code i.form = rw c.in-One.is at c.find-found.ensures in it)) in it) in omega (arith, S.ends, S.some, S.starts)
+
+pub slice_bounds-put_entry-count : goal.slice_bounds-put_entry-count
+slice_bounds-put_entry-count c =
+    omega (arith, c.within-room.ensures.0)
+
+pub slice_bounds-put_entry-start : goal.slice_bounds-put_entry-start
+slice_bounds-put_entry-start c =
+    omega (arith, c.within-room.ensures.0)
+
+pub slice_bounds-put_entry-end : goal.slice_bounds-put_entry-end
+slice_bounds-put_entry-end c =
+    omega (arith, c.within-room.ensures.0)
+
+pub loop-at-smaller : goal.loop-at-smaller
+loop-at-smaller c =
+    omega (arith, (let it : let n = c.in-Put.coded.size in
+    (3 ≤ n) × (c.loop-at.at + n ≤ length c.args.sheet.now) = let T = ((let it : let l = c.loop-at in
+    let o = c.within-room.result in
+    Written c.args.version c.args.sheet.now l.at l.hand l.position (take (length l.out - o) (drop o l.out))
+    c.put_entry-entered.new.out c.in-Put.coded c.in-Put.fields = rw c.in-Put.is at c.put_entry-entered.ensures in it)).told in
+    let w = found_size _ c.args.sheet.now c.loop-at.at c.loop-at-test.true _ _ _ T in
+    (w.0, w.1) in it))

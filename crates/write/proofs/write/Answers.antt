@@ -12,13 +12,13 @@ unfolding write_outcome write_buffer
 returns-then-out-bytes c =
         let p = c.pass-answer.ensures in
     passes_small v8 (front_header c.args.sheet.now) (sheet_result c.args.sheet.now) c.args.out.now
-    c.pass-answer.new.1.0 c.pass-answer.result p.kept
+    c.pass-answer.new.out c.pass-answer.result p.kept
     p.answer c.in-Done.is c.if-out-bytes.true
 
 pub slice_bounds-pass-end-in-Done-2 : goal.slice_bounds-pass-end-in-Done-2
 slice_bounds-pass-end-in-Done-2 c =
     let e = length-take-le c.in-Done.bytes
-    (c.pass-answer.new.1.0 ++
+    (c.pass-answer.new.out ++
     c.args.out.now) (omega (arith, c.if-out-bytes.false)) in
     omega (arith, e)
 
@@ -26,7 +26,7 @@ pub returns-in-Refused : goal.returns-in-Refused
 unfolding write_outcome write_buffer
 returns-in-Refused c =
         let p = c.pass-answer.ensures in
-    passes_refused v8 (front_header c.args.sheet.now) (sheet_result c.args.sheet.now) c.args.out.now c.pass-answer.new.1.0
+    passes_refused v8 (front_header c.args.sheet.now) (sheet_result c.args.sheet.now) c.args.out.now c.pass-answer.new.out
     c.pass-answer.result p.kept p.answer c.in-Refused.is
 
 pub returns-else-out-bytes : goal.returns-else-out-bytes
@@ -34,7 +34,7 @@ unfolding write_outcome write_buffer
 returns-else-out-bytes c =
         let p = c.pass-answer.ensures in
     passes_done v8 (front_header c.args.sheet.now) (sheet_result c.args.sheet.now) c.args.out.now
-    c.pass-answer.new.1.0
+    c.pass-answer.new.out
     c.pass-answer.result p.kept p.answer
     c.in-Done.is c.if-out-bytes.false
     c.pass.ensures

@@ -29,3 +29,43 @@ returns-in-Whole c =
         let F = front_at c.before.before.before.before.before.before.before.before.before.before.before in
     pass_v7 _ _ _ _ _ _ _ _ _ _ _ c.version_of-version.ensures F
     c.put_header-head.ensures c.put_records.ensures
+
+pub overflow_add-middle : goal.overflow_add-middle
+overflow_add-middle c =
+    omega (arith, (let it : let f = c.front-1.given.0 in
+    Fronted c.version_of-version.result c.args.sheet.now f.0 f.1.0 f.1.1.0 = rw c.in-Whole.is at c.read_front-front.ensures in it))
+
+pub overflow_add-begin : goal.overflow_add-begin
+overflow_add-begin c =
+    omega (arith, (let it : let f = c.front-1.given.0 in
+    Fronted c.version_of-version.result c.args.sheet.now f.0 f.1.0 f.1.1.0 = rw c.in-Whole.is at c.read_front-front.ensures in it))
+
+pub slice_bounds-put_header-count : goal.slice_bounds-put_header-count
+slice_bounds-put_header-count c =
+    omega (arith, (let it : let f = c.front-1.given.0 in
+    Fronted c.version_of-version.result c.args.sheet.now f.0 f.1.0 f.1.1.0 = rw c.in-Whole.is at c.read_front-front.ensures in it))
+
+pub slice_bounds-put_header-start : goal.slice_bounds-put_header-start
+slice_bounds-put_header-start c =
+    omega (arith, (let it : let f = c.front-1.given.0 in
+    Fronted c.version_of-version.result c.args.sheet.now f.0 f.1.0 f.1.1.0 = rw c.in-Whole.is at c.read_front-front.ensures in it))
+
+pub slice_bounds-put_header-end : goal.slice_bounds-put_header-end
+slice_bounds-put_header-end c =
+    omega (arith, (let it : let f = c.front-1.given.0 in
+    Fronted c.version_of-version.result c.args.sheet.now f.0 f.1.0 f.1.1.0 = rw c.in-Whole.is at c.read_front-front.ensures in it))
+
+pub slice_bounds-put_header-count-in-Whole : goal.slice_bounds-put_header-count-in-Whole
+slice_bounds-put_header-count-in-Whole c =
+    omega (arith, (let it : let f = c.front-1.given.0 in
+    Fronted c.version_of-version.result c.args.sheet.now f.0 f.1.0 f.1.1.0 = rw c.in-Whole.is at c.read_front-front.ensures in it))
+
+pub slice_bounds-put_header-start-in-Whole : goal.slice_bounds-put_header-start-in-Whole
+slice_bounds-put_header-start-in-Whole c =
+    omega (arith, (let it : let f = c.front-1.given.0 in
+    Fronted c.version_of-version.result c.args.sheet.now f.0 f.1.0 f.1.1.0 = rw c.in-Whole.is at c.read_front-front.ensures in it))
+
+pub slice_bounds-put_header-end-in-Whole : goal.slice_bounds-put_header-end-in-Whole
+slice_bounds-put_header-end-in-Whole c =
+    omega (arith, (let it : let f = c.front-1.given.0 in
+    Fronted c.version_of-version.result c.args.sheet.now f.0 f.1.0 f.1.1.0 = rw c.in-Whole.is at c.read_front-front.ensures in it))

@@ -35,7 +35,7 @@ returns-in_default c =
         let W = c.within-room.ensures in
     let T = rw c.in_default.is at c.put_next-turned.ensures in
     rw c.refused.ensures
-    (rest_refused v7 _ _ _ _ (rejoined _ c.put_next-turned.new.1.1.1.1.0 _ W.0
+    (rest_refused v7 _ _ _ _ (rejoined _ c.put_next-turned.new.out _ W.0
     T.1 ∙ c.loop-at.invariant.stands.kept) 12 _ (going_flawed _ _ _ _ _ _ _ _ _ _ _ _ c.loop-at.invariant c.loop-at-test.true T.0))
 
 pub more-total-requires : goal.more-total-requires
@@ -45,7 +45,7 @@ more-total-requires c =
     c.loop-at in let t = c.turned-1.given.0 in
     let from = c.within-room.result in
     Turns a.version a.sheet.now l.at l.hand (take (length l.out - from) (drop from l.out))
-    c.put_next-turned.new.1.1.1.1.0 t.0 t.1.0 t.1.1.0 t.1.1.1.0 = rw c.in-Put.is at c.put_next-turned.ensures in it)).puts.most)
+    c.put_next-turned.new.out t.0 t.1.0 t.1.1.0 t.1.1.1.0 = rw c.in-Put.is at c.put_next-turned.ensures in it)).puts.most)
 
 pub first_at-fault-requires : goal.first_at-fault-requires
 first_at-fault-requires c =
@@ -69,7 +69,7 @@ overflow_add-at c =
     c.loop-at in let t = c.turned-1.given.0 in
     let from = c.within-room.result in
     Turns a.version a.sheet.now l.at l.hand (take (length l.out - from) (drop from l.out))
-    c.put_next-turned.new.1.1.1.1.0 t.0 t.1.0 t.1.1.0 t.1.1.1.0 = rw c.in-Put.is at c.put_next-turned.ensures in it) in
+    c.put_next-turned.new.out t.0 t.1.0 t.1.1.0 t.1.1.1.0 = rw c.in-Put.is at c.put_next-turned.ensures in it) in
     found_size _ c.args.sheet.now c.loop-at.at
     c.loop-at-test.true _ _ _ T.told in it), c.well_formed)
 
@@ -81,7 +81,7 @@ loop-at-smaller c = omega (arith, (let it : (3 ≤ c.in-Put.size) ×
     c.loop-at in let t = c.turned-1.given.0 in
     let from = c.within-room.result in
     Turns a.version a.sheet.now l.at l.hand (take (length l.out - from) (drop from l.out))
-    c.put_next-turned.new.1.1.1.1.0 t.0 t.1.0 t.1.1.0 t.1.1.1.0 = rw c.in-Put.is at c.put_next-turned.ensures in it) in
+    c.put_next-turned.new.out t.0 t.1.0 t.1.1.0 t.1.1.1.0 = rw c.in-Put.is at c.put_next-turned.ensures in it) in
     found_size _ c.args.sheet.now c.loop-at.at
     c.loop-at-test.true _ _ _ T.told in it))
 
@@ -95,7 +95,7 @@ loop-at-preserved c =
     c.loop-at in let t = c.turned-1.given.0 in
     let from = c.within-room.result in
     Turns a.version a.sheet.now l.at l.hand (take (length l.out - from) (drop from l.out))
-    c.put_next-turned.new.1.1.1.1.0 t.0 t.1.0 t.1.1.0 t.1.1.1.0 = rw c.in-Put.is at c.put_next-turned.ensures in it)))
+    c.put_next-turned.new.out t.0 t.1.0 t.1.1.0 t.1.1.1.0 = rw c.in-Put.is at c.put_next-turned.ensures in it)))
 
 pub returns-then-extended-eq1 : goal.returns-then-extended-eq1
 returns-then-extended-eq1 c =

@@ -15,13 +15,13 @@ returns-then-out-bytes c =
     let h = front_header c.args.sheet.now in
     let x = sheet_result c.args.sheet.now in
     rw (headed_records (v7.bars h) 23 x) at
-    (passes_small v7 h (headed v7 h x) c.args.out.now c.pass-answer.new.1.0
+    (passes_small v7 h (headed v7 h x) c.args.out.now c.pass-answer.new.out
     c.pass-answer.result p.kept p.answer c.in-Done.is c.if-out-bytes.true)
 
 pub slice_bounds-pass-end-in-Done-2 : goal.slice_bounds-pass-end-in-Done-2
 slice_bounds-pass-end-in-Done-2 c =
         let e = length-take-le c.in-Done.bytes
-    (c.pass-answer.new.1.0 ++ c.args.out.now) (omega
+    (c.pass-answer.new.out ++ c.args.out.now) (omega
     (arith, c.if-out-bytes.false)) in
     omega (arith, e)
 
@@ -32,7 +32,7 @@ returns-in-Refused c =
     let h = front_header c.args.sheet.now in
     let x = sheet_result c.args.sheet.now in
     rw (headed_records (v7.bars h) 23 x) at
-    (passes_refused v7 h (headed v7 h x) c.args.out.now c.pass-answer.new.1.0
+    (passes_refused v7 h (headed v7 h x) c.args.out.now c.pass-answer.new.out
     c.pass-answer.result p.kept p.answer c.in-Refused.is)
 
 pub returns-else-out-bytes : goal.returns-else-out-bytes
@@ -42,5 +42,5 @@ returns-else-out-bytes c =
     let h = front_header c.args.sheet.now in
     let x = sheet_result c.args.sheet.now in
     rw (headed_records (v7.bars h) 23 x) at
-    (passes_done v7 h (headed v7 h x) c.args.out.now c.pass-answer.new.1.0 c.pass-answer.result p.kept p.answer
+    (passes_done v7 h (headed v7 h x) c.args.out.now c.pass-answer.new.out c.pass-answer.result p.kept p.answer
     c.in-Done.is c.if-out-bytes.false c.pass.ensures)

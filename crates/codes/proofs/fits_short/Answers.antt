@@ -1,0 +1,11 @@
+-- `codes::fits_short` meets its contract. Assumes nothing.
+use borrow.Author.Tests.{le-leb, lt-leb}
+use Rattle.codes.proofs.fits_short.Goals as goal
+
+pub returns-then-n-le32767 : goal.returns-then-n-le32767
+returns-then-n-le32767 c =
+    simp (le-leb _ _ c.if-n-le32767.true)
+
+pub returns : goal.returns
+returns c =
+    simp (lt-leb _ _ c.if-n-le32767.false)

@@ -1,0 +1,16 @@
+-- `held::phase_numbers` meets its contract. Assumes nothing.
+use mathlib.Core.Path.{sym}
+use Rattle.held.proofs.Narrow.{narrow}
+use Rattle.held.proofs.phase_numbers.Goals as goal
+
+pub returns-in-Going : goal.returns-in-Going
+returns-in-Going c =
+    sym c.in-Going.is
+
+pub returns-in-Ended : goal.returns-in-Ended
+returns-in-Ended c =
+    sym c.in-Ended.is
+
+pub returns-in-Refused : goal.returns-in-Refused
+returns-in-Refused c =
+    rw (narrow c.wide8.ensures) (sym c.in-Refused.is)

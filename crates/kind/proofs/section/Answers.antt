@@ -1,0 +1,11 @@
+-- `kind::section` meets its contract. Assumes nothing.
+use borrow.Author.Tests.{lt-ltb, le-ltb}
+use Rattle.kind.proofs.section.Goals as goal
+
+pub returns-then-code-lt50 : goal.returns-then-code-lt50
+returns-then-code-lt50 c =
+    (λ p s. simp (lt-ltb _ _ c.if-code-lt50.true), tt)
+
+pub returns : goal.returns
+returns c =
+    (λ p s. simp (le-ltb _ _ c.if-code-lt50.false), tt)

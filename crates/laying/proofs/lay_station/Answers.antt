@@ -1,0 +1,9 @@
+-- `laying::lay_station` meets its contract. Assumes nothing.
+use mathlib.Core.Path.{refl}
+use Rattle.laying.proofs.Freely.{extends, two_off}
+use borrow.Author.Rules.{rules}
+use Rattle.laying.proofs.lay_station.Goals as goal
+
+pub returns : goal.returns
+returns c =
+    (search (rules, extends), (rw two_off at c.lay_short_station.ensures, refl))

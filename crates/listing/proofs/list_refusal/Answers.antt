@@ -1,0 +1,13 @@
+-- `listing::list_refusal` meets its contract: measured with no room, and put where it fits. Assumes nothing.
+use mathlib.Core.Path.{refl}
+use Rattle.listing.proofs.Stores.{line_unfit, line_fits}
+use Rattle.listing.proofs.list_refusal.Goals as goal
+
+pub returns-then-out-size : goal.returns-then-out-size
+returns-then-out-size c =
+    line_unfit _ _ _ _ refl c.refusal_line-size.ensures c.if-out-size.true
+
+pub returns : goal.returns
+returns c =
+    line_fits _ _ _ _ refl c.refusal_line-size.ensures
+    c.if-out-size.false c.refusal_line.ensures

@@ -1,0 +1,9 @@
+-- `sheet::ends_in_return` meets its contract. Assumes nothing.
+use lib.ListN.{length, get_or-eq_default}
+use Prim.Native.Nat.{◌-◌}
+use native.Mathlib.Omega.{arith}
+use Rattle.sheet.proofs.ends_in_return.Goals as goal
+
+pub returns-then-l-eq0 : goal.returns-then-l-eq0
+returns-then-l-eq0 c =
+    simp (get_or-eq_default c.args.l.now 0 {n = length c.args.l.now - 1} (omega arith))
