@@ -66,7 +66,7 @@ class Function:
             self.said.append(f"a bare path at {place}")
             return None
         step, rest = words[0], words[1:]
-        wanted = {norm(step), re.sub(r"_lem$", "", norm(step))}
+        wanted = {norm(step), re.sub(r"_lem$", "", norm(step)), norm(step).lower(), norm(step).replace("type_size", "size_of")}
         found = place
         while found and norm(self.at[found][1][0]) not in wanted:
             found = self.at[found][0]
@@ -232,7 +232,10 @@ def answer_body(fn, body, place, callee_names):
         flat = fn.flat(place, words)
         return flat or it[0]
 
-    return PATH.sub(new, body)
+    body = PATH.sub(new, body)
+    step = r"c\.if-not-[\w'-]+\.(?:true|false)"
+    body = re.sub(rf"\(not-(?:true|false) (?:_|c[\w.'-]+) ({step})\)", r"\1", body)
+    return re.sub(rf"not-(?:true|false) (?:_|c[\w.'-]+) ({step})", r"\1", body)
 
 
 def spec_arguments(text):
@@ -290,7 +293,8 @@ def turn(crate, name, folder, entry, clauses):
                     for arg, (old, new), (place, _) in zip(given[loops_:], entry["needs"], entry["asked_at"]):
                         it = re.match(r"\(λ c(?: κs)?\.\s*(.*)\)$", arg, re.S)
                         if it and it[1].strip() not in ("search rules", "omega arith", "refl"):
-                            inline.append((new, place, it[1]))
+                            unf = re.search(r"(?m)^unfolding .*$", whole)
+                            inline.append((new, place, it[1], unf and unf[0]))
                 problems += listed_problem
             continue
         kept.append((comments, lines))
@@ -306,10 +310,21 @@ def turn(crate, name, folder, entry, clauses):
             body = re.search(rf"(?m)^{re.escape(name_)} (\w+) =(.*)", whole, re.S)
             tm = re.search(rf"^{re.escape(name_)} : \([^)]*\)\s*→\s*(.*?)(?=^unfolding|^{re.escape(name_)} \w+ =)", whole, re.S | re.M)
             if body and tm:
-                helpers[name_] = (var, body[1], tm[1].strip(), body[2].strip(), comments)
+                over_c = lambda t, v: re.sub(rf"(?<![\w'.₀-₉-]){re.escape(v)}(?=[.\s),;]|$)", "c", t)
+                helpers[name_] = ("c", "c", over_c(tm[1].strip(), var), expand_aliases(over_c(body[2].strip(), body[1])), comments)
                 continue
             problems.append(f"{path}: the helper {name_} is left")
         rest.append((comments, lines))
+
+    # an answer that others name is put in there too
+    whole_text = "\n".join("\n".join(lines) for _, lines in rest)
+    for comments, lines in rest:
+        whole = "\n".join(lines)
+        it = re.match(r"(\S+) : tie\.Need-", whole)
+        if it and re.search(rf"(?<![\w'.₀-₉-]){re.escape(it[1])} c", whole_text.replace("\n" + it[1] + " c", "")):
+            body = re.search(rf"(?m)^{re.escape(it[1])} c(?: κs)? =(.*)", whole, re.S)
+            if body:
+                helpers[it[1]] = ("c", "c", None, expand_aliases(body[1].strip()), comments)
 
     def put_helpers(body):
         for _ in range(6):
@@ -318,9 +333,9 @@ def turn(crate, name, folder, entry, clauses):
                 pat = re.compile(rf"(?<![\w'.₀-₉-]){re.escape(h)} (c(?:\.before)*)(?![\w'.-])")
 
                 def put(it):
-                    t = re.sub(rf"(?<![\w'.₀-₉-]){re.escape(tvar)}(?=[.\s)])", it[1], typ)
-                    b = re.sub(rf"(?<![\w'.₀-₉-]){re.escape(bvar)}(?=[.\s),])", it[1], hbody)
-                    return f"(let it : {t} = {b} in it)"
+                    t = typ and re.sub(rf"(?<![\w'.₀-₉-]){re.escape(tvar)}(?=[.\s)]|$)", it[1], typ)
+                    b = re.sub(rf"(?<![\w'.₀-₉-]){re.escape(bvar)}(?=[.\s),;]|$)", it[1], hbody)
+                    return f"(let it : {t} = {b} in it)" if t else f"({b})"
 
                 body, n = pat.subn(put, body)
                 changed |= bool(n)
@@ -396,8 +411,8 @@ def turn(crate, name, folder, entry, clauses):
             invariants.append("\n".join(comments + [f"abbrev pub {it[1]}-{new} : goal.{it[1]}-{new}", f"{it[1]}-{new} l ={text_}"]))
         else:
             answers.append("\n".join(comments + [whole if whole.startswith("module") else whole]))
-    for goal, place, text_ in inline:
-        answer([], goal, place, None, "\n    " + text_)
+    for goal, place, text_, unf in inline:
+        answer([], goal, place, unf, "\n    " + text_)
     for kind, parts, module in (("Invariants", invariants, "Given"), ("Answers", answers, "Goals")):
         if not parts:
             continue

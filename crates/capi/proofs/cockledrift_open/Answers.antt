@@ -5,4 +5,4 @@ use Rattle.abi.specs.Numbers.{open_numbers}
 use Rattle.capi.proofs.cockledrift_open.Goals as goal
 
 pub returns : goal.returns
-returns c = record { answer = c.tell_open.ensures ∙ ap open_numbers c.opened-o.ensures; stand = rw c.Numbers-of.ensures (search rules) }
+returns c = record { answer = c.tell_open.ensures ∙ ap open_numbers c.opened-o.ensures; stand = rw c.numbers_of-numbers.ensures (search rules) }

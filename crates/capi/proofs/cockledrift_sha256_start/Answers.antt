@@ -3,4 +3,4 @@ use mathlib.Core.Path.{◌∙◌}
 use Rattle.capi.proofs.cockledrift_sha256_start.Goals as goal
 
 pub returns : goal.returns
-returns c = c.Numbers-of.ensures ∙ c.start-run.ensures
+returns c = c.numbers_of-numbers.ensures ∙ c.start-run.ensures

@@ -61,7 +61,6 @@ returns-in-Numbers c =
     let body = simp part_to_end at c.body_at-body.ensures in
     record {
       same = rw c.tail_size-n.ensures.0 (labelled_whole c.args.s.now c.args.bare c.args.tail (part_at c.args.version) _ _ _ (part_at_lem c.before.before.before.before.before _ q.1) _ body);
-      sound = (omega (arith, (let it : 1 + (c.in-Numbers.size + c.in-Numbers.add + c.tail_size-n.result) ≤ length c.args.s.now = let c.args = c.args in
-    let f = labelled_fits c.args.s.now c.args.bare c.args.tail (part_at c.args.version) _ _ _ (part_at_lem c.before.before.before.before.before _ c.in-Numbers.is) in
+      sound = (omega (arith, (let it : 1 + (c.in-Numbers.size + c.in-Numbers.add + c.tail_size-n.result) ≤ length c.args.s.now =     let f = labelled_fits c.args.s.now c.args.bare c.args.tail (part_at c.args.version) _ _ _ (part_at_lem c.before.before.before.before.before _ c.in-Numbers.is) in
     omega (arith, f, length-drop 1 c.args.s.now, c.tail_size-n.ensures.0, c.requires) in it)), suits_back c.body_at-body.result q.0.1.0 q.0.1.1.0 body.bodied);
     }

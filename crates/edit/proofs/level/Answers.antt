@@ -1,6 +1,6 @@
 -- `edit::level` meets its contract. Assumes nothing.
 use native.Mathlib.Omega.{arith}
-use borrow.Author.Tests.{not-true, not-false}
+use borrow.Author.Tests.{not-false}
 use mathlib.Core.Path.{sym, ◌∙◌}
 use lib.Seq.{length-take-le}
 use Rattle.scan.specs.Places.{state_at}
@@ -15,13 +15,13 @@ returns-then-read-written c =
 pub returns-then-not-same_date : goal.returns-then-not-same_date
 returns-then-not-same_date c =
         state_date (state_at c.args.place c.args.name.now) (pen_state c.args.pen c.args.last.now) c.if-read-written.false
-    (sym c.same_date.ensures ∙ not-true _ c.if-not-same_date.true)
+    (sym c.same_date.ensures ∙ c.if-not-same_date.true)
 
 pub returns-then-not-same_position : goal.returns-then-not-same_position
 returns-then-not-same_position c =
         state_position (state_at c.args.place c.args.name.now) (pen_state c.args.pen c.args.last.now) c.if-read-written.false
-    (sym c.same_date.ensures ∙ not-false _ c.if-not-same_date.false)
-    (sym c.same_position.ensures ∙ not-true _ c.if-not-same_position.true)
+    (sym c.same_date.ensures ∙ c.if-not-same_date.false)
+    (sym c.same_position.ensures ∙ c.if-not-same_position.true)
 
 pub slice_bounds-same_bytes-end : goal.slice_bounds-same_bytes-end
 slice_bounds-same_bytes-end c =
@@ -38,5 +38,5 @@ returns c =
     c.if-read-written.false
     (sym c.same_date.ensures ∙ not-false _
     c.if-not-same_date.false)
-    (sym c.same_position.ensures ∙ not-false _ c.if-not-same_position.false)
+    (sym c.same_position.ensures ∙ c.if-not-same_position.false)
     c.same_bytes.ensures

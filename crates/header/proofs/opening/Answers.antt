@@ -3,7 +3,7 @@ use native.Mathlib.Omega.{arith}
 use mathlib.Core.Path.{◌≡◌, sym, ◌∙◌}
 use mathlib.Core.Bool.{true}
 use lib.ListN.{take}
-use borrow.Author.Tests.{lt-ltb, le-ltb, not-true, not-false}
+use borrow.Author.Tests.{lt-ltb, le-ltb}
 use Rattle.format.specs.Bytes.{pick, same}
 use Rattle.format.specs.Header.{magic, good_version, header_of, opening_of}
 use Rattle.header.proofs.Lines.{versioned}
@@ -17,31 +17,31 @@ returns-then-file-gt-FILE_LIMIT c =
 pub returns-then-not-magic_ok : goal.returns-then-not-magic_ok
 unfolding opening_of header_of pick
 returns-then-not-magic_ok c =
-    let wrong = not-true c.magic_ok.result c.if-not-magic_ok.true in
+    let wrong = c.if-not-magic_ok.true in
     record { same = simp (le-ltb _ _ c.if-file-gt-FILE_LIMIT.false, ← c.magic_ok.ensures, wrong); room = tt }
 
 pub returns-then-not-version_ok : goal.returns-then-not-version_ok
 unfolding opening_of header_of pick
 returns-then-not-version_ok c =
-    let wrong = not-true c.version_ok.result c.if-not-version_ok.true in
+    let wrong = c.if-not-version_ok.true in
     record {
-      same = simp (le-ltb _ _ c.if-file-gt-FILE_LIMIT.false, (let it : same (take 21 c.args.file.now) magic ≡ true = sym c.magic_ok.ensures ∙ not-false c.magic_ok.result c.if-not-magic_ok.false in it), ← c.version_ok.ensures, wrong);
+      same = simp (le-ltb _ _ c.if-file-gt-FILE_LIMIT.false, (let it : same (take 21 c.args.file.now) magic ≡ true = sym c.magic_ok.ensures ∙ c.if-not-magic_ok.false in it), ← c.version_ok.ensures, wrong);
       room = tt;
     }
 
 pub bounds-file-22 : goal.bounds-file-22
 bounds-file-22 c =
-    let v = versioned _ ((let it : good_version c.args.file.now ≡ true = sym c.version_ok.ensures ∙ not-false c.version_ok.result c.if-not-version_ok.false in it)) in
+    let v = versioned _ ((let it : good_version c.args.file.now ≡ true = sym c.version_ok.ensures ∙ c.if-not-version_ok.false in it)) in
     omega arith
 
 pub overflow_sub-file : goal.overflow_sub-file
 overflow_sub-file c =
-    let v = versioned _ ((let it : good_version c.args.file.now ≡ true = sym c.version_ok.ensures ∙ not-false c.version_ok.result c.if-not-version_ok.false in it)) in
+    let v = versioned _ ((let it : good_version c.args.file.now ≡ true = sym c.version_ok.ensures ∙ c.if-not-version_ok.false in it)) in
     omega arith
 
 pub title_line-requires : goal.title_line-requires
 title_line-requires c =
-    let v = versioned _ ((let it : good_version c.args.file.now ≡ true = sym c.version_ok.ensures ∙ not-false c.version_ok.result c.if-not-version_ok.false in it)) in
+    let v = versioned _ ((let it : good_version c.args.file.now ≡ true = sym c.version_ok.ensures ∙ c.if-not-version_ok.false in it)) in
     (omega arith, omega arith, omega arith, omega arith)
 
 pub returns : goal.returns
@@ -51,8 +51,8 @@ returns c =
     record {
       same = simp (
         le-ltb _ _ c.if-file-gt-FILE_LIMIT.false,
-        (let it : same (take 21 c.args.file.now) magic ≡ true = sym c.magic_ok.ensures ∙ not-false c.magic_ok.result c.if-not-magic_ok.false in it),
-        (let it : good_version c.args.file.now ≡ true = sym c.version_ok.ensures ∙ not-false c.version_ok.result c.if-not-version_ok.false in it),
+        (let it : same (take 21 c.args.file.now) magic ≡ true = sym c.magic_ok.ensures ∙ c.if-not-magic_ok.false in it),
+        (let it : good_version c.args.file.now ≡ true = sym c.version_ok.ensures ∙ c.if-not-version_ok.false in it),
       ) t.same;
       room = t.room;
     }

@@ -116,7 +116,7 @@ point_at-point-requires c =
     (simp (part_to_end, length-drop) (omega (
       arith,
       (let it : 29 + c.args.from.at
-    ≤ length c.args.file.now = let c.args = c.args in let L = (let it : BriefLine
+    ≤ length c.args.file.now = let L = (let it : BriefLine
     (drop c.args.from.at
     c.args.file.now)
     (take c.args.from.len

@@ -1,5 +1,4 @@
 -- `judge::take_made` meets its contract. Assumes nothing.
-use borrow.Author.Tests.{not-true, not-false}
 use native.Mathlib.Omega.{arith}
 use mathlib.Core.Path.{sym, ◌∙◌}
 use lib.Seq.{length-take-le}
@@ -31,7 +30,7 @@ pub returns-then-not-stands : goal.returns-then-not-stands
 returns-then-not-stands c =
         let P = c.put_codes-size.ensures in
         let f = front_of_lem P (omega (arith, P.most, c.requires.3)) in
-    let e = sym c.stands.ensures ∙ not-true _ c.if-not-stands.true in
+    let e = sym c.stands.ensures ∙ c.if-not-stands.true in
     (foreign_codes c.args.file.now c.args.from c.args.label.now c.requires.0 _ c.requires.1 (rw f at e), P.kept ∙ c.requires.3)
 
 pub keep_label-m-requires : goal.keep_label-m-requires
@@ -52,7 +51,7 @@ pub returns : goal.returns
 returns c =
         let P = c.put_codes-size.ensures in
         let f = front_of_lem P (omega (arith, P.most, c.requires.3)) in
-    let e = sym c.stands.ensures ∙ not-false _ c.if-not-stands.false in (
+    let e = sym c.stands.ensures ∙ c.if-not-stands.false in (
       rw c.setting_after.ensures (takes_made c.args.file.now c.args.from c.args.label.now c.requires.0 c.args.name.now c.args.fields c.requires.1 (rw f at e) _ _ _ P.size
           c.keep_label-m.ensures),
       P.kept ∙ c.requires.3,

@@ -1,12 +1,11 @@
 -- `measure::tailed` meets its contract. Assumes nothing.
 use native.Mathlib.Omega.{arith}
-use borrow.Author.Tests.{not-true, not-false}
 use Rattle.measure.proofs.Items.{tail_short, tail_long, tail_station, tail_unset, tail_line}
 use Rattle.measure.proofs.tailed.Goals as goal
 
 pub returns-then-not-placed : goal.returns-then-not-placed
 returns-then-not-placed c =
-    rw c.in-Line.is (tt, tail_unset _ _ _ _ (not-true _ c.if-not-placed.true))
+    rw c.in-Line.is (tt, tail_unset _ _ _ _ c.if-not-placed.true)
 
 pub returns-in-Short : goal.returns-in-Short
 returns-in-Short c =
@@ -22,4 +21,4 @@ returns-in-Station c =
 
 pub returns-else-not-placed : goal.returns-else-not-placed
 returns-else-not-placed c =
-    rw c.in-Line.is ((c.requires, omega arith), tail_line _ _ _ _ (not-false _ c.if-not-placed.false))
+    rw c.in-Line.is ((c.requires, omega arith), tail_line _ _ _ _ c.if-not-placed.false)

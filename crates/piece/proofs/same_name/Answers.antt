@@ -4,7 +4,6 @@ use mathlib.Core.Path.{sym, ap, ◌∙◌}
 use mathlib.Core.List.{List}
 use lib.ListN.{length, drop_of_length-le}
 use native.Mathlib.Omega.{arith}
-use borrow.Author.Tests.{not-true, not-false}
 use borrow.Author.Rules.{part_to_end}
 use Rattle.format.specs.Bytes.{same}
 use Rattle.wire.proofs.Laws.{same_false, same_past, same_other}
@@ -17,12 +16,12 @@ returns-then-a-b c =
 
 pub returns-then-not-same_four : goal.returns-then-not-same_four
 returns-then-not-same_four c =
-        sym (fours_other c.args.a.now c.args.b.now c.loop-i.i (simp part_to_end at (sym c.same_four.ensures ∙ not-true _ c.if-not-same_four.true)))
+        sym (fours_other c.args.a.now c.args.b.now c.loop-i.i (simp part_to_end at (sym c.same_four.ensures ∙ c.if-not-same_four.true)))
 
 pub loop-i-preserved : goal.loop-i-preserved
 loop-i-preserved c =
         let l = c.loop-i in
-    (omega arith, sym (same_fours c.args.a.now c.args.b.now l.i (omega arith) (omega arith) (simp part_to_end at (sym c.same_four.ensures ∙ not-false _ c.if-not-same_four.false))) ∙ l.invariant.1)
+    (omega arith, sym (same_fours c.args.a.now c.args.b.now l.i (omega arith) (omega arith) (simp part_to_end at (sym c.same_four.ensures ∙ c.if-not-same_four.false))) ∙ l.invariant.1)
 
 pub loop-i-2-init : goal.loop-i-2-init
 loop-i-2-init c = c.loop-i.invariant

@@ -1,4 +1,3 @@
-use borrow.Author.Tests.{not-false}
 use native.Mathlib.Omega.{arith}
 use mathlib.Core.Path.{refl, sym, ◌∙◌}
 use borrow.Author.Rules.{part_to_end}
@@ -10,7 +9,7 @@ pub returns : goal.returns
 returns c =
     let e = simp part_to_end at c.get_le64-word.ensures in
     let d = simp part_to_end at c.point-from.ensures in
-    let z = rw d at (sym c.stands_at.ensures ∙ not-false _ c.if-not-stands_at.false) in
+    let z = rw d at (sym c.stands_at.ensures ∙ c.if-not-stands_at.false) in
     let f = c.if-s-gt7.false in (
       (refl, omega arith, omega (arith, f)),
       λ version. leg_leads _ ((let it : Front c.args.s.now 1 32 = front (λ i. (c.shared_slice_known-1.given i).fits) c.requires c.label_fits.ensures c.if-not-label_fits.false in it)) f _ _ e

@@ -1,5 +1,4 @@
 -- `plain::with_label` meets its contract. Assumes nothing.
-use borrow.Author.Tests.{not-false}
 use native.Mathlib.Omega.{arith}
 use Prim.Native.Nat.{◌-◌, ◌≤◌}
 use mathlib.Core.Path.{refl, sym, ◌∙◌}
@@ -29,5 +28,5 @@ pub returns : goal.returns
 returns c =
     let l = c.label_at.ensures in
     let k = rw l at c.common_start-kept.ensures in
-    let q = rw l at (sym c.one_byte.ensures ∙ not-false _ c.if-not-one_byte.false) in
+    let q = rw l at (sym c.one_byte.ensures ∙ c.if-not-one_byte.false) in
     (refl, c.in-Known.is, k, q)

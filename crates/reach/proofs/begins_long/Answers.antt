@@ -1,6 +1,5 @@
 -- `reach::begins_long` meets its contract. Assumes nothing.
 use native.Mathlib.Omega.{arith}
-use borrow.Author.Tests.{not-true, not-false}
 use Prim.Native.Nat.{◌-◌}
 use mathlib.Core.Path.{refl, sym, ◌∙◌}
 use borrow.Author.Rules.{part_to_end}
@@ -38,7 +37,7 @@ same_word-requires c =
 pub returns-then-not-same_word : goal.returns-then-not-same_word
 returns-then-not-same_word c =
         let e = simp part_to_end at c.same_word.ensures in
-    sym (word_other c.args.s.now c.args.name.now c.loop-i.i (omega (arith, c.loop-i-test.true, c.requires.0)) (sym e ∙ not-true _ c.if-not-same_word.true))
+    sym (word_other c.args.s.now c.args.name.now c.loop-i.i (omega (arith, c.loop-i-test.true, c.requires.0)) (sym e ∙ c.if-not-same_word.true))
 
 pub overflow_add-i : goal.overflow_add-i
 overflow_add-i c =
@@ -51,7 +50,7 @@ loop-i-smaller c =
 pub loop-i-preserved : goal.loop-i-preserved
 loop-i-preserved c =
         let e = simp part_to_end at c.same_word.ensures in
-    (omega (arith, c.loop-i-test.true), words_more c.args.s.now c.args.name.now c.loop-i.i c.loop-i.invariant.1 (sym e ∙ not-false _ c.if-not-same_word.false))
+    (omega (arith, c.loop-i-test.true), words_more c.args.s.now c.args.name.now c.loop-i.i c.loop-i.invariant.1 (sym e ∙ c.if-not-same_word.false))
 
 pub slice_bounds-same_word-count-2 : goal.slice_bounds-same_word-count-2
 slice_bounds-same_word-count-2 c =

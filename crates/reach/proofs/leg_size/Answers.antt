@@ -1,5 +1,4 @@
 -- `reach::leg_size` meets its contract. Assumes nothing.
-use borrow.Author.Tests.{not-true, not-false}
 use native.Mathlib.Omega.{arith}
 use Prim.Native.Nat.{◌+◌, ◌≤◌}
 use mathlib.Core.Path.{sym, ap, ◌∙◌}
@@ -11,7 +10,7 @@ use Rattle.reach.proofs.leg_size.Goals as goal
 
 pub returns-then-not-label_fits : goal.returns-then-not-label_fits
 returns-then-not-label_fits c =
-        ap size_of (leg_long c.args.s.now c.args.n (sym c.label_fits.ensures ∙ not-true _ c.if-not-label_fits.true)).same
+        ap size_of (leg_long c.args.s.now c.args.n (sym c.label_fits.ensures ∙ c.if-not-label_fits.true)).same
 
 pub bounds-s-3 : goal.bounds-s-3
 bounds-s-3 c = omega (arith, (let it : (32 ≤ c.args.n) × (2 + c.args.n ≤ length c.args.s.now) = (((let it : Fitting c.args.s.now c.args.n 32 = fitting c.label_fits.ensures c.if-not-label_fits.false c.requires in it)).least, ((let it : Fitting c.args.s.now c.args.n 32 = fitting c.label_fits.ensures c.if-not-label_fits.false c.requires in it)).there) in it))
@@ -57,7 +56,7 @@ returns-then-not-good_date c =
         let e = (let it : Fitting c.args.s.now c.args.n 32 = fitting c.label_fits.ensures c.if-not-label_fits.false c.requires in it) in
     let d1 = c.day_of-first.ensures ∙ simp part_to_end at c.get_be16.ensures.0 in
     let d2 = c.day_of-last.ensures ∙ simp part_to_end at c.get_be16-2.ensures.0 in
-    let g = rw (d1, d2) at (sym c.good_date.ensures ∙ not-true _ c.if-not-good_date.true) in
+    let g = rw (d1, d2) at (sym c.good_date.ensures ∙ c.if-not-good_date.true) in
     ap size_of (leg_date c.args.s.now c.args.n e c.if-s-gt7.false c.if-s-gt5.false g).same
 
 pub returns : goal.returns
@@ -65,5 +64,5 @@ returns c =
         let e = (let it : Fitting c.args.s.now c.args.n 32 = fitting c.label_fits.ensures c.if-not-label_fits.false c.requires in it) in
     let d1 = c.day_of-first.ensures ∙ simp part_to_end at c.get_be16.ensures.0 in
     let d2 = c.day_of-last.ensures ∙ simp part_to_end at c.get_be16-2.ensures.0 in
-    let g = rw (d1, d2) at (sym c.good_date.ensures ∙ not-false _ c.if-not-good_date.false) in
+    let g = rw (d1, d2) at (sym c.good_date.ensures ∙ c.if-not-good_date.false) in
     ap size_of (leg_whole c.args.s.now c.args.n e c.if-s-gt7.false c.if-s-gt5.false g).same

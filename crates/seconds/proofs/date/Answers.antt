@@ -2,7 +2,6 @@
 use native.Mathlib.Omega.{arith}
 use mathlib.Core.Path.{◌≡◌, sym, ap, ◌∙◌}
 use lib.ListN.{drop}
-use borrow.Author.Tests.{not-true, not-false}
 use Rattle.format.specs.Bytes.{pick}
 use Rattle.format.specs.Times.{text_day}
 use Rattle.format.specs.declared.Spelled.TheVariants.{Number}
@@ -29,11 +28,11 @@ returns-in_default-days c =
 pub returns-then-not-real_date : goal.returns-then-not-real_date
 unfolding date_of pick
 returns-then-not-real_date c =
-    simp (((let it : Said 4 (drop 4 c.args.line.now) c.in-Number.year = field_told 4 (omega arith) _ _ (sym c.in-Number.is ∙ c.number-years.ensures) in it)).digits, ((let it : Said 2 (drop 9 c.args.line.now) c.in-Number-months.month = field_told 2 (omega arith) _ _ (sym c.in-Number-months.is ∙ c.number-months.ensures) in it)).digits, ((let it : Said 2 (drop 12 c.args.line.now) c.in-Number-days.day = field_told 2 (omega arith) _ _ (sym c.in-Number-days.is ∙ c.number-days.ensures) in it)).digits, ← (let it : c.real_date.result ≡ text_day c.args.line.now = rw (← ((let it : Said 4 (drop 4 c.args.line.now) c.in-Number.year = field_told 4 (omega arith) _ _ (sym c.in-Number.is ∙ c.number-years.ensures) in it)).is, ← ((let it : Said 2 (drop 9 c.args.line.now) c.in-Number-months.month = field_told 2 (omega arith) _ _ (sym c.in-Number-months.is ∙ c.number-months.ensures) in it)).is, ← ((let it : Said 2 (drop 12 c.args.line.now) c.in-Number-days.day = field_told 2 (omega arith) _ _ (sym c.in-Number-days.is ∙ c.number-days.ensures) in it)).is) c.real_date.ensures in it), not-true c.real_date.result c.if-not-real_date.true)
+    simp (((let it : Said 4 (drop 4 c.args.line.now) c.in-Number.year = field_told 4 (omega arith) _ _ (sym c.in-Number.is ∙ c.number-years.ensures) in it)).digits, ((let it : Said 2 (drop 9 c.args.line.now) c.in-Number-months.month = field_told 2 (omega arith) _ _ (sym c.in-Number-months.is ∙ c.number-months.ensures) in it)).digits, ((let it : Said 2 (drop 12 c.args.line.now) c.in-Number-days.day = field_told 2 (omega arith) _ _ (sym c.in-Number-days.is ∙ c.number-days.ensures) in it)).digits, ← (let it : c.real_date.result ≡ text_day c.args.line.now = rw (← ((let it : Said 4 (drop 4 c.args.line.now) c.in-Number.year = field_told 4 (omega arith) _ _ (sym c.in-Number.is ∙ c.number-years.ensures) in it)).is, ← ((let it : Said 2 (drop 9 c.args.line.now) c.in-Number-months.month = field_told 2 (omega arith) _ _ (sym c.in-Number-months.is ∙ c.number-months.ensures) in it)).is, ← ((let it : Said 2 (drop 12 c.args.line.now) c.in-Number-days.day = field_told 2 (omega arith) _ _ (sym c.in-Number-days.is ∙ c.number-days.ensures) in it)).is) c.real_date.ensures in it), c.if-not-real_date.true)
 
 pub day_number-requires : goal.day_number-requires
 day_number-requires c =
-    let r = real _ _ _ (sym c.real_date.ensures ∙ not-false c.real_date.result c.if-not-real_date.false) in
+    let r = real _ _ _ (sym c.real_date.ensures ∙ c.if-not-real_date.false) in
     (r.from, r.to, r.first, r.last, r.least, r.most)
 
 pub returns : goal.returns
@@ -42,4 +41,4 @@ returns c =
     let y = (let it : Said 4 (drop 4 c.args.line.now) c.in-Number.year = field_told 4 (omega arith) _ _ (sym c.in-Number.is ∙ c.number-years.ensures) in it) in
     let m = (let it : Said 2 (drop 9 c.args.line.now) c.in-Number-months.month = field_told 2 (omega arith) _ _ (sym c.in-Number-months.is ∙ c.number-months.ensures) in it) in
     let d = (let it : Said 2 (drop 12 c.args.line.now) c.in-Number-days.day = field_told 2 (omega arith) _ _ (sym c.in-Number-days.is ∙ c.number-days.ensures) in it) in
-    simp (y.digits, m.digits, d.digits, ← (let it : c.real_date.result ≡ text_day c.args.line.now = rw (← ((let it : Said 4 (drop 4 c.args.line.now) c.in-Number.year = field_told 4 (omega arith) _ _ (sym c.in-Number.is ∙ c.number-years.ensures) in it)).is, ← ((let it : Said 2 (drop 9 c.args.line.now) c.in-Number-months.month = field_told 2 (omega arith) _ _ (sym c.in-Number-months.is ∙ c.number-months.ensures) in it)).is, ← ((let it : Said 2 (drop 12 c.args.line.now) c.in-Number-days.day = field_told 2 (omega arith) _ _ (sym c.in-Number-days.is ∙ c.number-days.ensures) in it)).is) c.real_date.ensures in it), not-false c.real_date.result c.if-not-real_date.false) (ap Number (rw (y.is, m.is, d.is) at c.day_number.ensures))
+    simp (y.digits, m.digits, d.digits, ← (let it : c.real_date.result ≡ text_day c.args.line.now = rw (← ((let it : Said 4 (drop 4 c.args.line.now) c.in-Number.year = field_told 4 (omega arith) _ _ (sym c.in-Number.is ∙ c.number-years.ensures) in it)).is, ← ((let it : Said 2 (drop 9 c.args.line.now) c.in-Number-months.month = field_told 2 (omega arith) _ _ (sym c.in-Number-months.is ∙ c.number-months.ensures) in it)).is, ← ((let it : Said 2 (drop 12 c.args.line.now) c.in-Number-days.day = field_told 2 (omega arith) _ _ (sym c.in-Number-days.is ∙ c.number-days.ensures) in it)).is) c.real_date.ensures in it), c.if-not-real_date.false) (ap Number (rw (y.is, m.is, d.is) at c.day_number.ensures))

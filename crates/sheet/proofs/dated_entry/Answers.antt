@@ -1,5 +1,5 @@
 -- `sheet::dated_entry` meets its contract. Assumes nothing.
-use borrow.Author.Tests.{not-true, not-false, le-leb, lt-leb}
+use borrow.Author.Tests.{le-leb, lt-leb}
 use native.Mathlib.Omega.{arith}
 use mathlib.Core.Path.{sym, ◌∙◌}
 use borrow.Author.Rules.{part_to_end}
@@ -9,14 +9,14 @@ use Rattle.sheet.proofs.dated_entry.Goals as goal
 
 pub returns-then-not-good_date : goal.returns-then-not-good_date
 returns-then-not-good_date c =
-        let g = rw (day_at c.before.before.before, end_at c.before.before.before) at (sym c.good_date.ensures ∙ not-true _ c.if-not-good_date.true) in
+        let g = rw (day_at c.before.before.before, end_at c.before.before.before) at (sym c.good_date.ensures ∙ c.if-not-good_date.true) in
     spoilt (section_is _ _) ((let it : Fitting c.args.s.now c.args.n 23 = fitting c.label_fits.ensures c.if-not-label_fits.false c.requires in it))
     (simp (le-leb _ _ c.if-last-gt1.false, g))
 
 pub returns : goal.returns
 returns c =
         let g = rw (day_at c.before.before.before.before.before.before.before, end_at c.before.before.before.before.before.before.before) at (sym c.good_date.ensures
-    ∙ not-false _ c.if-not-good_date.false) in
+    ∙ c.if-not-good_date.false) in
     rw (simp part_to_end at c.dimensions-size.ensures, c.date_from-date.ensures, day_at c.before.before.before.before.before.before.before, end_at c.before.before.before.before.before.before.before)
     (whole (section_is _ _)
     ((let it : Fitting c.args.s.now c.args.n 23 = fitting c.label_fits.ensures c.if-not-label_fits.false c.requires in it))
@@ -24,7 +24,7 @@ returns c =
 
 pub returns-then-not-label_fits : goal.returns-then-not-label_fits
 returns-then-not-label_fits c =
-    too_long_lem (section_is _ _) (sym c.label_fits.ensures ∙ not-true _ c.if-not-label_fits.true)
+    too_long_lem (section_is _ _) (sym c.label_fits.ensures ∙ c.if-not-label_fits.true)
 
 pub bounds-s-3 : goal.bounds-s-3
 bounds-s-3 c =

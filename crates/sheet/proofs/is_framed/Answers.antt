@@ -11,11 +11,11 @@ returns-then-s-lt3 c = simp (lt-leb _ _ c.if-s-lt3.true)
 pub returns-then-n-ge1 : goal.returns-then-n-ge1
 unfolding framed
 returns-then-n-ge1 c =
-    let e = c.type_size.ensures ∙ c.get_be16.ensures.0 in
+    let e = c.size_of-n.ensures ∙ c.get_be16.ensures.0 in
     simp (← e, le-leb _ _ c.if-s-lt3.false, le-leb _ _ c.if-n-ge1.true)
 
 pub returns-else-n-ge1 : goal.returns-else-n-ge1
 unfolding framed
 returns-else-n-ge1 c =
-    let e = c.type_size.ensures ∙ c.get_be16.ensures.0 in
+    let e = c.size_of-n.ensures ∙ c.get_be16.ensures.0 in
     simp (← e, le-leb _ _ c.if-s-lt3.false, lt-leb _ _ c.if-n-ge1.false)

@@ -1,5 +1,4 @@
 -- `sheet::leg_entry` meets its contract. Assumes nothing.
-use borrow.Author.Tests.{not-true, not-false}
 use native.Mathlib.Omega.{arith}
 use mathlib.Core.Path.{sym, ◌∙◌}
 use borrow.Author.Rules.{part_to_end}
@@ -9,21 +8,21 @@ use Rattle.sheet.proofs.leg_entry.Goals as goal
 
 pub returns-then-not-good_date : goal.returns-then-not-good_date
 returns-then-not-good_date c =
-        let g = rw (day_at c.before.before.before, end_at c.before.before.before) at (sym c.good_date.ensures ∙ not-true _ c.if-not-good_date.true) in
+        let g = rw (day_at c.before.before.before, end_at c.before.before.before) at (sym c.good_date.ensures ∙ c.if-not-good_date.true) in
     leg_date _ _ ((let it : Fitting c.args.s.now c.args.n 32 = fitting c.label_fits.ensures c.if-not-label_fits.false c.requires in it))
     c.if-s-gt7.false
     c.if-s-gt5.false g
 
 pub returns : goal.returns
 returns c =
-        let g = rw (day_at c.before.before.before.before.before.before, end_at c.before.before.before.before.before.before) at (sym c.good_date.ensures ∙ not-false _ c.if-not-good_date.false) in
+        let g = rw (day_at c.before.before.before.before.before.before, end_at c.before.before.before.before.before.before) at (sym c.good_date.ensures ∙ c.if-not-good_date.false) in
     rw (c.leg.ensures, c.date_from-date.ensures, day_at c.before.before.before.before.before.before, end_at c.before.before.before.before.before.before)
     (leg_whole _ _ ((let it : Fitting c.args.s.now c.args.n 32 = fitting c.label_fits.ensures c.if-not-label_fits.false c.requires in it)) c.if-s-gt7.false
     c.if-s-gt5.false g)
 
 pub returns-then-not-label_fits : goal.returns-then-not-label_fits
 returns-then-not-label_fits c =
-    leg_long _ _ (sym c.label_fits.ensures ∙ not-true _ c.if-not-label_fits.true)
+    leg_long _ _ (sym c.label_fits.ensures ∙ c.if-not-label_fits.true)
 
 pub bounds-s-3 : goal.bounds-s-3
 bounds-s-3 c =

@@ -1,6 +1,5 @@
 -- `sheet::read_entry` meets its contract: each arm hands on what the function of its kind tells. Assumes nothing.
 use Rattle.sheet.proofs.Entries.{unframed, kind_leg, kind_station, kind_section, kind_error, kind_other, entry_told}
-use borrow.Author.Tests.{not-true, not-false}
 use native.Mathlib.Omega.{arith}
 use Prim.Native.Nat.{ℕ, ◌+◌, ◌≤◌}
 use mathlib.Core.Path.{◌≡◌, sym, ◌∙◌}
@@ -24,52 +23,52 @@ pub returns-then-not-is_framed : goal.returns-then-not-is_framed
 returns-then-not-is_framed c =
     record {
       same = unframed c.args.version c.args.s.now
-          (sym c.is_framed.ensures ∙ not-true _ c.if-not-is_framed.true);
+          (sym c.is_framed.ensures ∙ c.if-not-is_framed.true);
       inside = tt;
       formed = tt;
     }
 
 pub leg_entry-requires : goal.leg_entry-requires
-leg_entry-requires c = (let it : 2 + c.type_size.result ≤ length c.args.s.now = omega (arith, (let it : c.type_size.result ≡ be16 c.args.s.now = c.type_size.ensures ∙ c.get_be16.ensures.0 in it), frame _ ((let it : framed c.args.s.now ≡ true = sym c.is_framed.ensures ∙ not-false _ c.if-not-is_framed.false in it))) in it)
+leg_entry-requires c = (let it : 2 + c.size_of-n.result ≤ length c.args.s.now = omega (arith, (let it : c.size_of-n.result ≡ be16 c.args.s.now = c.size_of-n.ensures ∙ c.get_be16.ensures.0 in it), frame _ ((let it : framed c.args.s.now ≡ true = sym c.is_framed.ensures ∙ c.if-not-is_framed.false in it))) in it)
 
 pub returns-then-kind-eq1 : goal.returns-then-kind-eq1
 returns-then-kind-eq1 c =
     told_at c.before.before.before c.leg_entry.result
     (λ n. leg_entry n (drop 2 c.args.s.now)) c.leg_entry.ensures
-    (kind_leg _ _ ((let it : framed c.args.s.now ≡ true = sym c.is_framed.ensures ∙ not-false _ c.if-not-is_framed.false in it)) c.if-kind-eq1.true)
+    (kind_leg _ _ ((let it : framed c.args.s.now ≡ true = sym c.is_framed.ensures ∙ c.if-not-is_framed.false in it)) c.if-kind-eq1.true)
 
 pub station_entry-requires : goal.station_entry-requires
-station_entry-requires c = (let it : 2 + c.type_size.result ≤ length c.args.s.now = omega (arith, (let it : c.type_size.result ≡ be16 c.args.s.now = c.type_size.ensures ∙ c.get_be16.ensures.0 in it), frame _ ((let it : framed c.args.s.now ≡ true = sym c.is_framed.ensures ∙ not-false _ c.if-not-is_framed.false in it))) in it)
+station_entry-requires c = (let it : 2 + c.size_of-n.result ≤ length c.args.s.now = omega (arith, (let it : c.size_of-n.result ≡ be16 c.args.s.now = c.size_of-n.ensures ∙ c.get_be16.ensures.0 in it), frame _ ((let it : framed c.args.s.now ≡ true = sym c.is_framed.ensures ∙ c.if-not-is_framed.false in it))) in it)
 
 pub returns-then-kind-eq2 : goal.returns-then-kind-eq2
 returns-then-kind-eq2 c =
     told_at c.before.before.before.before c.station_entry.result
     (λ n. station_entry n (drop 2 c.args.s.now)) c.station_entry.ensures
-    (kind_station _ _ ((let it : framed c.args.s.now ≡ true = sym c.is_framed.ensures ∙ not-false _ c.if-not-is_framed.false in it)) c.if-kind-eq2.true)
+    (kind_station _ _ ((let it : framed c.args.s.now ≡ true = sym c.is_framed.ensures ∙ c.if-not-is_framed.false in it)) c.if-kind-eq2.true)
 
 pub section_entry-requires : goal.section_entry-requires
-section_entry-requires c = (let it : 2 + c.type_size.result ≤ length c.args.s.now = omega (arith, (let it : c.type_size.result ≡ be16 c.args.s.now = c.type_size.ensures ∙ c.get_be16.ensures.0 in it), frame _ ((let it : framed c.args.s.now ≡ true = sym c.is_framed.ensures ∙ not-false _ c.if-not-is_framed.false in it))) in it)
+section_entry-requires c = (let it : 2 + c.size_of-n.result ≤ length c.args.s.now = omega (arith, (let it : c.size_of-n.result ≡ be16 c.args.s.now = c.size_of-n.ensures ∙ c.get_be16.ensures.0 in it), frame _ ((let it : framed c.args.s.now ≡ true = sym c.is_framed.ensures ∙ c.if-not-is_framed.false in it))) in it)
 
 pub returns-then-kind-eq3 : goal.returns-then-kind-eq3
 returns-then-kind-eq3 c =
     told_at c.before.before.before.before.before c.section_entry.result
     (λ n. section_in c.args.version n
     (drop 2 c.args.s.now)) c.section_entry.ensures
-    (kind_section _ _ ((let it : framed c.args.s.now ≡ true = sym c.is_framed.ensures ∙ not-false _ c.if-not-is_framed.false in it)) c.if-kind-eq3.true)
+    (kind_section _ _ ((let it : framed c.args.s.now ≡ true = sym c.is_framed.ensures ∙ c.if-not-is_framed.false in it)) c.if-kind-eq3.true)
 
 pub error_entry-requires : goal.error_entry-requires
-error_entry-requires c = (let it : 2 + c.type_size.result ≤ length c.args.s.now = omega (arith, (let it : c.type_size.result ≡ be16 c.args.s.now = c.type_size.ensures ∙ c.get_be16.ensures.0 in it), frame _ ((let it : framed c.args.s.now ≡ true = sym c.is_framed.ensures ∙ not-false _ c.if-not-is_framed.false in it))) in it)
+error_entry-requires c = (let it : 2 + c.size_of-n.result ≤ length c.args.s.now = omega (arith, (let it : c.size_of-n.result ≡ be16 c.args.s.now = c.size_of-n.ensures ∙ c.get_be16.ensures.0 in it), frame _ ((let it : framed c.args.s.now ≡ true = sym c.is_framed.ensures ∙ c.if-not-is_framed.false in it))) in it)
 
 pub returns-then-kind-eq4 : goal.returns-then-kind-eq4
 returns-then-kind-eq4 c =
     told_at c.before.before.before.before.before.before c.error_entry.result
     (λ n. error_entry n (drop 2 c.args.s.now))
-    c.error_entry.ensures (kind_error _ _ ((let it : framed c.args.s.now ≡ true = sym c.is_framed.ensures ∙ not-false _ c.if-not-is_framed.false in it)) c.if-kind-eq4.true)
+    c.error_entry.ensures (kind_error _ _ ((let it : framed c.args.s.now ≡ true = sym c.is_framed.ensures ∙ c.if-not-is_framed.false in it)) c.if-kind-eq4.true)
 
 pub returns : goal.returns
 returns c =
     record {
-      same = kind_other _ _ ((let it : framed c.args.s.now ≡ true = sym c.is_framed.ensures ∙ not-false _ c.if-not-is_framed.false in it)) c.if-kind-eq1.false
+      same = kind_other _ _ ((let it : framed c.args.s.now ≡ true = sym c.is_framed.ensures ∙ c.if-not-is_framed.false in it)) c.if-kind-eq1.false
           c.if-kind-eq2.false c.if-kind-eq3.false c.if-kind-eq4.false;
       inside = tt;
       formed = tt;
@@ -77,8 +76,8 @@ returns c =
 
 pub get_be16-requires : goal.get_be16-requires
 get_be16-requires c =
-    omega (arith, frame _ ((let it : framed c.args.s.now ≡ true = sym c.is_framed.ensures ∙ not-false _ c.if-not-is_framed.false in it)))
+    omega (arith, frame _ ((let it : framed c.args.s.now ≡ true = sym c.is_framed.ensures ∙ c.if-not-is_framed.false in it)))
 
 pub bounds-s-2 : goal.bounds-s-2
 bounds-s-2 c =
-    omega (arith, frame _ ((let it : framed c.args.s.now ≡ true = sym c.is_framed.ensures ∙ not-false _ c.if-not-is_framed.false in it)))
+    omega (arith, frame _ ((let it : framed c.args.s.now ≡ true = sym c.is_framed.ensures ∙ c.if-not-is_framed.false in it)))

@@ -1,5 +1,5 @@
 -- `sheet::undated_entry` meets its contract. Assumes nothing.
-use borrow.Author.Tests.{not-true, le-leb, lt-leb}
+use borrow.Author.Tests.{le-leb, lt-leb}
 use native.Mathlib.Omega.{arith}
 use mathlib.Core.Path.{sym, ◌∙◌}
 use borrow.Author.Rules.{part_to_end}
@@ -9,7 +9,7 @@ use Rattle.sheet.proofs.undated_entry.Goals as goal
 
 pub returns-then-not-label_fits : goal.returns-then-not-label_fits
 returns-then-not-label_fits c =
-    too_long_lem (undated_is _ _) (sym c.label_fits.ensures ∙ not-true _ c.if-not-label_fits.true)
+    too_long_lem (undated_is _ _) (sym c.label_fits.ensures ∙ c.if-not-label_fits.true)
 
 pub bounds-s-3 : goal.bounds-s-3
 bounds-s-3 c =

@@ -26,7 +26,7 @@ returns-in-Bad c =
 
 pub returns-in-End : goal.returns-in-End
 returns-in-End c =
-    rw c.in-End.is (c.End-step.ensures, refl)
+    rw c.in-End.is (c.end_step.ensures, refl)
 
 pub returns-in-On : goal.returns-in-On
 returns-in-On c =

@@ -42,15 +42,15 @@ get_be16-requires c =
 
 pub overflow_add-at : goal.overflow_add-at
 overflow_add-at c =
-    let z = walked_size ((let it : Walked c.requires.1.version c.args.s.now c.args.begin c.loop-at.at c.loop-at.number = (c.loop-at.invariant.1 c.requires.1.version c.requires.1.good).0 in it)) _ ((let it : There c.requires.1.version (drop c.loop-at.at c.args.s.now) (2 + be16 (drop c.loop-at.at c.args.s.now)) = walked_there ((let it : Walked c.requires.1.version c.args.s.now c.args.begin c.loop-at.at c.loop-at.number = (c.loop-at.invariant.1 c.requires.1.version c.requires.1.good).0 in it)) c.requires.1.good c.loop-at-test.true in it)) in omega (arith, (let it : c.type_size.result ≡ be16 (drop c.loop-at.at c.args.s.now) = c.type_size.ensures ∙ simp part_to_end at c.get_be16.ensures.0 in it), z.0, z.1, c.well_formed)
+    let z = walked_size ((let it : Walked c.requires.1.version c.args.s.now c.args.begin c.loop-at.at c.loop-at.number = (c.loop-at.invariant.1 c.requires.1.version c.requires.1.good).0 in it)) _ ((let it : There c.requires.1.version (drop c.loop-at.at c.args.s.now) (2 + be16 (drop c.loop-at.at c.args.s.now)) = walked_there ((let it : Walked c.requires.1.version c.args.s.now c.args.begin c.loop-at.at c.loop-at.number = (c.loop-at.invariant.1 c.requires.1.version c.requires.1.good).0 in it)) c.requires.1.good c.loop-at-test.true in it)) in omega (arith, (let it : c.size_of.result ≡ be16 (drop c.loop-at.at c.args.s.now) = c.size_of.ensures ∙ simp part_to_end at c.get_be16.ensures.0 in it), z.0, z.1, c.well_formed)
 
 pub overflow_add-at-in-loop-at : goal.overflow_add-at-in-loop-at
 overflow_add-at-in-loop-at c =
-    let z = walked_size ((let it : Walked c.requires.1.version c.args.s.now c.args.begin c.loop-at.at c.loop-at.number = (c.loop-at.invariant.1 c.requires.1.version c.requires.1.good).0 in it)) _ ((let it : There c.requires.1.version (drop c.loop-at.at c.args.s.now) (2 + be16 (drop c.loop-at.at c.args.s.now)) = walked_there ((let it : Walked c.requires.1.version c.args.s.now c.args.begin c.loop-at.at c.loop-at.number = (c.loop-at.invariant.1 c.requires.1.version c.requires.1.good).0 in it)) c.requires.1.good c.loop-at-test.true in it)) in omega (arith, (let it : c.type_size.result ≡ be16 (drop c.loop-at.at c.args.s.now) = c.type_size.ensures ∙ simp part_to_end at c.get_be16.ensures.0 in it), z.0, z.1, c.well_formed)
+    let z = walked_size ((let it : Walked c.requires.1.version c.args.s.now c.args.begin c.loop-at.at c.loop-at.number = (c.loop-at.invariant.1 c.requires.1.version c.requires.1.good).0 in it)) _ ((let it : There c.requires.1.version (drop c.loop-at.at c.args.s.now) (2 + be16 (drop c.loop-at.at c.args.s.now)) = walked_there ((let it : Walked c.requires.1.version c.args.s.now c.args.begin c.loop-at.at c.loop-at.number = (c.loop-at.invariant.1 c.requires.1.version c.requires.1.good).0 in it)) c.requires.1.good c.loop-at-test.true in it)) in omega (arith, (let it : c.size_of.result ≡ be16 (drop c.loop-at.at c.args.s.now) = c.size_of.ensures ∙ simp part_to_end at c.get_be16.ensures.0 in it), z.0, z.1, c.well_formed)
 
 pub loop-at-smaller : goal.loop-at-smaller
 loop-at-smaller c =
-    let z = walked_size ((let it : Walked c.requires.1.version c.args.s.now c.args.begin c.loop-at.at c.loop-at.number = (c.loop-at.invariant.1 c.requires.1.version c.requires.1.good).0 in it)) _ ((let it : There c.requires.1.version (drop c.loop-at.at c.args.s.now) (2 + be16 (drop c.loop-at.at c.args.s.now)) = walked_there ((let it : Walked c.requires.1.version c.args.s.now c.args.begin c.loop-at.at c.loop-at.number = (c.loop-at.invariant.1 c.requires.1.version c.requires.1.good).0 in it)) c.requires.1.good c.loop-at-test.true in it)) in omega (arith, (let it : c.type_size.result ≡ be16 (drop c.loop-at.at c.args.s.now) = c.type_size.ensures ∙ simp part_to_end at c.get_be16.ensures.0 in it), z.0, z.1, c.well_formed)
+    let z = walked_size ((let it : Walked c.requires.1.version c.args.s.now c.args.begin c.loop-at.at c.loop-at.number = (c.loop-at.invariant.1 c.requires.1.version c.requires.1.good).0 in it)) _ ((let it : There c.requires.1.version (drop c.loop-at.at c.args.s.now) (2 + be16 (drop c.loop-at.at c.args.s.now)) = walked_there ((let it : Walked c.requires.1.version c.args.s.now c.args.begin c.loop-at.at c.loop-at.number = (c.loop-at.invariant.1 c.requires.1.version c.requires.1.good).0 in it)) c.requires.1.good c.loop-at-test.true in it)) in omega (arith, (let it : c.size_of.result ≡ be16 (drop c.loop-at.at c.args.s.now) = c.size_of.ensures ∙ simp part_to_end at c.get_be16.ensures.0 in it), z.0, z.1, c.well_formed)
 
 pub loop-at-preserved : goal.loop-at-preserved
 loop-at-preserved c = (
@@ -60,7 +60,7 @@ loop-at-preserved c = (
       let T = walked_there W.0 g c.loop-at-test.true in
       let mark = simp part_to_end at c.mark_of-mark.ensures in
       let m = (mark_there _ _ ((let it : Bytes (drop c.loop-at.at c.args.s.now) = bytes_drop c.args.s.now (λ i. (c.shared_slice_known-1.given i).fits) c.loop-at.at in it)) _ _ T.same).0 in (
-        rw ((let it : c.type_size.result ≡ be16 (drop c.loop-at.at c.args.s.now) = c.type_size.ensures ∙ simp part_to_end at c.get_be16.ensures.0 in it)) (walked_next W.0 _ T),
+        rw ((let it : c.size_of.result ≡ be16 (drop c.loop-at.at c.args.s.now) = c.size_of.ensures ∙ simp part_to_end at c.get_be16.ensures.0 in it)) (walked_next W.0 _ T),
         marked_next (marks_in (records_of v (drop c.args.begin c.args.s.now)).records) c.loop-at.number c.mark_of-mark.result W.1
             (mark ∙ ap one (sym m ∙ sym (walked_mark W.0 _ T))) c.write_bits.ensures,
       ),

@@ -12,7 +12,7 @@ line_of-requires-in-Second c = c.stamp-b.ensures.1
 
 pub returns-in-First : goal.returns-in-First
 returns-in-First c =
-    let t = first_part _ _ _ _ c.stamp-a.result c.stamp-b.result c.stamp-a.ensures.0 c.stamp-b.ensures.0 (sym (ap later_of c.in-First.is) ∙ c.judge-later.ensures) in record { contents = c.Line-of.ensures.0 ∙ t.contents; place = c.Line-of.ensures.1 ∙ t.place }
+    let t = first_part _ _ _ _ c.stamp-a.result c.stamp-b.result c.stamp-a.ensures.0 c.stamp-b.ensures.0 (sym (ap later_of c.in-First.is) ∙ c.judge-later.ensures) in record { contents = c.line_of.ensures.result_value ∙ t.contents; place = c.line_of.ensures.ref_ptr_value ∙ t.place }
 
 pub returns-in-Second : goal.returns-in-Second
 returns-in-Second c =

@@ -12,8 +12,7 @@ returns-in-Number c =
         record {
       same = ap (λ (t : Spelled). stamp_from t c.args.place c.args.size)
           ((sym c.in-Number.is) ∙ (let it : c.seconds_of-found.result ≡ seconds_of
-    (take c.args.size (drop c.args.place c.args.file.now)) = let c.before.before.before.before.before.before = c.args in
-    let z : c.place + c.size - c.place ≡ c.size = omega arith in
+    (take c.args.size (drop c.args.place c.args.file.now)) =     let z : c.args.place + c.args.size - c.args.place ≡ c.args.size = omega arith in
     rw z at c.seconds_of-found.ensures in it));
       room = c.requires;
     }
@@ -21,6 +20,5 @@ returns-in-Number c =
 pub returns-in-Unreadable : goal.returns-in-Unreadable
 returns-in-Unreadable c =
         record { same = ap (λ (t : Spelled). stamp_from t c.args.place c.args.size) ((sym c.in-Unreadable.is) ∙ (let it : c.seconds_of-found.result ≡ seconds_of
-    (take c.args.size (drop c.args.place c.args.file.now)) = let c.before.before.before.before.before = c.args in
-    let z : c.place + c.size - c.place ≡ c.size = omega arith in
+    (take c.args.size (drop c.args.place c.args.file.now)) =     let z : c.args.place + c.args.size - c.args.place ≡ c.args.size = omega arith in
     rw z at c.seconds_of-found.ensures in it)); room = tt }

@@ -5,4 +5,4 @@ use borrow.Author.Rules.{part_to_end}
 use Rattle.viewer.proofs.first_place.Goals as goal
 
 pub returns : goal.returns
-returns c = ap (λ (n : ℕ). 3 + n) (c.type_size.ensures ∙ simp part_to_end at c.get_be16.ensures.0)
+returns c = ap (λ (n : ℕ). 3 + n) (c.size_of.ensures ∙ simp part_to_end at c.get_be16.ensures.0)

@@ -12,8 +12,7 @@ use Rattle.write_v7.proofs.put_next.Goals as goal
 pub put_shorten-a-requires : goal.put_shorten-a-requires
 put_shorten-a-requires c =
     (omega arith, omega (arith, c.requires.1.short), ((let it : let i = c.in-One.item in
-    Sizes c.args.sheet.now c.args.at c.args.hand.from c.args.hand.to i.size i.kept c.label_at.result = let c.args = c.args in
-        rw c.label_at.ensures (plain_sizes 0 c.args.sheet.now c.args.at c.args.hand.mark c.args.hand.setting.position _ _ _ _ _ _ c.requires.0 c.requires.1.inside
+    Sizes c.args.sheet.now c.args.at c.args.hand.from c.args.hand.to i.size i.kept c.label_at.result =         rw c.label_at.ensures (plain_sizes 0 c.args.sheet.now c.args.at c.args.hand.mark c.args.hand.setting.position _ _ _ _ _ _ c.requires.0 c.requires.1.inside
     (((let it : let c.args = c.args in
     FoundPlaced (One c.in-One.item) (take (length c.args.sheet.now - c.args.at) (drop c.args.at c.args.sheet.now)) c.args.hand.mark
     c.args.hand.setting.position (part c.args.sheet.now c.args.hand.from c.args.hand.to) = rw c.in-One.is at c.find_placed-found.ensures in it)).3 0)) in it)).first)
@@ -30,8 +29,7 @@ put_item-bytes-requires c =
     c.args.hand.setting.position (part c.args.sheet.now c.args.hand.from c.args.hand.to) = rw c.in-One.is at c.find_placed-found.ensures in it) in
     let P = F.3 0 in
     let S = (let it : let c.args = c.args in let i = c.in-One.item in
-    Sizes c.args.sheet.now c.args.at c.args.hand.from c.args.hand.to i.size i.kept c.label_at.result = let c.args = c.args in
-        rw c.label_at.ensures (plain_sizes 0 c.args.sheet.now c.args.at c.args.hand.mark c.args.hand.setting.position _ _ _ _ _ _ c.requires.0 c.requires.1.inside
+    Sizes c.args.sheet.now c.args.at c.args.hand.from c.args.hand.to i.size i.kept c.label_at.result =         rw c.label_at.ensures (plain_sizes 0 c.args.sheet.now c.args.at c.args.hand.mark c.args.hand.setting.position _ _ _ _ _ _ c.requires.0 c.requires.1.inside
     (((let it : let c.args = c.args in
     FoundPlaced (One c.in-One.item) (take (length c.args.sheet.now - c.args.at) (drop c.args.at c.args.sheet.now)) c.args.hand.mark
     c.args.hand.setting.position (part c.args.sheet.now c.args.hand.from c.args.hand.to) = rw c.in-One.is at c.find_placed-found.ensures in it)).3 0)) in it) in (
@@ -68,8 +66,7 @@ overflow_add-end c =
 pub overflow_add-added : goal.overflow_add-added
 overflow_add-added c =
     omega (arith, (let it : let i = c.in-One.item in
-    Sizes c.args.sheet.now c.args.at c.args.hand.from c.args.hand.to i.size i.kept c.label_at.result = let c.args = c.args in
-        rw c.label_at.ensures (plain_sizes 0 c.args.sheet.now c.args.at c.args.hand.mark c.args.hand.setting.position _ _ _ _ _ _ c.requires.0 c.requires.1.inside
+    Sizes c.args.sheet.now c.args.at c.args.hand.from c.args.hand.to i.size i.kept c.label_at.result =         rw c.label_at.ensures (plain_sizes 0 c.args.sheet.now c.args.at c.args.hand.mark c.args.hand.setting.position _ _ _ _ _ _ c.requires.0 c.requires.1.inside
     (((let it : let c.args = c.args in
     FoundPlaced (One c.in-One.item) (take (length c.args.sheet.now - c.args.at) (drop c.args.at c.args.sheet.now)) c.args.hand.mark
     c.args.hand.setting.position (part c.args.sheet.now c.args.hand.from c.args.hand.to) = rw c.in-One.is at c.find_placed-found.ensures in it)).3 0)) in it), c.requires.1.ordered)
@@ -77,8 +74,7 @@ overflow_add-added c =
 pub slice_bounds-added-count : goal.slice_bounds-added-count
 slice_bounds-added-count c =
     omega (arith, (let it : let i = c.in-One.item in
-    Sizes c.args.sheet.now c.args.at c.args.hand.from c.args.hand.to i.size i.kept c.label_at.result = let c.args = c.args in
-        rw c.label_at.ensures (plain_sizes 0 c.args.sheet.now c.args.at c.args.hand.mark c.args.hand.setting.position _ _ _ _ _ _ c.requires.0 c.requires.1.inside
+    Sizes c.args.sheet.now c.args.at c.args.hand.from c.args.hand.to i.size i.kept c.label_at.result =         rw c.label_at.ensures (plain_sizes 0 c.args.sheet.now c.args.at c.args.hand.mark c.args.hand.setting.position _ _ _ _ _ _ c.requires.0 c.requires.1.inside
     (((let it : let c.args = c.args in
     FoundPlaced (One c.in-One.item) (take (length c.args.sheet.now - c.args.at) (drop c.args.at c.args.sheet.now)) c.args.hand.mark
     c.args.hand.setting.position (part c.args.sheet.now c.args.hand.from c.args.hand.to) = rw c.in-One.is at c.find_placed-found.ensures in it)).3 0)) in it), c.requires.1.ordered)
@@ -86,8 +82,7 @@ slice_bounds-added-count c =
 pub slice_bounds-added-start : goal.slice_bounds-added-start
 slice_bounds-added-start c =
     omega (arith, (let it : let i = c.in-One.item in
-    Sizes c.args.sheet.now c.args.at c.args.hand.from c.args.hand.to i.size i.kept c.label_at.result = let c.args = c.args in
-        rw c.label_at.ensures (plain_sizes 0 c.args.sheet.now c.args.at c.args.hand.mark c.args.hand.setting.position _ _ _ _ _ _ c.requires.0 c.requires.1.inside
+    Sizes c.args.sheet.now c.args.at c.args.hand.from c.args.hand.to i.size i.kept c.label_at.result =         rw c.label_at.ensures (plain_sizes 0 c.args.sheet.now c.args.at c.args.hand.mark c.args.hand.setting.position _ _ _ _ _ _ c.requires.0 c.requires.1.inside
     (((let it : let c.args = c.args in
     FoundPlaced (One c.in-One.item) (take (length c.args.sheet.now - c.args.at) (drop c.args.at c.args.sheet.now)) c.args.hand.mark
     c.args.hand.setting.position (part c.args.sheet.now c.args.hand.from c.args.hand.to) = rw c.in-One.is at c.find_placed-found.ensures in it)).3 0)) in it), c.requires.1.ordered)
@@ -95,8 +90,7 @@ slice_bounds-added-start c =
 pub slice_bounds-added-end : goal.slice_bounds-added-end
 slice_bounds-added-end c =
     omega (arith, (let it : let i = c.in-One.item in
-    Sizes c.args.sheet.now c.args.at c.args.hand.from c.args.hand.to i.size i.kept c.label_at.result = let c.args = c.args in
-        rw c.label_at.ensures (plain_sizes 0 c.args.sheet.now c.args.at c.args.hand.mark c.args.hand.setting.position _ _ _ _ _ _ c.requires.0 c.requires.1.inside
+    Sizes c.args.sheet.now c.args.at c.args.hand.from c.args.hand.to i.size i.kept c.label_at.result =         rw c.label_at.ensures (plain_sizes 0 c.args.sheet.now c.args.at c.args.hand.mark c.args.hand.setting.position _ _ _ _ _ _ c.requires.0 c.requires.1.inside
     (((let it : let c.args = c.args in
     FoundPlaced (One c.in-One.item) (take (length c.args.sheet.now - c.args.at) (drop c.args.at c.args.sheet.now)) c.args.hand.mark
     c.args.hand.setting.position (part c.args.sheet.now c.args.hand.from c.args.hand.to) = rw c.in-One.is at c.find_placed-found.ensures in it)).3 0)) in it), c.requires.1.ordered)
@@ -104,8 +98,7 @@ slice_bounds-added-end c =
 pub overflow_sub-last : goal.overflow_sub-last
 overflow_sub-last c =
     omega (arith, (let it : let i = c.in-One.item in
-    Sizes c.args.sheet.now c.args.at c.args.hand.from c.args.hand.to i.size i.kept c.label_at.result = let c.args = c.args in
-        rw c.label_at.ensures (plain_sizes 0 c.args.sheet.now c.args.at c.args.hand.mark c.args.hand.setting.position _ _ _ _ _ _ c.requires.0 c.requires.1.inside
+    Sizes c.args.sheet.now c.args.at c.args.hand.from c.args.hand.to i.size i.kept c.label_at.result =         rw c.label_at.ensures (plain_sizes 0 c.args.sheet.now c.args.at c.args.hand.mark c.args.hand.setting.position _ _ _ _ _ _ c.requires.0 c.requires.1.inside
     (((let it : let c.args = c.args in
     FoundPlaced (One c.in-One.item) (take (length c.args.sheet.now - c.args.at) (drop c.args.at c.args.sheet.now)) c.args.hand.mark
     c.args.hand.setting.position (part c.args.sheet.now c.args.hand.from c.args.hand.to) = rw c.in-One.is at c.find_placed-found.ensures in it)).3 0)) in it), c.requires.1.ordered)
