@@ -9,13 +9,13 @@ use Rattle.convert.proofs.convert.Goals as goal
 pub slice_bounds-write-end : goal.slice_bounds-write-end
 slice_bounds-write-end c =
     let h = read_room _ _ _ _ _ (rw c.in-Done.is at c.read-a.ensures.answer) in
-    let k = c.read-a.auto.1.0 in
+    let k = c.read-a.auto.sheet in
     omega arith
 
 pub slice_bounds-write-end-in-Done : goal.slice_bounds-write-end-in-Done
 slice_bounds-write-end-in-Done c =
     let h = read_room _ _ _ _ _ (rw c.in-Done.is at c.read-a.ensures.answer) in
-    let k = c.read-a.auto.1.0 in
+    let k = c.read-a.auto.sheet in
     sym (length-take-le _ _ (omega arith))
 
 pub returns-in-Refused : goal.returns-in-Refused
