@@ -54,7 +54,7 @@ loop-at-smaller c =
 
 pub loop-at-preserved : goal.loop-at-preserved
 loop-at-preserved c = (
-  c.write_bits.auto.0 ∙ c.loop-at.invariant.0,
+  c.write_bits.auto.words ∙ c.loop-at.invariant.0,
   λ v g.
       let W = c.loop-at.invariant.1 v g in
       let T = walked_there W.0 g c.loop-at-test.true in

@@ -27,7 +27,7 @@ put_marks-requires c =
 pub finish-requires : goal.finish-requires
 finish-requires c =
     let C = rw c.in-Whole.is at c.count_records-counted.ensures in
-    (omega (arith, c.words_for-least.ensures, c.if-words-least.false, c.put_marks.auto.0), omega (arith, C.few, c.well_formed))
+    (omega (arith, c.words_for-least.ensures, c.if-words-least.false, c.put_marks.auto.words), omega (arith, C.few, c.well_formed))
 
 pub returns-in-Flawed : goal.returns-in-Flawed
 returns-in-Flawed c =
@@ -39,5 +39,5 @@ returns-else-words-least c =
         let C = rw c.in-Whole.is at c.count_records-counted.ensures in
     let x = records_of c.args.version (drop c.args.begin c.args.sheet.now) in
     make_done x c.args.words.now _ c.words_for-least.result C.good C.many c.words_for-least.ensures c.finish.new.words c.if-words-least.false
-    (made c.args.words.now c.put_marks.new.words c.finish.new.words (marks_in x.records) _ (length_marks x.records ∙ C.many) c.put_marks.auto.0
+    (made c.args.words.now c.put_marks.new.words c.finish.new.words (marks_in x.records) _ (length_marks x.records ∙ C.many) c.put_marks.auto.words
     (put_to C.many (c.put_marks.ensures c.args.version C.good)) c.finish.ensures)
