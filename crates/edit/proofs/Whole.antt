@@ -63,7 +63,7 @@ emits_one pen l l' f name d d' count len A K =
     record {
       adds = A;
       state =
-          ap (state_of (setting_after pen.setting (record_of f []))) K.Label-is
+          ap (state_of (setting_after pen.setting (record_of f []))) K.label_is
           ∙ ap (λ (s : Setting). state_of s (label_after (take pen.len l) (record_of f name))) (setting_at pen.setting f name);
       fits = record { label_short = K.label_short; label_whole = K.label_whole };
     }

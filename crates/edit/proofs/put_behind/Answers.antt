@@ -48,11 +48,10 @@ pub put_one-pen-requires : goal.put_one-pen-requires
 put_one-pen-requires c =
     let G =
     c.loop-left.invariant in
-    let t = c.taken-1.given in
-    let T = rw t.1 at c.take_record-taken.ensures in (
+        let T = rw c.in-Record.is at c.take_record-taken.ensures in (
       G.behind.fits,
       putting_fits G ((let it : 0 < c.loop-left.left = c.loop-left-test.true in it)),
-      found_formed G t.0.0 t.0.1.0 _ T.0,
+      found_formed G c.in-Record.to c.in-Record.fields _ T.0,
       simp length-take (omega (arith, T.0.inside.label_short)),
     )
 
@@ -66,11 +65,10 @@ loop-left-smaller c =
 
 pub loop-left-preserved : goal.loop-left-preserved
 loop-left-preserved c =
-    let t = c.taken-1.given in
-    let T = rw t.1 at c.take_record-taken.ensures in
+        let T = rw c.in-Record.is at c.take_record-taken.ensures in
     putting_more
     c.loop-left.invariant
-    t.0.0 t.0.1.0 _ T.0
+    c.in-Record.to c.in-Record.fields _ T.0
     ((let it : 0 < c.loop-left.left = c.loop-left-test.true in it))
     _ _ _ _ _ c.put_one-pen.ensures T.1 T.2
 
