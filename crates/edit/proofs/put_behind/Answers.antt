@@ -1,4 +1,5 @@
 -- `edit::put_behind` meets its contract. Assumes nothing.
+use borrow.Enum.Refused.{opened}
 use native.Mathlib.Omega.{arith}
 use mathlib.Core.Path.{◌≡◌, sym, ◌∙◌}
 use Prim.Native.Nat.{◌<◌}
@@ -36,7 +37,7 @@ pub returns-in_default : goal.returns-in_default
 returns-in_default c =
     absurd (always_more c.loop-left.invariant
     c.take_record-taken.result _ c.loop-left-test.true
-    c.in_default.in_default-own.keys2 c.take_record-taken.ensures.0)
+    (opened c.in_default.in_default-own.keys2) c.take_record-taken.ensures.0)
 
 pub slice_bounds-put_one-end : goal.slice_bounds-put_one-end
 slice_bounds-put_one-end c =

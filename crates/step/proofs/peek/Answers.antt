@@ -1,4 +1,5 @@
 -- `step::peek` meets its contract. Assumes nothing.
+use borrow.Enum.Refused.{opened}
 use native.Mathlib.Omega.{arith}
 use mathlib.Core.Path.{◌≡◌, sym, ◌∙◌}
 use Rattle.format.specs.Items.{item_of}
@@ -40,4 +41,4 @@ returns-else-keep-count c =
 
 pub returns-in_default : goal.returns-in_default
 returns-in_default c =
-        none_of _ _ _ c.decode-it.result c.in_default.in_default-own.keys3 c.decode-it.ensures
+        none_of _ _ _ c.decode-it.result (opened c.in_default.in_default-own.keys3) c.decode-it.ensures
