@@ -8,12 +8,15 @@ ruleset cases = (eq-eqb, ne_eqb)
 
 pub returns-then-code-eq32 : goal.returns-then-code-eq32
 unfolding old_date_item pick
-returns-then-code-eq32 c p s = search cases
+returns-then-code-eq32 c =
+    λ p s. search cases
 
 pub returns-then-code-eq33 : goal.returns-then-code-eq33
 unfolding old_date_item pick
-returns-then-code-eq33 c p s = search cases
+returns-then-code-eq33 c =
+    λ p s. search cases
 
 pub returns : goal.returns
 unfolding old_date_item pick
-returns c p s = search cases
+returns c =
+    λ p s. search cases

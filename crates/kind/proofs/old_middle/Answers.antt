@@ -7,22 +7,30 @@ use Rattle.kind.proofs.old_middle.Goals as goal
 
 pub returns-then-version-lt6 : goal.returns-then-version-lt6
 unfolding old_middle_item pick
-returns-then-version-lt6 c p s = simp (eq-eqb _ _ c.if-code-eq34.true, lt-ltb _ _ c.if-version-lt6.true)
+returns-then-version-lt6 c =
+    λ p s. simp (eq-eqb _ _ c.if-code-eq34.true, lt-ltb _ _ c.if-version-lt6.true)
 
 pub returns-then-code-eq34 : goal.returns-then-code-eq34
 unfolding old_middle_item pick
-returns-then-code-eq34 c p s = simp (eq-eqb _ _ c.if-code-eq34.true, le-ltb _ _ c.if-version-lt6.false)
+returns-then-code-eq34 c =
+    λ p s. simp (eq-eqb _ _ c.if-code-eq34.true, le-ltb _ _ c.if-version-lt6.false)
 
 pub returns-then-version-lt4 : goal.returns-then-version-lt4
 unfolding old_middle_item pick
-returns-then-version-lt4 c p s = simp (ne_eqb _ _ c.if-code-eq34.false, lt-ltb _ _ c.if-version-lt4.true)
+returns-then-version-lt4 c =
+    λ p s. simp (ne_eqb _ _ c.if-code-eq34.false, lt-ltb _ _ c.if-version-lt4.true)
 
 pub returns-then-version-lt7 : goal.returns-then-version-lt7
 unfolding old_middle_item pick
-returns-then-version-lt7 c p s =
-    c.old_date.ensures p s ∙ simp (ne_eqb _ _ c.if-code-eq34.false, le-ltb _ _ c.if-version-lt4.false, lt-ltb _ _ c.if-version-lt7.true)
+returns-then-version-lt7 c =
+    λ p s. c.old_date.ensures p s ∙ simp
+    (ne_eqb _ _ c.if-code-eq34.false, le-ltb _ _ c.if-version-lt4.false, lt-ltb _ _ c.if-version-lt7.true)
 
 pub returns : goal.returns
 unfolding old_middle_item pick
-returns c p s =
-    c.v7_date.ensures p s ∙ simp (ne_eqb _ _ c.if-code-eq34.false, le-ltb _ _ c.if-version-lt4.false, le-ltb _ _ c.if-version-lt7.false)
+returns c =
+    λ p s. c.v7_date.ensures p s ∙ simp (
+      ne_eqb _ _ c.if-code-eq34.false,
+      le-ltb _ _ c.if-version-lt4.false,
+      le-ltb _ _ c.if-version-lt7.false,
+    )

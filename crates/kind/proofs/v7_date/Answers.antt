@@ -8,20 +8,25 @@ ruleset cases = (eq-eqb, ne_eqb)
 
 pub returns-then-code-eq32 : goal.returns-then-code-eq32
 unfolding v7_date_item pick
-returns-then-code-eq32 c p s = search cases
+returns-then-code-eq32 c =
+    λ p s. search cases
 
 pub returns-then-code-eq33 : goal.returns-then-code-eq33
 unfolding v7_date_item pick
-returns-then-code-eq33 c p s = search cases
+returns-then-code-eq33 c =
+    λ p s. search cases
 
 pub returns-then-code-eq35 : goal.returns-then-code-eq35
 unfolding v7_date_item pick
-returns-then-code-eq35 c p s = search cases
+returns-then-code-eq35 c =
+    λ p s. search cases
 
 pub returns-then-code-eq36 : goal.returns-then-code-eq36
 unfolding v7_date_item pick
-returns-then-code-eq36 c p s = search cases
+returns-then-code-eq36 c =
+    λ p s. search cases
 
 pub returns : goal.returns
 unfolding v7_date_item pick
-returns c p s = search cases
+returns c =
+    λ p s. search cases
