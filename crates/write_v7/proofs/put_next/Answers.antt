@@ -28,7 +28,7 @@ put_item-bytes-requires c =
     let F = (let it :     FoundPlaced (One c.in-One.item) (take (length c.args.sheet.now - c.args.at) (drop c.args.at c.args.sheet.now)) c.args.hand.mark
     c.args.hand.setting.position (part c.args.sheet.now c.args.hand.from c.args.hand.to) = rw c.in-One.is at c.find_placed-found.ensures in it) in
     let P = F.3 0 in
-    let S = (let it : let c.args = c.args in let i = c.in-One.item in
+    let S = (let it : let i = c.in-One.item in
     Sizes c.args.sheet.now c.args.at c.args.hand.from c.args.hand.to i.size i.kept c.label_at.result =         rw c.label_at.ensures (plain_sizes 0 c.args.sheet.now c.args.at c.args.hand.mark c.args.hand.setting.position _ _ _ _ _ _ c.requires.0 c.requires.1.inside
     (((let it : let c.args = c.args in
     FoundPlaced (One c.in-One.item) (take (length c.args.sheet.now - c.args.at) (drop c.args.at c.args.sheet.now)) c.args.hand.mark
