@@ -22,5 +22,4 @@ returns c =
     (sym (x_at c.before.before.before.before.before.before.before.before) ∙ c.if-is_far.false)
     (sym (y_at c.before.before.before.before) ∙ c.if-is_far-2.false)
     _
-    ((let it : let c.args = c.args in
-    c.is_far-3.result ≡ ltb farthest (nat_abs (c.args.c.z -ℤ c.args.origin.z)) =     came_far c.args.c.z c.args.origin.z _ c.struct_told-5-1.given.1.1.0.1 c.struct_told-6-1.given.1.1.0.1 c.is_far-3.ensures in it))
+    ((let it : c.is_far-3.result ≡ ltb farthest (nat_abs (c.args.c.z -ℤ c.args.origin.z)) =     came_far c.args.c.z c.args.origin.z _ c.struct_told-5-1.given.1.1.0.1 c.struct_told-6-1.given.1.1.0.1 c.is_far-3.ensures in it))
