@@ -89,7 +89,7 @@ loop-t-preserved c =
     let h = c.args.h in
     let q = c.requires.0 in
     let t = L.t in
-    let n = room c.before.before.before.before.before.before.before.before.before.before.before.before.before.before.before.before in
+    let n = (let it : (16 ≤ c.loop-t.t) × (c.loop-t.t + 8 ≤ 64) = (omega arith, omega arith) in it) in
     let e1 = c.late_round-s1.ensures in
     let e2 = c.late_round-s2.ensures in
     let e3 = c.late_round-s3.ensures in
