@@ -291,10 +291,11 @@ def turn(crate, name, folder, entry, clauses):
                 else:
                     listed_problem = []
                     for arg, (old, new), (place, _) in zip(given[loops_:], entry["needs"], entry["asked_at"]):
-                        it = re.match(r"\(λ c(?: κs)?\.\s*(.*)\)$", arg, re.S)
-                        if it and it[1].strip() not in ("search rules", "omega arith", "refl"):
+                        it = re.match(r"\(λ c(?: κs)?((?: (?!κs)[^\s.]+)*)\.\s*(.*)\)$", arg, re.S)
+                        if it and it[2].strip() not in ("search rules", "omega arith", "refl"):
                             unf = re.search(r"(?m)^unfolding .*$", whole)
-                            inline.append((new, place, it[1], unf and unf[0]))
+                            more = it[1].strip()
+                            inline.append((new, place, (f"λ {more}. " if more else "") + it[2], unf and unf[0]))
                 problems += listed_problem
             continue
         kept.append((comments, lines))
@@ -389,7 +390,8 @@ def turn(crate, name, folder, entry, clauses):
                 problems.append(f"{path}: {it[1]} takes {args}")
             if not unf and text_.strip() in ("search rules", "omega arith", "refl", "tt"):
                 continue
-            answer(comments, goal, place, unf and unf[0], text_)
+            more = " ".join(a for a in args[1:] if a != "κs")
+            answer(comments, goal, place, unf and unf[0], (f" λ {more}." if more else "") + text_)
         elif inv:
             it = re.match(r"(invariant|decreases)[-_](.*)$", inv[1])
             body = re.search(rf"(?m)^{re.escape(inv[1])} (.*?)=(.*)", whole, re.S)

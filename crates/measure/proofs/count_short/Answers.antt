@@ -4,7 +4,7 @@ use mathlib.Core.Path.{◌≡◌}
 use native.Mathlib.Nat.{add-zero}
 use Rattle.short.specs.Brief.{Finds}
 use Rattle.short.specs.declared.Short.{Short}
-use Rattle.measure.proofs.Counting.{count_leg, count_station, count_section}
+use Rattle.measure.proofs.Counting.{count_leg, count_station, count_section, count_move}
 use Rattle.measure.proofs.count_short.Goals as goal
 
 -- what `new_item` tells of the item that it found
@@ -73,3 +73,7 @@ pub returns-in-Section : goal.returns-in-Section
 returns-in-Section c =
     rw c.count_record-in-Section.ensures (count_section _ _ _ _ _ _ _ _
     (rw (← c.sides.ensures.0) at (told c.before.before.before.before.before c.in-Section.is)))
+
+pub returns-in-Move : goal.returns-in-Move
+returns-in-Move c =
+    λ style st K. count_move _ _ _ style st (told c.before.before c.in-Move.is) K
