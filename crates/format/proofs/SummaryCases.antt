@@ -3,8 +3,8 @@
 use Prim.Native.Nat.{ℕ}
 use mathlib.Core.Path.{◌≡◌, refl}
 use mathlib.Core.Bool.{Bool, true, false}
-use mathlib.Core.List.{List, [], ◌∷◌, ◌++◌, map}
-use lib.ListN.{replicate, length}
+use mathlib.Core.List.{List, [], ◌∷◌, ◌++◌}
+use lib.ListN.{replicate}
 use Rattle.format.specs.Bytes.{pick, be16, be32, to_be16, to_be32, over}
 use Rattle.format.specs.Header.{line_end, ends_in_return}
 use Rattle.format.specs.State.{Record, leg, station}

@@ -6,32 +6,31 @@ use mathlib.Core.Path.{◌≡◌, refl, sym, ap, ap₂, ◌∙◌, subst}
 use mathlib.Core.Bool.{Bool, true, false, ◌||◌}
 use mathlib.Core.List.{List, [], ◌∷◌, ◌++◌, map}
 use Prim.Native.Nat.{ℕ, zero, suc, ◌+◌, ◌-◌, ◌*◌, ◌/◌, ◌%◌, ◌^◌, ◌≤◌, ◌<◌, max}
-use native.Mathlib.Nat.{mod-eq_of_lt, le-max_left, le-max_right, add_assoc}
+use native.Mathlib.Nat.{mod-eq_of_lt, le-max_right}
 use native.Mathlib.Omega.{arith}
 use lib.Dec.{ltb}
 use lib.ListN.{length, get_or, take, drop, length-append, length-drop, length-map}
 use lib.Seq.{get_or-drop, take-add, length-take-le}
-use borrow.Author.Tests.{eqb-true, eqb-false, eq-eqb, ne_eqb, lt-ltb, le-ltb, ltb-true, ltb-false}
+use borrow.Author.Tests.{ne_eqb, le-ltb, ltb-false}
 use Rattle.format.specs.Bytes.{pick, over, Bytes}
 use Rattle.format.specs.Header.{Header, opened, opening_of}
 use Rattle.format.specs.State.{Record}
 use Rattle.format.specs.Refusals.{Result, accepted}
-use Rattle.format.specs.Sheet.{sheet_version, records_of, sheet_of, sheet_result}
-use Rattle.format.specs.WellFormed.{GoodHeader, AllWellFormed}
+use Rattle.format.specs.Sheet.{sheet_version, records_of, sheet_result}
+use Rattle.format.specs.WellFormed.{GoodHeader}
 use Rattle.format.specs.Reading.{items_of, sheet_from}
 use Rattle.format.specs.Editing.{edited, edit_outcome, edit_buffer}
-use Rattle.format.specs.Summary.{entrance, marks_in, one, marked, count_of, first_from, next_of, words_for, needed, summary, marks_of, takes, untaken, holds, unheld, summed_from, words_by, made_outcome, made_words, summary_outcome, summary_words, outside, looked, rank_in, count_in, entrances_outcome, edited_marks, count_verdict, updated_outcome, update_outcome, update_words}
+use Rattle.format.specs.Summary.{entrance, marks_in, marked, count_of, first_from, next_of, words_for, needed, summary, marks_of, takes, untaken, holds, unheld, summed_from, made_outcome, made_words, summary_outcome, summary_words, outside, looked, rank_in, count_in, entrances_outcome, edited_marks, count_verdict, update_outcome, update_words}
 use Rattle.format.specs.declared.Verdict.{Verdict}
 use Rattle.format.specs.declared.Verdict.TheVariants.{Good, Refusal}
-use Rattle.format.specs.declared.NextEntrance.{NextEntrance}
 use Rattle.format.specs.declared.NextEntrance.TheVariants.{At, Nowhere}
-use Rattle.format.proofs.Basics.{pick_case, pick_true, pick_false, neither, or_false}
+use Rattle.format.proofs.Basics.{pick_false, neither}
 use Rattle.format.proofs.HeaderLaws.{opening_fits}
 use Rattle.format.proofs.SheetLaws.{sheet_records, records_formed}
 use Rattle.format.proofs.GoodRecords.{items_formed}
 use Rattle.format.proofs.EditingLaws.{edited_formed}
 use Rattle.format.proofs.OurFiles.{Ours, edit_fits, edit_formed, edited_ours}
-use Rattle.format.proofs.SummaryWords.{one_two, length_marks_of, length_summary, summary_total, summary_front, summary_marks}
+use Rattle.format.proofs.SummaryWords.{one_two, length_summary, summary_total, summary_front, summary_marks}
 
 -- ---- counts of stretches
 

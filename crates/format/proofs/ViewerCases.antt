@@ -11,7 +11,6 @@ use Rattle.format.specs.Iterate.{iter, iter_up}
 use Rattle.format.specs.Sheet.{sheet_version, undated_version, layout, layout_all, header_layout, sheet_of, good_date, date_from, leg_entry, station_entry, section_entry, undated_section_entry, body_entry, framed, entry_of, records_step, records_from, records_of, good_text, good_header, good_front, front_header, behind_front, version_result, version_of, sheet_result}
 use Rattle.format.specs.Reach.{signed, begins, takes_part, legs_of}
 use Rattle.format.specs.Viewer.{differences, too_far, far_verdict, ViewOutcome, viewed, unviewed, view_of, view_differences}
-use Rattle.format.specs.declared.Point.{Point}
 use Rattle.format.specs.declared.Origin.{Origin}
 use Rattle.format.proofs.Cases.{origin}
 use Rattle.format.proofs.ReachCases.{between, point, sheet_in}

@@ -4,7 +4,7 @@
 use Prim.Native.Nat.{ℕ, zero, suc, ◌+◌, ◌-◌, ◌*◌, ◌≤◌, ◌<◌}
 use mathlib.Core.Path.{◌≡◌, refl, sym, ap, ◌∙◌, subst}
 use mathlib.Core.List.{List, [], ◌∷◌, ◌++◌, map}
-use mathlib.Core.Logic.{◌⊎◌, inl, inr}
+use mathlib.Core.Logic.{inl, inr}
 use mathlib.Core.Bool.{Bool, true, false, cond, ◌||◌}
 use native.Mathlib.Omega.{arith}
 use native.Mathlib.Nat.{le_of_suc-le-suc, not-suc-le-zero}
@@ -17,7 +17,7 @@ use lib.Ieee.Back.{round_whole}
 use borrow.Author.Tests.{ne_eqb, ltb-true, ltb-false, lt-ltb, le-ltb}
 use Rattle.format.specs.Bytes.{pick, Bytes}
 use Rattle.format.specs.State.{Record, leg, station, section, error}
-use Rattle.format.specs.Refusals.{Result, or_else, refused}
+use Rattle.format.specs.Refusals.{Result, refused}
 use Rattle.format.specs.Sheet.{layout, layout_all, header_layout, sheet_of, version_result, version_of, sheet_result, front_header, behind_front}
 use Rattle.format.specs.Writing.{Writer, headed_by, filed_outcome, written_outcome, write_outcome}
 use Rattle.format.specs.Reach.{axis_x, axis_y, axis_z, legs_of, ends, bounds_of, spans, unspanned, reach_from, reach_of}

@@ -1,7 +1,7 @@
 -- How much of the name stayed (#107): "the number of bytes kept: the least length that the current label had since the previous item that
 -- carried a label, or since the start, counting the start of that stretch and the item's own drop". Assumes nothing.
 use Rattle.std.specs.Prelude.{ℕ, ◌+◌, ◌-◌, min, ◌≡◌, List, [], ◌∷◌, length, drop}
-use Rattle.format.specs.Items.{Item, Stop, Shorten, Style, Move, NoDate, Date, Error, Xsect, Label, Line, Decoded, faulty, whole, item_of}
+use Rattle.format.specs.Items.{Item, Stop, Shorten, Style, Move, NoDate, Date, Error, Xsect, Label, Line, Decoded, faulty, whole}
 use Rattle.format.specs.State.{State, start, Record, leg, station, section, error, on, made}
 use Rattle.format.specs.Reading.{next}
 

@@ -5,7 +5,6 @@ use Rattle.format.specs.Bytes.{pick, over}
 use Rattle.format.specs.State.{Record, leg, station, section, error}
 use Rattle.format.specs.Refusals.{Result, or_else}
 use Rattle.format.specs.Sheet.{sheet_version, records_of, sheet_result}
-use Rattle.format.specs.declared.Station.{Station}
 use Rattle.format.specs.declared.Verdict.{Verdict}
 use Rattle.format.specs.declared.Verdict.TheVariants.{Good, Refusal}
 use Rattle.format.specs.declared.NextEntrance.{NextEntrance}

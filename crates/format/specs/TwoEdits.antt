@@ -1,7 +1,7 @@
 -- Two edits of one file, document 02, #114, "Two people, one file": what is claimed. Assumes nothing.
 use Rattle.std.specs.Prelude.{ℕ, ◌+◌, ◌-◌, ◌≤◌, ◌<◌, ◌≡◌, List, length, take}
 use Rattle.format.specs.Sheet.{sheet_version, records_of}
-use Rattle.format.specs.Refusals.{Result, Outcome, accepted}
+use Rattle.format.specs.Refusals.{Outcome, accepted}
 use Rattle.format.specs.Editing.{edit_outcome, edit_buffer}
 
 -- "Two draughtsmen correct different stretches of one house-written file": the first record and the count of a run, and the bytes of the

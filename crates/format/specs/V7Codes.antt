@@ -7,9 +7,7 @@ use Rattle.format.specs.State.{not_said, State, Record, leg, station, section, e
 use Rattle.format.specs.Sheet.{point_bytes, dimension_bytes, traverse_bytes}
 use Rattle.format.specs.Codes.{common, date_if, move_if, all_short, label_after, setting_after}
 use Rattle.format.specs.declared.DateCodes.{DateCodes}
-use Rattle.format.specs.declared.Station.{Station}
 use Rattle.format.specs.declared.Section.{Section}
-use Rattle.format.specs.declared.Point.{Point}
 
 -- ---- labels
 

@@ -1,5 +1,6 @@
 // Numbers in bytes.
 #![tactic(auto)]
+
 ghost use Rattle.std.specs.Prelude.{◌≡◌, ◌≤◌, ◌<◌, length, take};
 ghost use Rattle.format.specs.Bytes.{le16, le32, be16, be32, to_le16, to_le32, to_be32, over};
 ghost use Rattle.number.specs.Four.{Four, to_le64};

@@ -5,7 +5,7 @@ use Rattle.number.proofs.get_le64.Goals as goal
 
 pub returns : goal.returns
 returns c =
-        let e0 = c.long.ensures in
+    let e0 = c.long.ensures in
     let e1 = c.long-2.ensures in
     let e2 = c.long-3.ensures in
     let e3 = c.long-4.ensures in
