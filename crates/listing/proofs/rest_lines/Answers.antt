@@ -45,7 +45,7 @@ overflow_add-records c =
 pub loop-out-preserved : goal.loop-out-preserved
 loop-out-preserved c =
     listed_more c.loop-out.invariant
-    (λ i. (c.shared_slice_known-1.given i).fits)
+    (λ i. (c.type_inv.sheet i).fits)
     (entry_at _ c.args.sheet.now
     c.loop-out.at _ _ _
     ((let it : EntryAt c.args.layout

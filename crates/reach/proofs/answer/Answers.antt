@@ -1,4 +1,5 @@
 -- `reach::answer` meets its contract. Assumes nothing.
+use native.Mathlib.Omega.{arith}
 use Rattle.reach.proofs.Numbers.{read, box_read}
 use Rattle.reach.proofs.Turn.{none_taken, some_taken}
 use Rattle.reach.proofs.answer.Goals as goal
@@ -10,9 +11,9 @@ pub returns : goal.returns
 returns c =
         some_taken c.args.legs c.args.b c.if-legs-eq0.false _
     (box_read c.args.b
-    (read _ c.least-1.given)
-    (read _ c.least-2-1.given)
-    (read _ c.least-3-1.given)
-    (read _ c.greatest-1.given)
-    (read _ c.greatest-2-1.given)
-    (read _ c.greatest-3-1.given))
+    (read _ (omega arith))
+    (read _ (omega arith))
+    (read _ (omega arith))
+    (read _ (omega arith))
+    (read _ (omega arith))
+    (read _ (omega arith)))

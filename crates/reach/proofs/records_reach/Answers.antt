@@ -80,7 +80,7 @@ loop-at-smaller c =
 
 pub loop-at-preserved : goal.loop-at-preserved
 loop-at-preserved c =
-    let b = bytes_drop c.args.sheet.now (λ i. (c.shared_slice_known-1.given i).fits) c.loop-at.at in
+    let b = bytes_drop c.args.sheet.now (λ i. (c.type_inv.sheet i).fits) c.loop-at.at in
     turn_left c.loop-at.invariant _ ((let it : There c.args.version (drop c.loop-at.at c.args.sheet.now) c.size_at-size.result = there _ _ _ (simp part_to_end at c.size_at-size.ensures) c.if-size-eq0.false in it)) b (sym ((let it : c.takes.result ≡ takes_at c.args.name.now c.size_at-size.result (drop c.loop-at.at c.args.sheet.now) = simp part_to_end at c.takes.ensures in it)) ∙ c.if-takes.false)
 
 pub returns : goal.returns
