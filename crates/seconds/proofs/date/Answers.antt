@@ -11,22 +11,22 @@ use Rattle.seconds.proofs.Days.{real}
 use Rattle.seconds.proofs.date.Goals as goal
 
 pub returns-in_default : goal.returns-in_default
-unfolding date_of pick
+unfolding date_of pick text_day
 returns-in_default c =
     simp (field_untold 4 (omega arith) (drop 4 c.args.line.now) (sym c.in_default.is ∙ c.number-years.ensures))
 
 pub returns-in_default-months : goal.returns-in_default-months
-unfolding date_of pick
+unfolding date_of pick text_day
 returns-in_default-months c =
     simp (((let it : Said 4 (drop 4 c.args.line.now) c.in-Number.year = field_told 4 (omega arith) _ _ (sym c.in-Number.is ∙ c.number-years.ensures) in it)).digits, field_untold 2 (omega arith) (drop 9 c.args.line.now) (sym c.in_default-months.is ∙ c.number-months.ensures))
 
 pub returns-in_default-days : goal.returns-in_default-days
-unfolding date_of pick
+unfolding date_of pick text_day
 returns-in_default-days c =
     simp (((let it : Said 4 (drop 4 c.args.line.now) c.in-Number.year = field_told 4 (omega arith) _ _ (sym c.in-Number.is ∙ c.number-years.ensures) in it)).digits, ((let it : Said 2 (drop 9 c.args.line.now) c.in-Number-months.month = field_told 2 (omega arith) _ _ (sym c.in-Number-months.is ∙ c.number-months.ensures) in it)).digits, field_untold 2 (omega arith) (drop 12 c.args.line.now) (sym c.in_default-days.is ∙ c.number-days.ensures))
 
 pub returns-then-not-real_date : goal.returns-then-not-real_date
-unfolding date_of pick
+unfolding date_of pick text_day
 returns-then-not-real_date c =
     simp (((let it : Said 4 (drop 4 c.args.line.now) c.in-Number.year = field_told 4 (omega arith) _ _ (sym c.in-Number.is ∙ c.number-years.ensures) in it)).digits, ((let it : Said 2 (drop 9 c.args.line.now) c.in-Number-months.month = field_told 2 (omega arith) _ _ (sym c.in-Number-months.is ∙ c.number-months.ensures) in it)).digits, ((let it : Said 2 (drop 12 c.args.line.now) c.in-Number-days.day = field_told 2 (omega arith) _ _ (sym c.in-Number-days.is ∙ c.number-days.ensures) in it)).digits, ← (let it : c.real_date.result ≡ text_day c.args.line.now = rw (← ((let it : Said 4 (drop 4 c.args.line.now) c.in-Number.year = field_told 4 (omega arith) _ _ (sym c.in-Number.is ∙ c.number-years.ensures) in it)).is, ← ((let it : Said 2 (drop 9 c.args.line.now) c.in-Number-months.month = field_told 2 (omega arith) _ _ (sym c.in-Number-months.is ∙ c.number-months.ensures) in it)).is, ← ((let it : Said 2 (drop 12 c.args.line.now) c.in-Number-days.day = field_told 2 (omega arith) _ _ (sym c.in-Number-days.is ∙ c.number-days.ensures) in it)).is) c.real_date.ensures in it), c.if-not-real_date.true)
 
@@ -36,7 +36,7 @@ day_number-requires c =
     (r.from, r.to, r.first, r.last, r.least, r.most)
 
 pub returns : goal.returns
-unfolding date_of pick
+unfolding date_of pick text_day
 returns c =
     let y = (let it : Said 4 (drop 4 c.args.line.now) c.in-Number.year = field_told 4 (omega arith) _ _ (sym c.in-Number.is ∙ c.number-years.ensures) in it) in
     let m = (let it : Said 2 (drop 9 c.args.line.now) c.in-Number-months.month = field_told 2 (omega arith) _ _ (sym c.in-Number-months.is ∙ c.number-months.ensures) in it) in

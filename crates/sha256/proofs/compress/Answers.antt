@@ -89,7 +89,7 @@ loop-t-preserved c =
     let h = c.args.h in
     let q = c.requires.0 in
     let t = L.t in
-    let n = room c.before.before.before.before.before.before.before.before.before.before.before.before.before.before.before.before in
+    let n = (let it : (16 ≤ c.loop-t.t) × (c.loop-t.t + 8 ≤ 64) = (omega arith, omega arith) in it) in
     let e1 = c.late_round-s1.ensures in
     let e2 = c.late_round-s2.ensures in
     let e3 = c.late_round-s3.ensures in
@@ -98,18 +98,18 @@ loop-t-preserved c =
     let e6 = c.late_round-s6.ensures in
     let e7 = c.late_round-s7.ensures in
     let e8 = c.late_round-s.ensures in
-    let G1 = going_on k m _ _ t (t + 1) h _ _ q refl n.0 (omega (arith, n)) L.invariant.3 e1.0 e1.1 in
-    let G2 = going_on k m _ _ (t + 1) (t + 2) h _ _ q (omega arith) (omega (arith, n)) (omega (arith, n)) G1 e2.0 e2.1 in
-    let G3 = going_on k m _ _ (t + 2) (t + 3) h _ _ q (omega arith) (omega (arith, n)) (omega (arith, n)) G2 e3.0 e3.1 in
-    let G4 = going_on k m _ _ (t + 3) (t + 4) h _ _ q (omega arith) (omega (arith, n)) (omega (arith, n)) G3 e4.0 e4.1 in
-    let G5 = going_on k m _ _ (t + 4) (t + 5) h _ _ q (omega arith) (omega (arith, n)) (omega (arith, n)) G4 e5.0 e5.1 in
-    let G6 = going_on k m _ _ (t + 5) (t + 6) h _ _ q (omega arith) (omega (arith, n)) (omega (arith, n)) G5 e6.0 e6.1 in
-    let G7 = going_on k m _ _ (t + 6) (t + 7) h _ _ q (omega arith) (omega (arith, n)) (omega (arith, n)) G6 e7.0 e7.1 in (
+    let G1 = going_on k m _ _ t (t + 1) h _ _ q refl n.0 (omega (arith, n)) L.invariant.3 e1.word e1.round in
+    let G2 = going_on k m _ _ (t + 1) (t + 2) h _ _ q (omega arith) (omega (arith, n)) (omega (arith, n)) G1 e2.word e2.round in
+    let G3 = going_on k m _ _ (t + 2) (t + 3) h _ _ q (omega arith) (omega (arith, n)) (omega (arith, n)) G2 e3.word e3.round in
+    let G4 = going_on k m _ _ (t + 3) (t + 4) h _ _ q (omega arith) (omega (arith, n)) (omega (arith, n)) G3 e4.word e4.round in
+    let G5 = going_on k m _ _ (t + 4) (t + 5) h _ _ q (omega arith) (omega (arith, n)) (omega (arith, n)) G4 e5.word e5.round in
+    let G6 = going_on k m _ _ (t + 5) (t + 6) h _ _ q (omega arith) (omega (arith, n)) (omega (arith, n)) G5 e6.word e6.round in
+    let G7 = going_on k m _ _ (t + 6) (t + 7) h _ _ q (omega arith) (omega (arith, n)) (omega (arith, n)) G6 e7.word e7.round in (
       omega (arith, n),
       n.1,
       omega (arith, L.invariant.2),
-      going_on k m _ _ (t + 7) (t + 8) h _ _ q (omega arith) (omega (arith, n)) (omega (arith, n)) G7 e8.0
-          e8.1,
+      going_on k m _ _ (t + 7) (t + 8) h _ _ q (omega arith) (omega (arith, n)) (omega (arith, n)) G7 e8.word
+          e8.round,
     )
 
 pub returns : goal.returns

@@ -79,13 +79,13 @@ pub returns-in-Place : goal.returns-in-Place
 returns-in-Place c =
         let B = rw c.in-Place.is at c.find_short-it.ensures in
     let L = rw c.joint_of-joint-in-Place.ensures at c.lay_place.ensures in
-    place_comes _ _ _ _ _ _ _ _ _ _ c.requires.1 c.requires.0 _ _ B (omega arith) L.0 L.1.0 L.1.1
+    place_comes _ _ _ _ _ _ _ _ _ _ c.requires.1 c.requires.0 _ _ B (omega arith) L.label L.sheet L.answer
 
 pub returns-in-Section : goal.returns-in-Section
 returns-in-Section c =
         let B = rw (c.in-Section.is, ← c.sides.ensures.0) at c.find_short-it.ensures in
     let L = rw c.joint_of-joint-in-Section.ensures at c.lay_section.ensures in
-    section_comes _ _ _ _ _ _ _ _ _ _ c.requires.1 c.requires.0 _ _ _ B c.section_at-section.ensures L.0 L.1.0 L.1.1
+    section_comes _ _ _ _ _ _ _ _ _ _ c.requires.1 c.requires.0 _ _ _ B c.section_at-section.ensures L.label L.sheet L.answer
 
 pub returns-in-Trim : goal.returns-in-Trim
 returns-in-Trim c =

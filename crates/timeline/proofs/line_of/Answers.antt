@@ -23,6 +23,8 @@ returns-in-Unstamped c =
 
 pub returns-in-Stamped : goal.returns-in-Stamped
 returns-in-Stamped c =
-        let s = c.s-1.given in
-    let e = sym s.1 in
-    let z : s.0.1.0 + s.0.1.1.0 - s.0.1.0 ≡ s.0.1.1.0 = omega arith in record { result_value = rw z (ap (λ (r : Stamp). line_in r c.args.file.now) e); ref_ptr_value = ap (λ (r : Stamp). place_in r c.args.file.ref_ptr) e }
+    let e = sym c.in-Stamped.is in
+    let p = c.in-Stamped.place in
+    let n = c.in-Stamped.size in
+    let z : p + n - p ≡ n = omega arith in
+    record { result_value = rw z (ap (λ (r : Stamp). line_in r c.args.file.now) e); ref_ptr_value = ap (λ (r : Stamp). place_in r c.args.file.ref_ptr) e }
