@@ -11,7 +11,6 @@ use lib.Seq.{take-take, take_at, length-take-le}
 use borrow.Author.Tests.{lt-ltb, le-ltb}
 use Rattle.format.specs.Bytes.{over, Bytes}
 use Rattle.format.specs.Header.{Header, shut, opening_of}
-use Rattle.format.specs.WellFormed.{GoodSetting}
 use Rattle.format.specs.State.{State, start, Record}
 use Rattle.format.specs.Sheet.{sheet_version, records_of}
 use Rattle.format.specs.Refusals.{Result, refused}
@@ -37,7 +36,7 @@ use Rattle.wire.proofs.Laws.{laid_zero, laid_some, laid_next}
 use Rattle.scan.specs.Places.{state_at}
 use Rattle.scan.specs.Keeping.{Keeps}
 use Rattle.scan.specs.declared.Place.{Place}
-use Rattle.judge.specs.Walking.{rest_of}
+use Rattle.judge.specs.Walking.{GoodSetting, rest_of}
 use Rattle.judge.specs.Judging.{old_header, OldOpens, old_result, Stands, House, Cuts}
 use Rattle.judge.specs.declared.Old.{Old}
 use Rattle.judge.specs.declared.Run.{Run}

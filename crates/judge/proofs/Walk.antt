@@ -6,7 +6,6 @@ use native.Mathlib.Omega.{arith}
 use native.Mathlib.Nat.{add-zero}
 use lib.ListN.{length, take, drop, length-append, length-drop, take-append-drop}
 use lib.Seq.{drop-drop, take-add, drop-append_seam}
-use Rattle.format.specs.WellFormed.{GoodSetting}
 use Rattle.format.specs.State.{State, Record}
 use Rattle.format.specs.Refusals.{Result, stop}
 use Rattle.format.specs.declared.Verdict.TheVariants.{Good, Refusal}
@@ -15,7 +14,7 @@ use Rattle.format.specs.Codes.{closing, header_limit}
 use Rattle.format.proofs.WritingLaws.{codes_append, after_append, encode_append}
 use Rattle.scan.specs.Places.{state_at, Inside}
 use Rattle.scan.specs.declared.Place.{Place}
-use Rattle.judge.specs.Walking.{rest_of, rules_from, Sound, Ready, Steps, PassedOn, Walks, Ends}
+use Rattle.judge.specs.Walking.{GoodSetting, rest_of, rules_from, Sound, Ready, Steps, PassedOn, Walks, Ends}
 use Rattle.format.proofs.EditingLaws.{formed_drop}
 use Rattle.judge.proofs.Splice.{sayable_drop, good_all}
 use Rattle.counts.proofs.Left.{encode_none}

@@ -20,11 +20,11 @@ put_edited-requires c =
         (
       c.requires,
       rw c.lay.ensures (front_laid c.requires.at
-          (λ i. (c.shared_slice_known-1.given i).fits) c.args.new.now c.args.out.now),
+          (λ i. omega (arith, c.type_inv.file i)) c.args.new.now c.args.out.now),
     )
 
 pub returns : goal.returns
 returns c =
         pass_spliced c.requires.at
-    (λ i. (c.shared_slice_known-1.given i).fits) c.args.new.now
+    (λ i. omega (arith, c.type_inv.file i)) c.args.new.now
     c.args.out.now _ _ (rw c.lay.ensures at c.put_edited.ensures)

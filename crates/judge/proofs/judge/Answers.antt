@@ -21,7 +21,7 @@ pub judge_records-one-requires : goal.judge_records-one-requires
 judge_records-one-requires c =
     begins_ready ((let it : Begins c.args.file.now c.args.old 0 c.first_place-start.result
     c.args.before.now =     begins_first _ _ c.requires.0 (header_ours _ _ c.requires.0 (sym c.our_header.ensures ∙ c.if-not-our_header.false)) _ _
-    c.first_place-start.ensures c.requires.1 in it)) (λ i. (c.shared_slice_known-1.given i).fits)
+    c.first_place-start.ensures c.requires.1 in it)) (λ i. omega (arith, c.type_inv.file i))
 
 pub foreign-requires-in-Foreign : goal.foreign-requires-in-Foreign
 foreign-requires-in-Foreign c =

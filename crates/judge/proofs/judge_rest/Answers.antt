@@ -15,7 +15,7 @@ copy_label-len-requires c =
 pub judge_records-three-requires : goal.judge_records-three-requires
 judge_records-three-requires c =
         ready_copied c.args.back c.args.behind.now _ _ c.copy_label-len.ensures c.args.file.now
-    (begins_ready c.requires (λ i. (c.shared_slice_known-1.given i).fits))
+    (begins_ready c.requires (λ i. omega (arith, c.type_inv.file i)))
 
 pub foreign-requires : goal.foreign-requires
 foreign-requires c =

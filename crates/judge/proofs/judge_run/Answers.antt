@@ -11,7 +11,7 @@ copy_label-len-requires c =
 pub judge_records-two-requires : goal.judge_records-two-requires
 judge_records-two-requires c =
         ready_copied c.args.front c.args.before.now _ _ c.copy_label-len.ensures c.args.file.now
-    (begins_ready c.requires.0 (λ i. (c.shared_slice_known-1.given i).fits))
+    (begins_ready c.requires.0 (λ i. omega (arith, c.type_inv.file i)))
 
 pub foreign-requires : goal.foreign-requires
 foreign-requires c =

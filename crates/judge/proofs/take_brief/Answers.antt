@@ -157,7 +157,7 @@ returns c =
     let q = simp part_to_end at c.point_at-point.ensures in
     rw q (takes_brief c.args.file.now c.args.from c.args.label.now
     c.requires
-    (λ i. (c.shared_slice_known-1.given i).fits)
+    (λ i. omega (arith, c.type_inv.file i))
     _ c.in-Stands.is _ _
     ((let it : BriefLine
     (drop c.args.from.at

@@ -1,21 +1,9 @@
 -- `scan::next_record` meets its contract. Assumes nothing.
 use native.Mathlib.Omega.{arith}
-use Prim.Native.Nat.{◌-◌}
-use mathlib.Core.Path.{◌≡◌}
-use mathlib.Core.List.{[]}
-use lib.ListN.{length}
 use borrow.Author.Rules.{part_to_end}
-use Rattle.format.proofs.ReadingLaws.{Within}
-use Rattle.item.specs.Seen.{seen}
-use Rattle.item.specs.declared.Step.{Step}
 use Rattle.item.specs.declared.Step.TheVariants.{On, Made}
 use Rattle.scan.proofs.Walk.{going_first, finds_bad, finds_ended, item_within, going_on, finds_record}
 use Rattle.scan.proofs.next_record.Goals as goal
-
--- the item's bytes are there
-within_at : (y : tie.After-take-item invariant_loop decreases_loop) (it : Step) → y.take-item.result ≡ it
-    → Within (length y.before.before.before.before.before.before.args.file.now) y.before.before.before.loop.at (seen it [])
-within_at y it e = item_within _ _ _ _ _ _ _ _ y.before.before.before.loop.invariant it _ (rw e at y.take-item.ensures.0)
 
 pub loop-number-init : goal.loop-number-init
 loop-number-init c =
@@ -41,11 +29,11 @@ returns-in-End c =
 
 pub overflow_add-at : goal.overflow_add-at
 overflow_add-at c =
-    let z = within_at c.before.before.before (On _ _ _) c.in-On.is in omega arith
+    let z = item_within _ _ _ _ _ _ _ _ c.loop-number.invariant (On _ _ _) _ (rw c.in-On.is at c.take_item-it.ensures.0) in omega arith
 
 pub loop-number-smaller : goal.loop-number-smaller
 loop-number-smaller c =
-    let z = within_at c.before.before.before (On _ _ _) c.in-On.is in omega arith
+    let z = item_within _ _ _ _ _ _ _ _ c.loop-number.invariant (On _ _ _) _ (rw c.in-On.is at c.take_item-it.ensures.0) in omega arith
 
 pub loop-number-preserved : goal.loop-number-preserved
 loop-number-preserved c =
@@ -54,7 +42,7 @@ loop-number-preserved c =
 
 pub overflow_add-place : goal.overflow_add-place
 overflow_add-place c =
-    let z = within_at c.before.before.before (Made _ _ _ _ _) c.in-Made.is in omega arith
+    let z = item_within _ _ _ _ _ _ _ _ c.loop-number.invariant (Made _ _ _ _ _) _ (rw c.in-Made.is at c.take_item-it.ensures.0) in omega arith
 
 pub returns-in-Made : goal.returns-in-Made
 returns-in-Made c =
