@@ -135,7 +135,7 @@ def expand_aliases(body):
         it = re.search(r"\blet ([\w']+) = (c(?:\.before)*(?:\.args|\.requires)?(?:\.[a-z_]\w*\.now|\.[a-z]\w*)?) in\s?", body)
         if not it or it[2].count(".") and re.search(r"\.(ensures|given|invariant|loop|result)", it[2]):
             it = None
-            for m in re.finditer(r"\blet ([\w']+) = (c(?:\.before)*(?:\.args)?) in\s?", body):
+            for m in re.finditer(r"\blet ([\w']+) = (c(?:\.before)*(?:\.args)?|c(?:\.[\w-]+)*\.given) in\s?", body):
                 it = m
                 break
             if not it:

@@ -1,7 +1,7 @@
 -- An edit whole, on plain values: the old bytes before the run, the replacement, what is behind the run, and which way the answer goes.
 -- Assumes nothing.
 use Prim.Native.Nat.{ℕ, suc, ◌+◌, ◌-◌, ◌≤◌, ◌<◌}
-use mathlib.Core.Path.{◌≡◌, refl, sym, ap, ap₂, ◌∙◌}
+use mathlib.Core.Path.{◌≡◌, refl, sym, ap, ap₂, ◌∙◌, subst}
 use mathlib.Core.Bool.{false}
 use mathlib.Core.List.{List, [], ◌∷◌, ◌++◌, append_assoc}
 use native.Mathlib.Nat.{add-zero, zero-add}
@@ -11,6 +11,7 @@ use lib.Seq.{take-take, take_at, length-take-le}
 use borrow.Author.Tests.{lt-ltb, le-ltb}
 use Rattle.format.specs.Bytes.{over, Bytes}
 use Rattle.format.specs.Header.{Header, shut, opening_of}
+use Rattle.format.specs.WellFormed.{GoodSetting}
 use Rattle.format.specs.State.{State, start, Record}
 use Rattle.format.specs.Sheet.{sheet_version, records_of}
 use Rattle.format.specs.Refusals.{Result, refused}
@@ -63,7 +64,7 @@ emits_one pen l l' f name d d' count len A K =
     record {
       adds = A;
       state =
-          ap (state_of (setting_after pen.setting (record_of f []))) K.Label-is
+          ap (state_of (setting_after pen.setting (record_of f []))) K.label_is
           ∙ ap (λ (s : Setting). state_of s (label_after (take pen.len l) (record_of f name))) (setting_at pen.setting f name);
       fits = record { label_short = K.label_short; label_whole = K.label_whole };
     }
@@ -123,7 +124,7 @@ module _ {file : List ℕ} {cut : Splice} {b b' : List ℕ} (K : CutAt file cut 
           inside = S.inside;
           sound =
               record {
-                good = rw S.state (good_all behind start R good_start formed);
+                good = subst (λ (x : State). GoodSetting x.setting) (sym S.state) (good_all behind start R good_start formed);
                 formed = rw e (formed_drop behind R formed);
                 sayable = rw (e, S.state) (sayable_drop behind 0 0 start R sayable);
               };

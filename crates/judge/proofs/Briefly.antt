@@ -221,7 +221,7 @@ module _ (file : List ℕ) (p : Place) (b : List ℕ) (R : Ready file p b) (byte
   takes_brief m b' K =
       let k : p.len - (p.len - keep) ≡ keep = omega (arith, brief_kept) in
       let l : take m b' ≡ take keep (take p.len b) ++ take add (drop 2 s) =
-      K.Label-is
+      K.label_is
       ∙ ap (λ (n : ℕ). take n b ++ take add (drop 2 s)) k
       ∙ ap (λ (x : List ℕ). x ++ take add (drop 2 s)) (sym (take-take keep p.len b brief_kept)) in
       record {

@@ -131,9 +131,9 @@ module _ (file : List ℕ) (p : Place) (b : List ℕ) (R : Ready file p b) (name
       → size ≡ length (codes (state_at p b) r) → Keeps b b' p.len name f m
       → Steps file p b (record { at = p.at + size; len = m; setting = setting_after p.setting (record_of f []) }) b' (record_of f (take m b'))
   takes_made e size m b' s K =
-      let own : record_of f (take m b') ≡ r = ap (record_of f) K.Label-is ∙ kept_record (take p.len b) f name in
+      let own : record_of f (take m b') ≡ r = ap (record_of f) K.label_is ∙ kept_record (take p.len b) f name in
       let state_is : state_of (setting_after p.setting (record_of f [])) (take m b') ≡ after (state_at p b) r =
-      ap (state_of (setting_after p.setting (record_of f []))) K.Label-is
+      ap (state_of (setting_after p.setting (record_of f []))) K.label_is
       ∙ ap (λ (x : Setting). state_of x (label_after (take p.len b) r)) (setting_at p.setting f name) in
       rw own
       (steps file p b R r (met_formed file p b R r M) (met_sayable file p b R r M) (same_true _ _ e) _ b' (ap (λ (n : ℕ). p.at + n) s)
@@ -143,7 +143,7 @@ module _ (file : List ℕ) (p : Place) (b : List ℕ) (R : Ready file p b) (name
 
 module _ (file : List ℕ) (p : Place) (b s s' : List ℕ) (m : ℕ) (K : Swaps s (take p.len b) m) where
   copy_reads : rest_of file p.at (state_at p b) ≡ left_at 8 file (record { at = p.at; len = m; setting = p.setting }) s
-  copy_reads = ap (λ (l : List ℕ). run 8 p.at (drop p.at file) (state_of p.setting l)) (sym K.Label-is)
+  copy_reads = ap (λ (l : List ℕ). run 8 p.at (drop p.at file) (state_of p.setting l)) (sym K.label_is)
 
   pub found_refused : {n q : ℕ} → Finds 8 file (record { at = p.at; len = m; setting = p.setting }) s (FoundRefused n q) s'
       → rest_of file p.at (state_at p b) ≡ stop (Refusal n q)

@@ -6,6 +6,7 @@ use native.Mathlib.Omega.{arith}
 use native.Mathlib.Nat.{add-zero}
 use lib.ListN.{length, take, drop, length-append, length-drop, take-append-drop}
 use lib.Seq.{drop-drop, take-add, drop-append_seam}
+use Rattle.format.specs.WellFormed.{GoodSetting}
 use Rattle.format.specs.State.{State, Record}
 use Rattle.format.specs.Refusals.{Result, stop}
 use Rattle.format.specs.declared.Verdict.TheVariants.{Good, Refusal}
@@ -41,7 +42,7 @@ module _ {file : List ℕ} {at : ℕ} {st : State} {j : ℕ} {q : Place} {c : Li
   pub walk_sound : Sound file at st → Sound file q.at (state_at q c)
   walk_sound S =
       record {
-        good = rw W.state (good_all j st R S.good S.formed);
+        good = subst (λ (x : State). GoodSetting x.setting) (sym W.state) (good_all j st R S.good S.formed);
         formed = rw W.records (formed_drop j R S.formed);
         sayable = rw (W.records, W.state) (sayable_drop j 0 0 st R S.sayable);
       }

@@ -41,7 +41,7 @@ use Rattle.judge.proofs.Walk.{walk_none, walk_sound, walk_foreign, walk_ends, wa
 
 module _ (p : Place) (b b' : List ℕ) (n : ℕ) (K : Swaps b' (take p.len b) n) where
   pub same_state_lem : state_of p.setting (take n b') ≡ state_at p b
-  same_state_lem = ap (state_of p.setting) K.Label-is
+  same_state_lem = ap (state_of p.setting) K.label_is
 
   pub ready_copied : (file : List ℕ) → Ready file p b → Ready file (record { at = p.at; len = n; setting = p.setting }) b'
   ready_copied file R =

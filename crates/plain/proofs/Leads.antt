@@ -25,7 +25,7 @@ use Rattle.format.proofs.SheetLaws.{frame}
 use Rattle.number.specs.Four.{to_le64}
 use Rattle.sheet.specs.Seen.{leg_of, EntryTold}
 use Rattle.sheet.specs.declared.Entry.TheVariants.{Whole}
-use Rattle.sheet.proofs.Entries.{Fitting, fitting, whole, leg_whole, station_is, section_is, kind_leg, kind_station, kind_section, entry_told}
+use Rattle.sheet.proofs.Entries.{Fitting, fitting, fitted, whole, leg_whole, station_is, section_is, kind_leg, kind_station, kind_section, entry_told}
 use Rattle.plain.specs.Plainly.{mark_of, label_at, tail_of, position_after, v7_code, Headed, Goes}
 use Rattle.plain.specs.declared.Form.{Form}
 use Rattle.plain.specs.declared.Form.TheVariants.{Leg, Station, Narrow, Wide}
@@ -48,6 +48,13 @@ pub front : {s : List ℕ} {kind n k : ℕ} {t : Bool} → Bytes s → (n ≡ be
     → Front s kind k
 front {s = s} {k = k} b p e h =
     let f = fitting {s = s} {n = be16 s} {k = k} (rw p.0 at e) h (omega (arith, frame s p.1)) in
+    record { bytes = b; frame_is = p.1; kind_is = p.2; fits = f; there = omega (arith, f.least, f.there) }
+
+-- and where the test holds
+pub front_of : {s : List ℕ} {kind n k : ℕ} {t : Bool} → Bytes s → (n ≡ be16 s) × (framed s ≡ true) × (get_or s 2 0 ≡ kind) → t ≡ label_fits n k → t ≡ true
+    → Front s kind k
+front_of {s = s} {k = k} b p e h =
+    let f = fitted {s = s} {n = be16 s} {k = k} (rw p.0 at e) h (omega (arith, frame s p.1)) in
     record { bytes = b; frame_is = p.1; kind_is = p.2; fits = f; there = omega (arith, f.least, f.there) }
 
 module _ (s : List ℕ) where

@@ -42,6 +42,13 @@ framed_by {s = s} e h b d =
     let z = d ∙ b in
     record { size_is = z; frame_is = f; there = omega (arith, z, frame s f) }
 
+-- and where the test holds
+pub framed_of : {s : List ℕ} {t : Bool} {m n : ℕ} → t ≡ framed s → t ≡ true → m ≡ be16 s → n ≡ m → Framed s n
+framed_of {s = s} e h b d =
+    let f = sym e ∙ h in
+    let z = d ∙ b in
+    record { size_is = z; frame_is = f; there = omega (arith, z, frame s f) }
+
 module _ {s : List ℕ} {n : ℕ} (z : Framed s n) (mark : ℕ) (position : Position) where
   pub head_fits : (h : Head) (version : ℕ) → HeadTold h version s mark position → HeadFits h (2 + n)
   head_fits NoHead version H = tt

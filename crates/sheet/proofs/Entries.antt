@@ -38,6 +38,13 @@ fitting {n = n} {k = k} e h there =
     let f = fits n k good in
     record { fit = good; least = f.least; most = f.most; there = there }
 
+-- and where the test holds
+pub fitted : {s : List ℕ} {n k : ℕ} {b : Bool} → b ≡ label_fits n k → b ≡ true → 2 + n ≤ length s → Fitting s n k
+fitted {n = n} {k = k} e h there =
+    let good = sym e ∙ h in
+    let f = fits n k good in
+    record { fit = good; least = f.least; most = f.most; there = there }
+
 inside : {s : List ℕ} {n k : ℕ} → Fitting s n k → {f : _} → Inside s (2 + n) f (2 + k)
 inside z = record { from_within = omega arith; within = z.there; short = omega arith }
 

@@ -15,7 +15,7 @@ shape_of-out-then-answer-ne2 c =
 pub returns-then-answer-ne2 : goal.returns-then-answer-ne2
 returns-then-answer-ne2 c =
     let E = c.cockledrift_step-answer.ensures in
-    goes_stops c.loop-answer.invariant E.0 E.1.1 E.1.0 c.if-answer-ne2.true
+    goes_stops c.loop-answer.invariant E.answer E.stand.1 E.stand.0 c.if-answer-ne2.true
 
 pub shape_of-out-then-left-eq0 : goal.shape_of-out-then-left-eq0
 shape_of-out-then-left-eq0 c =
@@ -24,10 +24,10 @@ shape_of-out-then-left-eq0 c =
 pub returns-then-left-eq0 : goal.returns-then-left-eq0
 returns-then-left-eq0 c =
     let E = c.cockledrift_step-answer.ensures in
-    goes_last c.loop-answer.invariant E.0 E.1.1 E.1.0 c.if-left-eq0.true
+    goes_last c.loop-answer.invariant E.answer E.stand.1 E.stand.0 c.if-left-eq0.true
 
 pub loop-answer-preserved : goal.loop-answer-preserved
 loop-answer-preserved c =
     let E = c.cockledrift_step-answer.ensures in
     goes_again c.loop-answer.invariant
-    E.0 E.1.1 E.1.0 c.if-left-eq0.false c.if-answer-ne2.false
+    E.answer E.stand.1 E.stand.0 c.if-left-eq0.false c.if-answer-ne2.false

@@ -5,4 +5,4 @@ use Rattle.capi.proofs.cockledrift_salvage.Goals as goal
 
 pub returns : goal.returns
 returns c =
-    let e = c.salvage-s.ensures in record { answer = c.tell_saved.ensures ∙ ap salvage_numbers e.0; sheet = e.1 }
+    let e = c.salvage-s.ensures in record { answer = c.tell_saved.ensures ∙ ap salvage_numbers e.answer; sheet = e.sheet }

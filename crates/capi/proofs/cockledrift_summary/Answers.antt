@@ -5,4 +5,4 @@ use Rattle.capi.proofs.cockledrift_summary.Goals as goal
 
 pub returns : goal.returns
 returns c =
-    let e = c.summarize-s.ensures in record { answer = c.tell_summed.ensures ∙ ap summary_numbers e.0; words = e.1 }
+    let e = c.summarize-s.ensures in record { answer = c.tell_summed.ensures ∙ ap summary_numbers e.answer; words = e.words }

@@ -9,25 +9,23 @@ use Rattle.convert.proofs.convert.Goals as goal
 pub slice_bounds-write-end : goal.slice_bounds-write-end
 slice_bounds-write-end c =
     let h = read_room _ _ _ _ _ (rw c.in-Done.is at c.read-a.ensures.answer) in
-    let k = c.read-a.auto.1.0 in
+    let k = c.read-a.auto.sheet in
     omega arith
 
 pub slice_bounds-write-end-in-Done : goal.slice_bounds-write-end-in-Done
 slice_bounds-write-end-in-Done c =
     let h = read_room _ _ _ _ _ (rw c.in-Done.is at c.read-a.ensures.answer) in
-    let k = c.read-a.auto.1.0 in
+    let k = c.read-a.auto.sheet in
     sym (length-take-le _ _ (omega arith))
 
 pub returns-in-Refused : goal.returns-in-Refused
 returns-in-Refused c =
         let e = rw c.in-Refused.is at c.read-a.ensures.answer in
-    let r = convert_refused c.args.file.now c.args.sheet.now _ _ (sym e) c.args.out.now in
-    (sym r.0, (c.read-a.ensures.sheet, sym r.1))
+    let r = convert_refused c.args.file.now c.args.sheet.now _ _ (sym e) c.args.out.now in record { answer = sym r.0; sheet = c.read-a.ensures.sheet; file = sym r.1 }
 
 pub returns-in-Done : goal.returns-in-Done
 returns-in-Done c =
             let R = c.read-a.ensures in
-    let e = rw c.in-Done.is at R.0 in
+    let e = rw c.in-Done.is at R.answer in
     let r = convert_written c.args.file.now c.args.sheet.now (λ i. (c.shared_slice_known-1.given i).fits) _ _ _ (sym e) c.args.out.now in
-    let W = c.write.ensures in
-    (rw R.1 at W.0 ∙ sym r.0, (R.1, rw R.1 at W.1 ∙ sym r.1))
+    let W = c.write.ensures in record { answer = rw R.sheet at W.answer ∙ sym r.0; sheet = R.sheet; file = rw R.sheet at W.file ∙ sym r.1 }

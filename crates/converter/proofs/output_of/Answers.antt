@@ -21,7 +21,7 @@ pub returns-in-Refused : goal.returns-in-Refused
 returns-in-Refused c =
         let l = length-take-le c.args.n c.args.input.now c.requires.1 in
     let W = c.list-in-Refused.ensures in
-    let k = c.convert-a.auto.1.1.0 in
+    let k = c.convert-a.auto.out in
     let e = rw c.in-Refused.is at c.convert-a.ensures.answer in
     (omega (arith, W.1), wrote_front _ _ _ _ W.0 (omega (arith, W.1, k, c.requires.3)) ∙ output_refused (take c.args.n c.args.input.now) c.args.sheet.now c.args.out.now c.requires.2 c.requires.3 (omega (arith, l, c.if-n-gt-INPUT_LIMIT.false)) _ _ e)
 

@@ -10,7 +10,8 @@ edit_opened-requires c =
 
 pub returns-in-Shut : goal.returns-in-Shut
 returns-in-Shut c =
-    edits_shut _ _ _ _ _ _ _ (rw c.in-Shut.is at c.opening-head.ensures).same
+    let E = edits_shut _ _ _ _ _ _ _ (rw c.in-Shut.is at c.opening-head.ensures).same in
+    record { answer = E.0; file = E.1 }
 
 pub returns-in-Whole : goal.returns-in-Whole
 returns-in-Whole c =

@@ -36,7 +36,6 @@ pub returns : goal.returns
 returns c =
         state_label (state_at c.args.place c.args.name.now) (pen_state c.args.pen c.args.last.now)
     c.if-read-written.false
-    (sym c.same_date.ensures ∙ not-false _
-    c.if-not-same_date.false)
+    (sym c.same_date.ensures ∙ c.if-not-same_date.false)
     (sym c.same_position.ensures ∙ c.if-not-same_position.false)
     c.same_bytes.ensures

@@ -1,4 +1,5 @@
 -- `edit::put_behind` meets its contract. Assumes nothing.
+use borrow.Enum.Refused.{opened}
 use native.Mathlib.Omega.{arith}
 use mathlib.Core.Path.{◌≡◌, sym, ◌∙◌}
 use Prim.Native.Nat.{◌<◌}
@@ -36,7 +37,7 @@ pub returns-in_default : goal.returns-in_default
 returns-in_default c =
     absurd (always_more c.loop-left.invariant
     c.take_record-taken.result _ c.loop-left-test.true
-    c.in_default.in_default-own.keys2 c.take_record-taken.ensures.0)
+    (opened c.in_default.in_default-own.keys2) c.take_record-taken.ensures.0)
 
 pub slice_bounds-put_one-end : goal.slice_bounds-put_one-end
 slice_bounds-put_one-end c =
@@ -48,11 +49,10 @@ pub put_one-pen-requires : goal.put_one-pen-requires
 put_one-pen-requires c =
     let G =
     c.loop-left.invariant in
-    let t = c.taken-1.given in
-    let T = rw t.1 at c.take_record-taken.ensures in (
+        let T = rw c.in-Record.is at c.take_record-taken.ensures in (
       G.behind.fits,
       putting_fits G ((let it : 0 < c.loop-left.left = c.loop-left-test.true in it)),
-      found_formed G t.0.0 t.0.1.0 _ T.0,
+      found_formed G c.in-Record.to c.in-Record.fields _ T.0,
       simp length-take (omega (arith, T.0.inside.label_short)),
     )
 
@@ -66,11 +66,10 @@ loop-left-smaller c =
 
 pub loop-left-preserved : goal.loop-left-preserved
 loop-left-preserved c =
-    let t = c.taken-1.given in
-    let T = rw t.1 at c.take_record-taken.ensures in
+        let T = rw c.in-Record.is at c.take_record-taken.ensures in
     putting_more
     c.loop-left.invariant
-    t.0.0 t.0.1.0 _ T.0
+    c.in-Record.to c.in-Record.fields _ T.0
     ((let it : 0 < c.loop-left.left = c.loop-left-test.true in it))
     _ _ _ _ _ c.put_one-pen.ensures T.1 T.2
 

@@ -123,8 +123,12 @@ point_at-point-requires c =
     c.args.label.now)
     c.in-Line.keep c.in-Line.add = simp part_to_end at (rw c.in-Line.is at c.brief_line-brief.ensures) in it) in
     let n = length-drop c.args.from.at c.args.file.now in omega (arith, n, L.there) in it),
-      (line
-          c.before.before.before.before.before).few_add,
+      (let it : BriefLine
+    (drop c.args.from.at
+    c.args.file.now)
+    (take c.args.from.len
+    c.args.label.now)
+    c.in-Line.keep c.in-Line.add = simp part_to_end at (rw c.in-Line.is at c.brief_line-brief.ensures) in it).few_add,
     )))
 
 pub overflow_add-place : goal.overflow_add-place

@@ -25,5 +25,5 @@ returns-in-Stands c =
       led = λ from q.
           let y : Stands from ≡ Stands c.in-Stands.point = sym q ∙ e in
           let z : from ≡ c.in-Stands.point = cc in
-          rw z (rw g at L.1.1, L.0, rw g at L.1.0);
+          rw z (rw g at L.answer, L.label, rw g at L.sheet);
     }

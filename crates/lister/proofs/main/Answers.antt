@@ -6,16 +6,16 @@ use Rattle.lister.proofs.main.Goals as goal
 
 pub text_of-size-requires : goal.text_of-size-requires
 text_of-size-requires c =
-    let k = c.read_full-n.auto.1.0 in
+    let k = c.read_full-n.auto.buf in
     let n = c.read_full-n.ensures in
     (omega arith, omega (arith, n), omega arith, omega arith)
 
 pub slice_bounds-out-end : goal.slice_bounds-out-end
 slice_bounds-out-end c =
-    let k = c.text_of-size.auto.1.1.0 in
+    let k = c.text_of-size.auto.sheet in
     omega arith
 
 pub slice_bounds-write_all-end : goal.slice_bounds-write_all-end
 slice_bounds-write_all-end c =
-    let k = c.text_of-size.auto.1.1.0 in
+    let k = c.text_of-size.auto.sheet in
     sym (length-take-le _ _ (omega arith))

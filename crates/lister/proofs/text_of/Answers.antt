@@ -22,7 +22,7 @@ returns-then-n-gt-INPUT_LIMIT c =
 pub slice_bounds-list-end-in-Done : goal.slice_bounds-list-end-in-Done
 slice_bounds-list-end-in-Done c =
     let h = read_room _ _ _ _ _ (rw c.in-Done.is at c.read-a.ensures.answer) in
-    let k = c.read-a.auto.1.0 in
+    let k = c.read-a.auto.sheet in
     omega arith
 
 pub returns-in-Refused : goal.returns-in-Refused
@@ -37,6 +37,6 @@ returns-in-Done c =
         let l = length-take-le c.args.n c.args.input.now c.requires.1 in
     let W = c.list-in-Done.ensures in
     let e = rw c.in-Done.is at c.read-a.ensures.answer in
-    let k = c.read-a.auto.1.0 in
+    let k = c.read-a.auto.sheet in
     let n = simp length-take at W.1 in
     (omega (arith, n, k, c.requires.2), wrote_front _ _ _ _ W.0 (omega (arith, n, k, c.requires.2, c.requires.3)) ∙ text_listing (take c.args.n c.args.input.now) c.args.sheet.now c.requires.2 (omega (arith, l, c.if-n-gt-INPUT_LIMIT.false)) (bytes_take c.args.n c.args.input.now (λ i. (c.shared_slice_known-1.given i).fits)) _ _ _ _ e c.read-a.ensures.sheet)

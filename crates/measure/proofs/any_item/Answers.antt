@@ -1,10 +1,14 @@
 -- `measure::any_item` meets its contract. Assumes nothing.
 use Rattle.measure.specs.declared.Measured.TheVariants.{Bad, Passes}
 use mathlib.Core.Path.{◌≡◌, refl}
+use mathlib.Core.List.{List}
+use mathlib.Core.Bool.{Bool}
+use Prim.Native.Nat.{ℕ, ◌≤◌}
+use lib.ListN.{length, get_or}
 use Rattle.format.specs.Items.{new_part}
 use Rattle.format.specs.State.{next_of}
 use Rattle.format.specs.Reading.{next}
-use Rattle.kind.specs.Kinds.{kind_item}
+use Rattle.kind.specs.Kinds.{kind_item, SaysBy, new_item}
 use Rattle.kind.specs.declared.Kind.{Kind}
 use Rattle.measure.specs.Measures.{ComesIn}
 use Rattle.measure.specs.declared.Measured.{Measured}
@@ -12,14 +16,9 @@ use Rattle.measure.proofs.Items.{kind_comes, nothing_comes, comes_undated}
 use Rattle.measure.proofs.any_item.Goals as goal
 
 -- what comes of the code's kind comes of the item
-kind_at : (y : tie.After-new-kind) (k : Kind) → y.new-kind.result ≡ k → (r : Measured)
-    → ComesIn r y.before.before.before.before.args.len y.before.before.before.before.args.style
-    y.before.before.before.before.args.placed (λ st. next_of st (kind_item k new_part y.before.before.before.before.args.s.now))
-    → ComesIn r y.before.before.before.before.args.len y.before.before.before.before.args.style
-    y.before.before.before.before.args.placed (λ st. next 8 y.before.before.before.before.args.s.now st)
-kind_at y k e r f =
-    let a = y.before.before.before.before.args in
-    kind_comes a.s.now _ y.before.before.if1.false refl r a.len a.style a.placed _ (rw e at (y.new-kind.ensures.0 a.s.now)) f
+kind_at : (s : List ℕ) (len style : ℕ) (placed : Bool) (x k : Kind) → x ≡ k → SaysBy new_part x (new_item (get_or s 0 0)) → 1 ≤ length s → (r : Measured)
+    → ComesIn r len style placed (λ st. next_of st (kind_item k new_part s)) → ComesIn r len style placed (λ st. next 8 s st)
+kind_at s len style placed x k e K h r f = kind_comes s _ h refl r len style placed _ (rw e at (K s)) f
 
 pub returns-then-s-lt1 : goal.returns-then-s-lt1
 returns-then-s-lt1 c =
@@ -27,7 +26,7 @@ returns-then-s-lt1 c =
 
 pub returns-in-Reserved : goal.returns-in-Reserved
 returns-in-Reserved c =
-    (tt, kind_at c.before.before _ c.in-Reserved.is (Bad 4) (λ st K. refl))
+    (tt, kind_at c.args.s.now c.args.len c.args.style c.args.placed _ _ c.in-Reserved.is c.new_kind-kind.ensures.0 c.if-s-lt1.false (Bad 4) (λ st K. refl))
 
 pub returns-in-Stop : goal.returns-in-Stop
 returns-in-Stop c =
@@ -41,28 +40,28 @@ pub returns-in-Style : goal.returns-in-Style
 returns-in-Style c =
     (
       c.styled.ensures.0,
-      kind_at c.before.before.before.before _ c.in-Style.is c.styled.result (c.styled.ensures.1 _ _),
+      kind_at c.args.s.now c.args.len c.args.style c.args.placed _ _ c.in-Style.is c.new_kind-kind.ensures.0 c.if-s-lt1.false c.styled.result (c.styled.ensures.1 _ _),
     )
 
 pub returns-in-Move : goal.returns-in-Move
 returns-in-Move c =
-    (c.moved.ensures.0, kind_at c.before.before.before _ c.in-Move.is c.moved.result (c.moved.ensures.1 _ _ _))
+    (c.moved.ensures.0, kind_at c.args.s.now c.args.len c.args.style c.args.placed _ _ c.in-Move.is c.new_kind-kind.ensures.0 c.if-s-lt1.false c.moved.result (c.moved.ensures.1 _ _ _))
 
 pub returns-in-NoDate : goal.returns-in-NoDate
 returns-in-NoDate c =
-    (tt, kind_at c.before.before _ c.in-NoDate.is (Passes 1) (comes_undated _ _ _))
+    (tt, kind_at c.args.s.now c.args.len c.args.style c.args.placed _ _ c.in-NoDate.is c.new_kind-kind.ensures.0 c.if-s-lt1.false (Passes 1) (comes_undated _ _ _))
 
 pub returns-in-Day : goal.returns-in-Day
 returns-in-Day c =
-    (c.day.ensures.0, kind_at c.before.before.before _ c.in-Day.is c.day.result (c.day.ensures.1 _ _ _))
+    (c.day.ensures.0, kind_at c.args.s.now c.args.len c.args.style c.args.placed _ _ c.in-Day.is c.new_kind-kind.ensures.0 c.if-s-lt1.false c.day.result (c.day.ensures.1 _ _ _))
 
 pub returns-in-Span : goal.returns-in-Span
 returns-in-Span c =
-    (c.span.ensures.0, kind_at c.before.before.before _ c.in-Span.is c.span.result (c.span.ensures.1 _ _ _))
+    (c.span.ensures.0, kind_at c.args.s.now c.args.len c.args.style c.args.placed _ _ c.in-Span.is c.new_kind-kind.ensures.0 c.if-s-lt1.false c.span.result (c.span.ensures.1 _ _ _))
 
 pub returns-in-Days : goal.returns-in-Days
 returns-in-Days c =
-    (c.days.ensures.0, kind_at c.before.before.before _ c.in-Days.is c.days.result (c.days.ensures.1 _ _ _))
+    (c.days.ensures.0, kind_at c.args.s.now c.args.len c.args.style c.args.placed _ _ c.in-Days.is c.new_kind-kind.ensures.0 c.if-s-lt1.false c.days.result (c.days.ensures.1 _ _ _))
 
 pub returns-in-Seconds : goal.returns-in-Seconds
 returns-in-Seconds c =
@@ -74,11 +73,11 @@ returns-in-TwoSeconds c =
 
 pub returns-in-Error : goal.returns-in-Error
 returns-in-Error c =
-    (c.error.ensures.0, kind_at c.before.before.before _ c.in-Error.is c.error.result (c.error.ensures.1 _ _))
+    (c.error.ensures.0, kind_at c.args.s.now c.args.len c.args.style c.args.placed _ _ c.in-Error.is c.new_kind-kind.ensures.0 c.if-s-lt1.false c.error.result (c.error.ensures.1 _ _))
 
 pub returns-in-Labelled : goal.returns-in-Labelled
 returns-in-Labelled c =
     (
       c.labelled.ensures.0,
-      kind_at c.before.before.before.before _ c.in-Labelled.is c.labelled.result (c.labelled.ensures.1 _),
+      kind_at c.args.s.now c.args.len c.args.style c.args.placed _ _ c.in-Labelled.is c.new_kind-kind.ensures.0 c.if-s-lt1.false c.labelled.result (c.labelled.ensures.1 _),
     )

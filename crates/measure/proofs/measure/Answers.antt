@@ -2,16 +2,20 @@
 use Rattle.measure.specs.declared.Measured.{Measured}
 use Rattle.measure.specs.declared.Measured.TheVariants.{Styled, Moved, Passes, Made}
 use native.Mathlib.Omega.{arith}
-use Prim.Native.Nat.{◌-◌}
+use Prim.Native.Nat.{ℕ, ◌-◌}
+use mathlib.Core.List.{List}
+use mathlib.Core.Bool.{Bool}
+use Rattle.format.specs.Reading.{next}
+use Rattle.measure.specs.Measures.{ComesIn}
 use mathlib.Core.Path.{◌≡◌, ◌∙◌}
-use lib.ListN.{length}
-use Rattle.measure.proofs.Turn.{going_first, found, ends_bad, ends_end, going_on, going_made, Within, item_within}
+use lib.ListN.{length, take, drop}
+use Rattle.measure.proofs.Turn.{Going, going_first, found, ends_bad, ends_end, going_on, going_made, Within, item_within}
 use Rattle.measure.proofs.measure.Goals as goal
 
 -- the item's bytes are there
-within_at : (y : tie.After-measure-item invariant_loop decreases_loop) (r : Measured) → y.measure-item.result ≡ r
-    → Within (length y.before.before.before.before.args.file.now) y.before.before.loop.at r
-within_at y r e = item_within _ _ _ _ _ _ _ _ _ y.before.before.loop.invariant r (rw e at y.measure-item.ensures).1
+within_at : (file : List ℕ) (place front at out records len style : ℕ) (placed : Bool) → Going file place front at out records len style placed → (x r : Measured) → x ≡ r
+    → ComesIn x len style placed (λ st. next 8 (take (length file - at) (drop at file)) st) → Within (length file) at r
+within_at file place front at out records len style placed G x r e f = item_within file place front at out records len style placed G r (rw e at f)
 
 pub loop-number-init : goal.loop-number-init
 loop-number-init c = going_first _ _ _ c.requires.1
@@ -37,12 +41,12 @@ returns-in-End c =
 pub overflow_add-at : goal.overflow_add-at
 overflow_add-at c =
     let p = c.requires.0 in
-    omega (arith, within_at c.before.before.before (Styled _) c.in-Styled.is, p)
+    omega (arith, within_at _ _ _ _ _ _ _ _ _ c.loop-number.invariant c.measure_item-it.result (Styled _) c.in-Styled.is c.measure_item-it.ensures.1, p)
 
 pub loop-number-smaller-in-Styled : goal.loop-number-smaller-in-Styled
 loop-number-smaller-in-Styled c =
     let p = c.requires.0 in
-    omega (arith, within_at c.before.before.before (Styled _) c.in-Styled.is, p)
+    omega (arith, within_at _ _ _ _ _ _ _ _ _ c.loop-number.invariant c.measure_item-it.result (Styled _) c.in-Styled.is c.measure_item-it.ensures.1, p)
 
 pub loop-number-preserved-in-Styled : goal.loop-number-preserved-in-Styled
 loop-number-preserved-in-Styled c =
@@ -52,11 +56,11 @@ loop-number-preserved-in-Styled c =
 
 pub overflow_add-at-in-Moved : goal.overflow_add-at-in-Moved
 overflow_add-at-in-Moved c =
-    omega (arith, within_at c.before.before Moved c.in-Moved.is, c.requires.0)
+    omega (arith, within_at _ _ _ _ _ _ _ _ _ c.loop-number.invariant c.measure_item-it.result Moved c.in-Moved.is c.measure_item-it.ensures.1, c.requires.0)
 
 pub loop-number-smaller-in-Moved : goal.loop-number-smaller-in-Moved
 loop-number-smaller-in-Moved c =
-    omega (arith, within_at c.before.before Moved c.in-Moved.is, c.requires.0)
+    omega (arith, within_at _ _ _ _ _ _ _ _ _ c.loop-number.invariant c.measure_item-it.result Moved c.in-Moved.is c.measure_item-it.ensures.1, c.requires.0)
 
 pub loop-number-preserved-in-Moved : goal.loop-number-preserved-in-Moved
 loop-number-preserved-in-Moved c =
@@ -67,12 +71,12 @@ loop-number-preserved-in-Moved c =
 pub overflow_add-at-in-Passes : goal.overflow_add-at-in-Passes
 overflow_add-at-in-Passes c =
     let p = c.requires.0 in
-    omega (arith, within_at c.before.before.before (Passes _) c.in-Passes.is, p)
+    omega (arith, within_at _ _ _ _ _ _ _ _ _ c.loop-number.invariant c.measure_item-it.result (Passes _) c.in-Passes.is c.measure_item-it.ensures.1, p)
 
 pub loop-number-smaller-in-Passes : goal.loop-number-smaller-in-Passes
 loop-number-smaller-in-Passes c =
     let p = c.requires.0 in
-    omega (arith, within_at c.before.before.before (Passes _) c.in-Passes.is, p)
+    omega (arith, within_at _ _ _ _ _ _ _ _ _ c.loop-number.invariant c.measure_item-it.result (Passes _) c.in-Passes.is c.measure_item-it.ensures.1, p)
 
 pub loop-number-preserved-in-Passes : goal.loop-number-preserved-in-Passes
 loop-number-preserved-in-Passes c =
@@ -95,12 +99,12 @@ overflow_add-records c =
 pub overflow_add-at-in-Made : goal.overflow_add-at-in-Made
 overflow_add-at-in-Made c =
     let p = c.requires.0 in
-    omega (arith, within_at c.before.before.before (Made _ _ _) c.in-Made.is, p)
+    omega (arith, within_at _ _ _ _ _ _ _ _ _ c.loop-number.invariant c.measure_item-it.result (Made _ _ _) c.in-Made.is c.measure_item-it.ensures.1, p)
 
 pub loop-number-smaller : goal.loop-number-smaller
 loop-number-smaller c =
     let p = c.requires.0 in
-    omega (arith, within_at c.before.before.before (Made _ _ _) c.in-Made.is, p)
+    omega (arith, within_at _ _ _ _ _ _ _ _ _ c.loop-number.invariant c.measure_item-it.result (Made _ _ _) c.in-Made.is c.measure_item-it.ensures.1, p)
 
 pub loop-number-preserved : goal.loop-number-preserved
 loop-number-preserved c =

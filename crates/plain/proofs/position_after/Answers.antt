@@ -1,6 +1,7 @@
 use native.Mathlib.Omega.{arith}
-use Prim.Native.Nat.{◌≤◌}
+use Prim.Native.Nat.{ℕ, ◌≤◌}
 use mathlib.Core.Path.{◌≡◌}
+use mathlib.Core.List.{List}
 use borrow.Author.Rules.{part_to_end}
 use lib.ListN.{length, length-drop}
 use Rattle.plain.specs.Plainly.{label_at}
@@ -8,20 +9,20 @@ use Rattle.plain.specs.declared.Form.{Form}
 use Rattle.plain.proofs.position_after.Goals as goal
 
 -- the record is there up to its label
-head_at_lem : (y : tie.Start) {f : Form} → y.args.form ≡ f → label_at f ≤ length y.args.s.now
-head_at_lem y e = rw e at y.requires
+head_at_lem : (g f : Form) (s : List ℕ) → g ≡ f → label_at g ≤ length s → label_at f ≤ length s
+head_at_lem g f s e h = rw e at h
 
 pub slice_bounds-point-count : goal.slice_bounds-point-count
 slice_bounds-point-count c =
-    omega (arith, head_at_lem c.before.before.before c.in-Leg.is)
+    omega (arith, head_at_lem _ _ c.args.s.now c.in-Leg.is c.requires)
 
 pub slice_bounds-point-start : goal.slice_bounds-point-start
 slice_bounds-point-start c =
-    omega (arith, head_at_lem c.before.before.before c.in-Leg.is)
+    omega (arith, head_at_lem _ _ c.args.s.now c.in-Leg.is c.requires)
 
 pub point-point-requires : goal.point-point-requires
 point-point-requires c =
-    simp (part_to_end, length-drop) (omega (arith, head_at_lem c.before.before.before.before c.in-Leg.is))
+    simp (part_to_end, length-drop) (omega (arith, head_at_lem _ _ c.args.s.now c.in-Leg.is c.requires))
 
 pub returns-in-Leg : goal.returns-in-Leg
 returns-in-Leg c =

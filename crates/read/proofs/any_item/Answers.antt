@@ -14,4 +14,4 @@ pub returns-in-On : goal.returns-in-On
 returns-in-On c =
     let T = c.take_next-step.ensures in
     let J = c.judge_step in
-    record { does = rw c.in-On.is (record { step = _; told = T; kept = J.auto.0; ruled = rw T.same at J.ensures }) }
+    record { does = rw c.in-On.is (record { step = _; told = T; kept = J.auto.room; ruled = rw T.same at J.ensures }) }

@@ -23,4 +23,4 @@ slice_bounds-clear-end-2 c =
 
 pub returns : goal.returns
 returns c =
-        let P = rw c.course_of-course.ensures at c.pass-total.ensures in record { total = P.0; room = rw c.cleared-end.ensures (all_cleared c.pass-total.new.lent _ _ (rw c.cleared-end.ensures at c.clear.ensures) P.1) }
+        let P = rw c.course_of-course.ensures at c.pass-total.ensures in record { total = P.answer; room = rw c.cleared-end.ensures (all_cleared c.pass-total.new.lent _ _ (rw c.cleared-end.ensures at c.clear.ensures) P.lent) }

@@ -91,14 +91,14 @@ returns-in-Place c =
         let B = rw c.in-Place.is at c.find_short-it.ensures in
     let j = c.joint_of-joint-in-Place.ensures in
     let L = rw j at c.lay_station_freely.ensures in
-    place_turns _ _ _ _ _ _ _ _ c.requires.whole c.requires.short refl _ _ _ B c.station_at-station.ensures L.0 L.1 (c.went.ensures ∙ rw (c.behind.ensures, j))
+    place_turns _ _ _ _ _ _ _ _ c.requires.whole c.requires.short refl _ _ _ B c.station_at-station.ensures L.label L.sheet (c.went.ensures ∙ rw (c.behind.ensures, j))
 
 pub returns-in-Section : goal.returns-in-Section
 returns-in-Section c =
         let B = rw (c.in-Section.is, ← c.sides.ensures.0) at c.find_short-it.ensures in
     let j = c.joint_of-joint-in-Section.ensures in
     let L = rw j at c.lay_section_freely.ensures in
-    section_turns _ _ _ _ _ _ _ _ c.requires.whole c.requires.short refl _ _ _ B c.section_at-section.ensures L.0 L.1 (c.went-in-Section.ensures ∙ rw (c.behind-in-Section.ensures, j))
+    section_turns _ _ _ _ _ _ _ _ c.requires.whole c.requires.short refl _ _ _ B c.section_at-section.ensures L.label L.sheet (c.went-in-Section.ensures ∙ rw (c.behind-in-Section.ensures, j))
 
 pub returns-in-Trim : goal.returns-in-Trim
 returns-in-Trim c =

@@ -17,19 +17,17 @@ settle-requires c =
     let g = c.in-Whole.is in
     let J = c.judge_names-total.ensures in (
       record { due = sym (rw g at o.same); room = rw g at o.room },
-      λ e. strict_judges _ c.args.sheet.now _ _ (record { due = sym (rw g at o.same); room = rw g at o.room }) _ J.0 e,
+      λ e. strict_judges _ c.args.sheet.now _ _ (record { due = sym (rw g at o.same); room = rw g at o.room }) _ J.total e,
     )
 
 pub returns-in-Shut : goal.returns-in-Shut
 returns-in-Shut c =
     let o = c.opening-opening.ensures.same in
-    let s = strict_shut _ _ _ _ _ (rw c.in-Shut.is at o) in
-    (s.0, (s.1, c.clear.ensures))
+    let s = strict_shut _ _ _ _ _ (rw c.in-Shut.is at o) in record { answer = s.0; sheet = s.1; room = c.clear.ensures }
 
 pub returns-in-Whole : goal.returns-in-Whole
 returns-in-Whole c =
     let o = c.opening-opening.ensures in
     let g = c.in-Whole.is in
     let J = c.judge_names-total.ensures in
-    let s = settled_strictly _ _ _ _ (record { due = sym (rw g at o.same); room = rw g at o.room }) _ J.0 _ _ c.settle.ensures in
-    (s.0, (s.1, J.1))
+    let s = settled_strictly _ _ _ _ (record { due = sym (rw g at o.same); room = rw g at o.room }) _ J.total _ _ c.settle.ensures in record { answer = s.0; sheet = s.1; room = J.room }

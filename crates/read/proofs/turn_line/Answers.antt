@@ -10,4 +10,4 @@ pub returns : goal.returns
 returns c =
     let g = c.leg_at-leg.ensures in
     let L = c.lay_leg_freely.ensures in
-    line_led _ _ _ _ _ _ _ _ _ _ _ _ c.in-Stands.is (c.leads.ensures ∙ rw (c.behind-here.ensures, g)) L.0 (rw g at L.1)
+    line_led _ _ _ _ _ _ _ _ _ _ _ _ c.in-Stands.is (c.leads.ensures ∙ rw (c.behind-here.ensures, g)) L.label (rw g at L.sheet)

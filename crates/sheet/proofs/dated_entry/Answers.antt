@@ -1,25 +1,30 @@
 -- `sheet::dated_entry` meets its contract. Assumes nothing.
 use borrow.Author.Tests.{le-leb, lt-leb}
 use native.Mathlib.Omega.{arith}
-use mathlib.Core.Path.{sym, ◌∙◌}
+use mathlib.Core.Path.{◌≡◌, sym, ◌∙◌}
 use borrow.Author.Rules.{part_to_end}
-use lib.ListN.{length-drop}
-use Rattle.sheet.proofs.Entries.{Fitting, fitting, too_long_lem, spoilt, whole, section_is}
+use lib.ListN.{drop, length-drop}
+use Rattle.format.specs.Bytes.{be16}
+use Rattle.sheet.proofs.Entries.{Fitting, fitted, too_long_lem, spoilt, whole, section_is}
 use Rattle.sheet.proofs.dated_entry.Goals as goal
 
 pub returns-then-not-good_date : goal.returns-then-not-good_date
 returns-then-not-good_date c =
-        let g = rw (day_at c.before.before.before, end_at c.before.before.before) at (sym c.good_date.ensures ∙ c.if-not-good_date.true) in
-    spoilt (section_is _ _) ((let it : Fitting c.args.s.now c.args.n 23 = fitting c.label_fits.ensures c.if-not-label_fits.false c.requires in it))
+    let day : c.day_of-day.result ≡ be16 (drop 5 c.args.s.now) = c.day_of-day.ensures ∙ simp part_to_end at c.get_be16.ensures.0 in
+    let last : c.day_of-end.result ≡ be16 (drop 7 c.args.s.now) = c.day_of-end.ensures ∙ simp part_to_end at c.get_be16-2.ensures.0 in
+    let g = rw (day, last) at (sym c.good_date.ensures ∙ c.if-not-good_date.true) in
+    spoilt (section_is _ _) ((let it : Fitting c.args.s.now c.args.n 23 = fitted c.label_fits.ensures c.if-not-label_fits.false c.requires in it))
     (simp (le-leb _ _ c.if-last-gt1.false, g))
 
 pub returns : goal.returns
 returns c =
-        let g = rw (day_at c.before.before.before.before.before.before.before, end_at c.before.before.before.before.before.before.before) at (sym c.good_date.ensures
+    let day : c.day_of-day.result ≡ be16 (drop 5 c.args.s.now) = c.day_of-day.ensures ∙ simp part_to_end at c.get_be16.ensures.0 in
+    let last : c.day_of-end.result ≡ be16 (drop 7 c.args.s.now) = c.day_of-end.ensures ∙ simp part_to_end at c.get_be16-2.ensures.0 in
+    let g = rw (day, last) at (sym c.good_date.ensures
     ∙ c.if-not-good_date.false) in
-    rw (simp part_to_end at c.dimensions-size.ensures, c.date_from-date.ensures, day_at c.before.before.before.before.before.before.before, end_at c.before.before.before.before.before.before.before)
+    rw (simp part_to_end at c.dimensions-size.ensures, c.date_from-date.ensures, day, last)
     (whole (section_is _ _)
-    ((let it : Fitting c.args.s.now c.args.n 23 = fitting c.label_fits.ensures c.if-not-label_fits.false c.requires in it))
+    ((let it : Fitting c.args.s.now c.args.n 23 = fitted c.label_fits.ensures c.if-not-label_fits.false c.requires in it))
     (simp (le-leb _ _ c.if-last-gt1.false, g)))
 
 pub returns-then-not-label_fits : goal.returns-then-not-label_fits
@@ -28,53 +33,53 @@ returns-then-not-label_fits c =
 
 pub bounds-s-3 : goal.bounds-s-3
 bounds-s-3 c =
-    omega (arith, (let it : Fitting c.args.s.now c.args.n 23 = fitting c.label_fits.ensures c.if-not-label_fits.false c.requires in it))
+    omega (arith, (let it : Fitting c.args.s.now c.args.n 23 = fitted c.label_fits.ensures c.if-not-label_fits.false c.requires in it))
 
 pub returns-then-last-gt1 : goal.returns-then-last-gt1
 returns-then-last-gt1 c =
-    spoilt (section_is _ _) ((let it : Fitting c.args.s.now c.args.n 23 = fitting c.label_fits.ensures c.if-not-label_fits.false c.requires in it)) (simp (lt-leb _ _ c.if-last-gt1.true))
+    spoilt (section_is _ _) ((let it : Fitting c.args.s.now c.args.n 23 = fitted c.label_fits.ensures c.if-not-label_fits.false c.requires in it)) (simp (lt-leb _ _ c.if-last-gt1.true))
 
 pub slice_bounds-get_be16-count : goal.slice_bounds-get_be16-count
 slice_bounds-get_be16-count c =
-    omega (arith, (let it : Fitting c.args.s.now c.args.n 23 = fitting c.label_fits.ensures c.if-not-label_fits.false c.requires in it))
+    omega (arith, (let it : Fitting c.args.s.now c.args.n 23 = fitted c.label_fits.ensures c.if-not-label_fits.false c.requires in it))
 
 pub slice_bounds-get_be16-start : goal.slice_bounds-get_be16-start
 slice_bounds-get_be16-start c =
-    omega (arith, (let it : Fitting c.args.s.now c.args.n 23 = fitting c.label_fits.ensures c.if-not-label_fits.false c.requires in it))
+    omega (arith, (let it : Fitting c.args.s.now c.args.n 23 = fitted c.label_fits.ensures c.if-not-label_fits.false c.requires in it))
 
 pub get_be16-requires : goal.get_be16-requires
 get_be16-requires c =
-    simp (part_to_end, length-drop) (omega (arith, (let it : Fitting c.args.s.now c.args.n 23 = fitting c.label_fits.ensures c.if-not-label_fits.false c.requires in it)))
+    simp (part_to_end, length-drop) (omega (arith, (let it : Fitting c.args.s.now c.args.n 23 = fitted c.label_fits.ensures c.if-not-label_fits.false c.requires in it)))
 
 pub slice_bounds-get_be16-count-2 : goal.slice_bounds-get_be16-count-2
 slice_bounds-get_be16-count-2 c =
-    omega (arith, (let it : Fitting c.args.s.now c.args.n 23 = fitting c.label_fits.ensures c.if-not-label_fits.false c.requires in it))
+    omega (arith, (let it : Fitting c.args.s.now c.args.n 23 = fitted c.label_fits.ensures c.if-not-label_fits.false c.requires in it))
 
 pub slice_bounds-get_be16-start-2 : goal.slice_bounds-get_be16-start-2
 slice_bounds-get_be16-start-2 c =
-    omega (arith, (let it : Fitting c.args.s.now c.args.n 23 = fitting c.label_fits.ensures c.if-not-label_fits.false c.requires in it))
+    omega (arith, (let it : Fitting c.args.s.now c.args.n 23 = fitted c.label_fits.ensures c.if-not-label_fits.false c.requires in it))
 
 pub get_be16-requires-2 : goal.get_be16-requires-2
 get_be16-requires-2 c =
-    simp (part_to_end, length-drop) (omega (arith, (let it : Fitting c.args.s.now c.args.n 23 = fitting c.label_fits.ensures c.if-not-label_fits.false c.requires in it)))
+    simp (part_to_end, length-drop) (omega (arith, (let it : Fitting c.args.s.now c.args.n 23 = fitted c.label_fits.ensures c.if-not-label_fits.false c.requires in it)))
 
 pub bounds-s-4 : goal.bounds-s-4
 bounds-s-4 c =
-    omega (arith, (let it : Fitting c.args.s.now c.args.n 23 = fitting c.label_fits.ensures c.if-not-label_fits.false c.requires in it))
+    omega (arith, (let it : Fitting c.args.s.now c.args.n 23 = fitted c.label_fits.ensures c.if-not-label_fits.false c.requires in it))
 
 pub bounds-s-4-2 : goal.bounds-s-4-2
 bounds-s-4-2 c =
-    omega (arith, (let it : Fitting c.args.s.now c.args.n 23 = fitting c.label_fits.ensures c.if-not-label_fits.false c.requires in it))
+    omega (arith, (let it : Fitting c.args.s.now c.args.n 23 = fitted c.label_fits.ensures c.if-not-label_fits.false c.requires in it))
 
 pub slice_bounds-dimensions-count : goal.slice_bounds-dimensions-count
 slice_bounds-dimensions-count c =
-    omega (arith, (let it : Fitting c.args.s.now c.args.n 23 = fitting c.label_fits.ensures c.if-not-label_fits.false c.requires in it))
+    omega (arith, (let it : Fitting c.args.s.now c.args.n 23 = fitted c.label_fits.ensures c.if-not-label_fits.false c.requires in it))
 
 pub slice_bounds-dimensions-start : goal.slice_bounds-dimensions-start
 slice_bounds-dimensions-start c =
-    omega (arith, (let it : Fitting c.args.s.now c.args.n 23 = fitting c.label_fits.ensures c.if-not-label_fits.false c.requires in it))
+    omega (arith, (let it : Fitting c.args.s.now c.args.n 23 = fitted c.label_fits.ensures c.if-not-label_fits.false c.requires in it))
 
 pub dimensions-size-requires : goal.dimensions-size-requires
 dimensions-size-requires c =
     simp (part_to_end, length-drop) (omega
-    (arith, (let it : Fitting c.args.s.now c.args.n 23 = fitting c.label_fits.ensures c.if-not-label_fits.false c.requires in it)))
+    (arith, (let it : Fitting c.args.s.now c.args.n 23 = fitted c.label_fits.ensures c.if-not-label_fits.false c.requires in it)))

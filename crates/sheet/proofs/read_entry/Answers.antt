@@ -4,20 +4,19 @@ use native.Mathlib.Omega.{arith}
 use Prim.Native.Nat.{ℕ, ◌+◌, ◌≤◌}
 use mathlib.Core.Path.{◌≡◌, sym, ◌∙◌}
 use mathlib.Core.Bool.{true}
+use mathlib.Core.List.{List}
 use lib.ListN.{length, drop}
-use Rattle.format.specs.Bytes.{be16}
+use Rattle.format.specs.Bytes.{be16, Bytes}
 use Rattle.format.specs.Sheet.{Entry, framed, leg_entry, station_entry, section_in, error_entry, entry_of}
 use Rattle.format.proofs.SheetLaws.{frame}
 use Rattle.sheet.specs.Seen.{Told, EntryTold}
 use Rattle.sheet.specs.declared.Entry.{Entry as Found}
 use Rattle.sheet.proofs.read_entry.Goals as goal
 
--- what is told of a body of its kind is told of the record
-told_at : (y : tie.After-size-of) (r : Found) (f : ℕ → Entry) → Told r y.before.before.before.before.before.args.s.now (f y.type_size.result)
-    → f (be16 y.before.before.before.before.before.args.s.now) ≡ entry_of y.before.before.before.before.before.args.version
-    y.before.before.before.before.before.args.s.now
-    → EntryTold r y.before.before.before.before.before.args.version y.before.before.before.before.before.args.s.now
-told_at y r f T e = entry_told _ _ (λ i. (y.before.before.before.before.shared-slice-known.given i).fits) r (rw (size_at_lem y, e) at T)
+-- what is told of a body of n bytes of its kind is told of the record
+told_at : (version : ℕ) (s : List ℕ) → Bytes s → (n : ℕ) → n ≡ be16 s → (r : Found) (f : ℕ → Entry) → Told r s (f n)
+    → f (be16 s) ≡ entry_of version s → EntryTold r version s
+told_at version s b n size r f T e = entry_told version s b r (rw (size, e) at T)
 
 pub returns-then-not-is_framed : goal.returns-then-not-is_framed
 returns-then-not-is_framed c =
@@ -33,7 +32,7 @@ leg_entry-requires c = (let it : 2 + c.size_of-n.result ≤ length c.args.s.now 
 
 pub returns-then-kind-eq1 : goal.returns-then-kind-eq1
 returns-then-kind-eq1 c =
-    told_at c.before.before.before c.leg_entry.result
+    told_at _ _ (λ i. (c.type_inv.s i).fits) _ (c.size_of-n.ensures ∙ c.get_be16.ensures.0) c.leg_entry.result
     (λ n. leg_entry n (drop 2 c.args.s.now)) c.leg_entry.ensures
     (kind_leg _ _ ((let it : framed c.args.s.now ≡ true = sym c.is_framed.ensures ∙ c.if-not-is_framed.false in it)) c.if-kind-eq1.true)
 
@@ -42,7 +41,7 @@ station_entry-requires c = (let it : 2 + c.size_of-n.result ≤ length c.args.s.
 
 pub returns-then-kind-eq2 : goal.returns-then-kind-eq2
 returns-then-kind-eq2 c =
-    told_at c.before.before.before.before c.station_entry.result
+    told_at _ _ (λ i. (c.type_inv.s i).fits) _ (c.size_of-n.ensures ∙ c.get_be16.ensures.0) c.station_entry.result
     (λ n. station_entry n (drop 2 c.args.s.now)) c.station_entry.ensures
     (kind_station _ _ ((let it : framed c.args.s.now ≡ true = sym c.is_framed.ensures ∙ c.if-not-is_framed.false in it)) c.if-kind-eq2.true)
 
@@ -51,7 +50,7 @@ section_entry-requires c = (let it : 2 + c.size_of-n.result ≤ length c.args.s.
 
 pub returns-then-kind-eq3 : goal.returns-then-kind-eq3
 returns-then-kind-eq3 c =
-    told_at c.before.before.before.before.before c.section_entry.result
+    told_at _ _ (λ i. (c.type_inv.s i).fits) _ (c.size_of-n.ensures ∙ c.get_be16.ensures.0) c.section_entry.result
     (λ n. section_in c.args.version n
     (drop 2 c.args.s.now)) c.section_entry.ensures
     (kind_section _ _ ((let it : framed c.args.s.now ≡ true = sym c.is_framed.ensures ∙ c.if-not-is_framed.false in it)) c.if-kind-eq3.true)
@@ -61,7 +60,7 @@ error_entry-requires c = (let it : 2 + c.size_of-n.result ≤ length c.args.s.no
 
 pub returns-then-kind-eq4 : goal.returns-then-kind-eq4
 returns-then-kind-eq4 c =
-    told_at c.before.before.before.before.before.before c.error_entry.result
+    told_at _ _ (λ i. (c.type_inv.s i).fits) _ (c.size_of-n.ensures ∙ c.get_be16.ensures.0) c.error_entry.result
     (λ n. error_entry n (drop 2 c.args.s.now))
     c.error_entry.ensures (kind_error _ _ ((let it : framed c.args.s.now ≡ true = sym c.is_framed.ensures ∙ c.if-not-is_framed.false in it)) c.if-kind-eq4.true)
 

@@ -4,7 +4,7 @@ use native.Mathlib.Omega.{arith}
 use mathlib.Core.Path.{sym, ◌∙◌}
 use borrow.Author.Rules.{part_to_end}
 use lib.ListN.{length-drop}
-use Rattle.sheet.proofs.Entries.{Fitting, fitting, too_long_lem, spoilt, whole, undated_is}
+use Rattle.sheet.proofs.Entries.{Fitting, fitted, too_long_lem, spoilt, whole, undated_is}
 use Rattle.sheet.proofs.undated_entry.Goals as goal
 
 pub returns-then-not-label_fits : goal.returns-then-not-label_fits
@@ -13,25 +13,25 @@ returns-then-not-label_fits c =
 
 pub bounds-s-3 : goal.bounds-s-3
 bounds-s-3 c =
-    omega (arith, (let it : Fitting c.args.s.now c.args.n 18 = fitting c.label_fits.ensures c.if-not-label_fits.false c.requires in it))
+    omega (arith, (let it : Fitting c.args.s.now c.args.n 18 = fitted c.label_fits.ensures c.if-not-label_fits.false c.requires in it))
 
 pub returns-then-last-gt1 : goal.returns-then-last-gt1
 returns-then-last-gt1 c =
-    spoilt (undated_is _ _) ((let it : Fitting c.args.s.now c.args.n 18 = fitting c.label_fits.ensures c.if-not-label_fits.false c.requires in it)) (lt-leb _ _ c.if-last-gt1.true)
+    spoilt (undated_is _ _) ((let it : Fitting c.args.s.now c.args.n 18 = fitted c.label_fits.ensures c.if-not-label_fits.false c.requires in it)) (lt-leb _ _ c.if-last-gt1.true)
 
 pub slice_bounds-dimensions-count : goal.slice_bounds-dimensions-count
 slice_bounds-dimensions-count c =
-    omega (arith, (let it : Fitting c.args.s.now c.args.n 18 = fitting c.label_fits.ensures c.if-not-label_fits.false c.requires in it))
+    omega (arith, (let it : Fitting c.args.s.now c.args.n 18 = fitted c.label_fits.ensures c.if-not-label_fits.false c.requires in it))
 
 pub slice_bounds-dimensions-start : goal.slice_bounds-dimensions-start
 slice_bounds-dimensions-start c =
-    omega (arith, (let it : Fitting c.args.s.now c.args.n 18 = fitting c.label_fits.ensures c.if-not-label_fits.false c.requires in it))
+    omega (arith, (let it : Fitting c.args.s.now c.args.n 18 = fitted c.label_fits.ensures c.if-not-label_fits.false c.requires in it))
 
 pub dimensions-size-requires : goal.dimensions-size-requires
 dimensions-size-requires c =
-    simp (part_to_end, length-drop) (omega (arith, (let it : Fitting c.args.s.now c.args.n 18 = fitting c.label_fits.ensures c.if-not-label_fits.false c.requires in it)))
+    simp (part_to_end, length-drop) (omega (arith, (let it : Fitting c.args.s.now c.args.n 18 = fitted c.label_fits.ensures c.if-not-label_fits.false c.requires in it)))
 
 pub returns : goal.returns
 returns c =
     rw (simp part_to_end at c.dimensions-size.ensures)
-    (whole (undated_is _ _) ((let it : Fitting c.args.s.now c.args.n 18 = fitting c.label_fits.ensures c.if-not-label_fits.false c.requires in it)) (le-leb _ _ c.if-last-gt1.false))
+    (whole (undated_is _ _) ((let it : Fitting c.args.s.now c.args.n 18 = fitted c.label_fits.ensures c.if-not-label_fits.false c.requires in it)) (le-leb _ _ c.if-last-gt1.false))

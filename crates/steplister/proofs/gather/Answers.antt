@@ -1,4 +1,5 @@
 -- `steplister::gather` meets its contract. Assumes nothing.
+use borrow.Enum.Refused.{opened}
 use borrow.Author.Rules.{rules}
 use native.Mathlib.Omega.{arith}
 use mathlib.Core.Path.{refl, sym}
@@ -18,7 +19,7 @@ shape_of-held-in_default c = let k = c.loop-size.invariant.1 in search rules
 pub returns-in_default : goal.returns-in_default
 returns-in_default c =
         let I = c.loop-size.invariant in
-    gathered_all I.0 I.2 c.next_at-taken.ensures c.in_default.in_default-own.keys2
+    gathered_all I.0 I.2 c.next_at-taken.ensures (opened c.in_default.in_default-own.keys2)
 
 pub slice_bounds-lay_in-end : goal.slice_bounds-lay_in-end
 slice_bounds-lay_in-end c =

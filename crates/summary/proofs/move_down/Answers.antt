@@ -13,8 +13,8 @@ pub loop-done-preserved : goal.loop-done-preserved
 loop-done-preserved c =
     let done = c.loop-done.done in
     let part = c.part_of-part.result in (
-      omega (arith, c.before.before.before.before.before.before),
-      c.write_bits.auto.0 ∙ c.loop-done.invariant.1,
+      omega (arith),
+      c.write_bits.auto.words ∙ c.loop-done.invariant.1,
       moved_down done part c.read_bits-v.result c.requires.0 c.loop-done.invariant.2
           c.read_bits-v.ensures c.write_bits.ensures,
     )

@@ -13,9 +13,9 @@ pub loop-left-preserved : goal.loop-left-preserved
 loop-left-preserved c =
     let left = c.loop-left.left in
     let part = c.part_of-part.result in
-    let h : left - part + part ≡ left = omega (arith, c.before.before.before.before.before.before) in (
-      omega (arith, c.before.before.before.before.before.before),
-      c.write_bits.auto.0 ∙ c.loop-left.invariant.1,
+    let h : left - part + part ≡ left = omega (arith) in (
+      omega (arith),
+      c.write_bits.auto.words ∙ c.loop-left.invariant.1,
       moved_up (left - part) left part c.read_bits-v.result c.requires.0 h c.loop-left.invariant.0 c.loop-left.invariant.2
           c.read_bits-v.ensures c.write_bits.ensures,
     )

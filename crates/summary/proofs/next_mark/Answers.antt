@@ -11,15 +11,15 @@ pub overflow_add-at : goal.overflow_add-at
 overflow_add-at c =
     let l = c.loop-j in
     let g : l.s + c.least_bit.result < 64 =
-    turn_in c.args.words.now c.args.a l.j l.s c.least_bit.result l.invariant.0 (c.shared_slice_known-in-loop-j-1.given l.j).fits c.least_bit.ensures.0 in
-    omega (arith, c.before.before.before, c.words_for-w.ensures, c.before.before.before.before.before.before.before)
+    turn_in c.args.words.now c.args.a l.j l.s c.least_bit.result l.invariant.0 (c.type_inv.words l.j).fits c.least_bit.ensures.0 in
+    omega (arith, c.words_for-w.ensures)
 
 pub overflow_add-at-then-rest-gt0 : goal.overflow_add-at-then-rest-gt0
 overflow_add-at-then-rest-gt0 c =
     let l = c.loop-j in
     let g : l.s + c.least_bit.result < 64 =
-    turn_in c.args.words.now c.args.a l.j l.s c.least_bit.result l.invariant.0 (c.shared_slice_known-in-loop-j-1.given l.j).fits c.least_bit.ensures.0 in
-    omega (arith, c.before.before.before, c.words_for-w.ensures, c.before.before.before.before.before.before.before)
+    turn_in c.args.words.now c.args.a l.j l.s c.least_bit.result l.invariant.0 (c.type_inv.words l.j).fits c.least_bit.ensures.0 in
+    omega (arith, c.words_for-w.ensures)
 
 pub returns-then-at-n : goal.returns-then-at-n
 returns-then-at-n c =
@@ -29,7 +29,7 @@ returns-then-at-n c =
     let a = c.args.a in
     let t = c.least_bit.result in
     let L = c.least_bit.ensures.0 in
-    let fits = (c.shared_slice_known-in-loop-j-1.given l.j).fits in
+    let fits = (c.type_inv.words l.j).fits in
     sym (next_at_lem ws n a (l.j * 64 + (l.s + t)) (omega (arith, l.invariant.1)) c.if-at-n.true (turn_clear ws a l.j l.s t l.invariant.0 fits L l.invariant.2)
     (turn_set ws a l.j l.s t l.invariant.0 fits L))
 
@@ -41,7 +41,7 @@ returns-then-rest-gt0 c =
     let a = c.args.a in
     let t = c.least_bit.result in
     let L = c.least_bit.ensures.0 in
-    let fits = (c.shared_slice_known-in-loop-j-1.given l.j).fits in
+    let fits = (c.type_inv.words l.j).fits in
     sym (next_none ws n a (l.j * 64 + (l.s + t)) c.if-at-n.false (turn_clear ws a l.j l.s t l.invariant.0 fits L l.invariant.2))
 
 pub loop-j-preserved : goal.loop-j-preserved

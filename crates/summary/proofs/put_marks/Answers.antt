@@ -22,7 +22,7 @@ slice_bounds-rest-start c = omega (arith, ((let it : Walked c.requires.1.version
 
 pub mark_of-mark-requires : goal.mark_of-mark-requires
 mark_of-mark-requires c =
-    let m = mark_there _ _ ((let it : Bytes (drop c.loop-at.at c.args.s.now) = bytes_drop c.args.s.now (λ i. (c.shared_slice_known-1.given i).fits) c.loop-at.at in it)) _ _ ((let it : There c.requires.1.version (drop c.loop-at.at c.args.s.now) (2 + be16 (drop c.loop-at.at c.args.s.now)) = walked_there ((let it : Walked c.requires.1.version c.args.s.now c.args.begin c.loop-at.at c.loop-at.number = (c.loop-at.invariant.1 c.requires.1.version c.requires.1.good).0 in it)) c.requires.1.good c.loop-at-test.true in it)).same in simp part_to_end (m.1, m.2)
+    let m = mark_there _ _ ((let it : Bytes (drop c.loop-at.at c.args.s.now) = bytes_drop c.args.s.now (λ i. (c.type_inv.s i).fits) c.loop-at.at in it)) _ _ ((let it : There c.requires.1.version (drop c.loop-at.at c.args.s.now) (2 + be16 (drop c.loop-at.at c.args.s.now)) = walked_there ((let it : Walked c.requires.1.version c.args.s.now c.args.begin c.loop-at.at c.loop-at.number = (c.loop-at.invariant.1 c.requires.1.version c.requires.1.good).0 in it)) c.requires.1.good c.loop-at-test.true in it)).same in simp part_to_end (m.1, m.2)
 
 pub overflow_add-first : goal.overflow_add-first
 overflow_add-first c =
@@ -38,7 +38,7 @@ overflow_add-number c =
 
 pub get_be16-requires : goal.get_be16-requires
 get_be16-requires c =
-    simp part_to_end (let h = (let it : 3 ≤ length (drop c.loop-at.at c.args.s.now) = (mark_there _ _ ((let it : Bytes (drop c.loop-at.at c.args.s.now) = bytes_drop c.args.s.now (λ i. (c.shared_slice_known-1.given i).fits) c.loop-at.at in it)) _ _ ((let it : There c.requires.1.version (drop c.loop-at.at c.args.s.now) (2 + be16 (drop c.loop-at.at c.args.s.now)) = walked_there ((let it : Walked c.requires.1.version c.args.s.now c.args.begin c.loop-at.at c.loop-at.number = (c.loop-at.invariant.1 c.requires.1.version c.requires.1.good).0 in it)) c.requires.1.good c.loop-at-test.true in it)).same).1 in it) in omega arith)
+    simp part_to_end (let h = (let it : 3 ≤ length (drop c.loop-at.at c.args.s.now) = (mark_there _ _ ((let it : Bytes (drop c.loop-at.at c.args.s.now) = bytes_drop c.args.s.now (λ i. (c.type_inv.s i).fits) c.loop-at.at in it)) _ _ ((let it : There c.requires.1.version (drop c.loop-at.at c.args.s.now) (2 + be16 (drop c.loop-at.at c.args.s.now)) = walked_there ((let it : Walked c.requires.1.version c.args.s.now c.args.begin c.loop-at.at c.loop-at.number = (c.loop-at.invariant.1 c.requires.1.version c.requires.1.good).0 in it)) c.requires.1.good c.loop-at-test.true in it)).same).1 in it) in omega arith)
 
 pub overflow_add-at : goal.overflow_add-at
 overflow_add-at c =
@@ -54,12 +54,12 @@ loop-at-smaller c =
 
 pub loop-at-preserved : goal.loop-at-preserved
 loop-at-preserved c = (
-  c.write_bits.auto.0 ∙ c.loop-at.invariant.0,
+  c.write_bits.auto.words ∙ c.loop-at.invariant.0,
   λ v g.
       let W = c.loop-at.invariant.1 v g in
       let T = walked_there W.0 g c.loop-at-test.true in
       let mark = simp part_to_end at c.mark_of-mark.ensures in
-      let m = (mark_there _ _ ((let it : Bytes (drop c.loop-at.at c.args.s.now) = bytes_drop c.args.s.now (λ i. (c.shared_slice_known-1.given i).fits) c.loop-at.at in it)) _ _ T.same).0 in (
+      let m = (mark_there _ _ ((let it : Bytes (drop c.loop-at.at c.args.s.now) = bytes_drop c.args.s.now (λ i. (c.type_inv.s i).fits) c.loop-at.at in it)) _ _ T.same).0 in (
         rw ((let it : c.size_of.result ≡ be16 (drop c.loop-at.at c.args.s.now) = c.size_of.ensures ∙ simp part_to_end at c.get_be16.ensures.0 in it)) (walked_next W.0 _ T),
         marked_next (marks_in (records_of v (drop c.args.begin c.args.s.now)).records) c.loop-at.number c.mark_of-mark.result W.1
             (mark ∙ ap one (sym m ∙ sym (walked_mark W.0 _ T))) c.write_bits.ensures,

@@ -19,8 +19,8 @@ loop-j-preserved c =
     let l = c.loop-j in
     let w = c.args.w in
     let h : l.j < w = c.loop-j-test.true in
-    let p : w + l.j < length l.words = omega (arith, c.before.before) in
-    let g : l.sum + c.ones_of-sum.result ≤ 64 * (l.j + 1) = omega (arith, c.before.before, c.ones_of-sum.ensures.1) in (
+    let p : w + l.j < length l.words = omega (arith) in
+    let g : l.sum + c.ones_of-sum.result ≤ 64 * (l.j + 1) = omega (arith, c.ones_of-sum.ensures.1) in (
       omega arith,
       length-set l.words (w + l.j) l.sum ∙ l.invariant.1,
       totalled_sum l.j l.sum c.ones_of-sum.result h l.invariant.2 l.invariant.4 c.ones_of-sum.ensures.0,

@@ -9,4 +9,4 @@ returns-then-size-part c =
 
 pub returns : goal.returns
 returns c =
-    λ i h. read_two (c.args.words.now) c.args.k c.args.size i (c.shared_slice_known-1.given (c.args.k / 64)).fits c.requires.1 c.if-size-part.false h
+    λ i h. read_two (c.args.words.now) c.args.k c.args.size i (c.type_inv.words (c.args.k / 64)).fits c.requires.1 c.if-size-part.false h

@@ -14,14 +14,14 @@ put_marks-requires c =
       record {
         version = sheet_version;
         good = C.good;
-        room = omega (arith, C.many, c.requires, c.move_bits.auto.0);
+        room = omega (arith, C.many, c.requires, c.move_bits.auto.words);
         few = omega (arith, C.many, c.requires);
       },
     )
 
 pub returns : goal.returns
 returns c =
-        let C = c.requires.5 in
+    let C = c.requires.5 in
     replaced c.args.words.now c.move_bits.new.words c.put_marks.new.words c.finish.new.words (marks_in (records_of sheet_version c.args.new.now).records) c.args.first c.args.from c.args.rest c.args.added
-    (length_marks (records_of sheet_version c.args.new.now).records ∙ C.many) c.requires.0 (c.put_marks.auto.0 ∙ c.move_bits.auto.0)
+    (length_marks (records_of sheet_version c.args.new.now).records ∙ C.many) c.requires.0 (c.put_marks.auto.words ∙ c.move_bits.auto.words)
     c.move_bits.ensures (put_to C.many (c.put_marks.ensures sheet_version C.good)) c.finish.ensures

@@ -23,11 +23,12 @@ summarize_records-requires c =
 pub returns-in-Flawed : goal.returns-in-Flawed
 returns-in-Flawed c =
     let F = rw c.in-Flawed.is at c.read_front-front.ensures in
-        whole_flawed _ c.args.sheet.now c.args.words.now c.version_of-version.ensures F
+    let z = whole_flawed _ c.args.sheet.now c.args.words.now c.version_of-version.ensures F in
+    record { answer = z.0; words = z.1 }
 
 pub returns-in-Whole : goal.returns-in-Whole
 unfolding summary_outcome summary_words
 returns-in-Whole c =
     let F = rw c.in-Whole.is at c.read_front-front.ensures in
-        let W = whole_records _ c.args.sheet.now c.args.words.now c.version_of-version.ensures F in
-    let E = c.summarize_records.ensures in record { answer = E.0 ∙ ap (λ (x : Result). made_outcome x (length c.args.words.now)) (sym W); words = E.1 ∙ ap (λ (x : Result). made_words x c.args.words.now) (sym W) }
+    let W = whole_records _ c.args.sheet.now c.args.words.now c.version_of-version.ensures F in
+    let E = c.summarize_records.ensures in record { answer = E.answer ∙ ap (λ (x : Result). made_outcome x (length c.args.words.now)) (sym W); words = E.words ∙ ap (λ (x : Result). made_words x c.args.words.now) (sym W) }

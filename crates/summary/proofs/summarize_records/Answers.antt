@@ -9,8 +9,9 @@ use Rattle.summary.proofs.summarize_records.Goals as goal
 
 pub returns-then-words-least : goal.returns-then-words-least
 returns-then-words-least c =
-        let C = rw c.in-Whole.is at c.count_records-counted.ensures in
-    make_short (records_of c.args.version (drop c.args.begin c.args.sheet.now)) c.args.words.now _ c.words_for-least.result C.good C.many c.words_for-least.ensures c.if-words-least.true
+    let C = rw c.in-Whole.is at c.count_records-counted.ensures in
+    let z = make_short (records_of c.args.version (drop c.args.begin c.args.sheet.now)) c.args.words.now _ c.words_for-least.result C.good C.many c.words_for-least.ensures c.if-words-least.true in
+    record { answer = z.0; words = z.1 }
 
 pub put_marks-requires : goal.put_marks-requires
 put_marks-requires c =
@@ -27,17 +28,19 @@ put_marks-requires c =
 pub finish-requires : goal.finish-requires
 finish-requires c =
     let C = rw c.in-Whole.is at c.count_records-counted.ensures in
-    (omega (arith, c.words_for-least.ensures, c.if-words-least.false, c.put_marks.auto.0), omega (arith, C.few, c.well_formed))
+    (omega (arith, c.words_for-least.ensures, c.if-words-least.false, c.put_marks.auto.words), omega (arith, C.few, c.well_formed))
 
 pub returns-in-Flawed : goal.returns-in-Flawed
 returns-in-Flawed c =
-        let C = rw c.in-Flawed.is at c.count_records-counted.ensures in
-    make_flawed (records_of c.args.version (drop c.args.begin c.args.sheet.now)) c.args.words.now _ C
+    let C = rw c.in-Flawed.is at c.count_records-counted.ensures in
+    let z = make_flawed (records_of c.args.version (drop c.args.begin c.args.sheet.now)) c.args.words.now _ C in
+    record { answer = z.0; words = z.1 }
 
 pub returns-else-words-least : goal.returns-else-words-least
 returns-else-words-least c =
-        let C = rw c.in-Whole.is at c.count_records-counted.ensures in
+    let C = rw c.in-Whole.is at c.count_records-counted.ensures in
     let x = records_of c.args.version (drop c.args.begin c.args.sheet.now) in
-    make_done x c.args.words.now _ c.words_for-least.result C.good C.many c.words_for-least.ensures c.finish.new.words c.if-words-least.false
-    (made c.args.words.now c.put_marks.new.words c.finish.new.words (marks_in x.records) _ (length_marks x.records ∙ C.many) c.put_marks.auto.0
-    (put_to C.many (c.put_marks.ensures c.args.version C.good)) c.finish.ensures)
+    let z = make_done x c.args.words.now _ c.words_for-least.result C.good C.many c.words_for-least.ensures c.finish.new.words c.if-words-least.false
+    (made c.args.words.now c.put_marks.new.words c.finish.new.words (marks_in x.records) _ (length_marks x.records ∙ C.many) c.put_marks.auto.words
+    (put_to C.many (c.put_marks.ensures c.args.version C.good)) c.finish.ensures) in
+    record { answer = z.0; words = z.1 }

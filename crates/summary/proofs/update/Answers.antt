@@ -6,11 +6,13 @@ use Rattle.summary.proofs.update.Goals as goal
 
 pub returns-then-n-first : goal.returns-then-n-first
 returns-then-n-first c =
-    update_past c.args.words.now c.args.new.now c.args.records c.args.first c.args.count (omega (arith, c.if-n-first.true))
+    let z = update_past c.args.words.now c.args.new.now c.args.records c.args.first c.args.count (omega (arith, c.if-n-first.true)) in
+    record { answer = z.0; words = z.1 }
 
 pub returns-then-n-first-2 : goal.returns-then-n-first-2
 returns-then-n-first-2 c =
-    update_past c.args.words.now c.args.new.now c.args.records c.args.first c.args.count (omega (arith, c.if-n-first-2.true, c.if-n-first.false))
+    let z = update_past c.args.words.now c.args.new.now c.args.records c.args.first c.args.count (omega (arith, c.if-n-first-2.true, c.if-n-first.false)) in
+    record { answer = z.0; words = z.1 }
 
 pub update_marks-requires : goal.update_marks-requires
 update_marks-requires c =
@@ -19,9 +21,10 @@ update_marks-requires c =
 
 pub returns-in-Flawed : goal.returns-in-Flawed
 returns-in-Flawed c =
-        let C = rw c.in-Flawed.is at c.count_records-counted.ensures in
+    let C = rw c.in-Flawed.is at c.count_records-counted.ensures in
     let h : c.args.first + c.args.count ≤ c.args.records = omega (arith, c.if-n-first-2.false, c.if-n-first.false) in
-    update_flawed c.args.words.now c.args.new.now c.args.records c.args.first c.args.count h _ C
+    let z = update_flawed c.args.words.now c.args.new.now c.args.records c.args.first c.args.count h _ C in
+    record { answer = z.0; words = z.1 }
 
 pub returns-in-Whole : goal.returns-in-Whole
 unfolding update_outcome

@@ -8,19 +8,18 @@ use Rattle.viewer.proofs.far_place.Goals as goal
 
 pub returns-then-is_far : goal.returns-then-is_far
 returns-then-is_far c =
-        far_first (c.args.c.x -ℤ c.args.origin.x) (c.args.c.y -ℤ c.args.origin.y) (c.args.c.z -ℤ c.args.origin.z) (sym ((let it : let c.args = c.args in c.is_far.result ≡ ltb farthest (nat_abs (c.args.c.x -ℤ c.args.origin.x)) =     came_far c.args.c.x c.args.origin.x _ c.struct_told-1.given.0.1 c.struct_told-2-1.given.0.1 c.is_far.ensures in it)) ∙ c.if-is_far.true)
+    far_first (c.args.c.x -ℤ c.args.origin.x) (c.args.c.y -ℤ c.args.origin.y) (c.args.c.z -ℤ c.args.origin.z) (sym ((let it : c.is_far.result ≡ ltb farthest (nat_abs (c.args.c.x -ℤ c.args.origin.x)) =     came_far c.args.c.x c.args.origin.x _ c.struct_told-1.given.0.1 c.struct_told-2-1.given.0.1 c.is_far.ensures in it)) ∙ c.if-is_far.true)
 
 pub returns-then-is_far-2 : goal.returns-then-is_far-2
 returns-then-is_far-2 c =
-            far_second (c.args.c.x -ℤ c.args.origin.x) (c.args.c.y -ℤ c.args.origin.y) (c.args.c.z -ℤ c.args.origin.z)
-    (sym (x_at c.before.before.before.before.before) ∙ c.if-is_far.false)
-    (sym ((let it : let c.args = c.args in c.is_far-2.result ≡ ltb farthest (nat_abs (c.args.c.y -ℤ c.args.origin.y)) =     came_far c.args.c.y c.args.origin.y _ c.struct_told-3-1.given.1.0.1 c.struct_told-4-1.given.1.0.1 c.is_far-2.ensures in it)) ∙ c.if-is_far-2.true)
+    far_second (c.args.c.x -ℤ c.args.origin.x) (c.args.c.y -ℤ c.args.origin.y) (c.args.c.z -ℤ c.args.origin.z)
+    (sym (let it : c.is_far.result ≡ ltb farthest (nat_abs (c.args.c.x -ℤ c.args.origin.x)) = came_far c.args.c.x c.args.origin.x _ c.struct_told-1.given.0.1 c.struct_told-2-1.given.0.1 c.is_far.ensures in it) ∙ c.if-is_far.false)
+    (sym ((let it : c.is_far-2.result ≡ ltb farthest (nat_abs (c.args.c.y -ℤ c.args.origin.y)) =     came_far c.args.c.y c.args.origin.y _ c.struct_told-3-1.given.1.0.1 c.struct_told-4-1.given.1.0.1 c.is_far-2.ensures in it)) ∙ c.if-is_far-2.true)
 
 pub returns : goal.returns
 returns c =
-                far_third (c.args.c.x -ℤ c.args.origin.x) (c.args.c.y -ℤ c.args.origin.y) (c.args.c.z -ℤ c.args.origin.z)
-    (sym (x_at c.before.before.before.before.before.before.before.before) ∙ c.if-is_far.false)
-    (sym (y_at c.before.before.before.before) ∙ c.if-is_far-2.false)
+    far_third (c.args.c.x -ℤ c.args.origin.x) (c.args.c.y -ℤ c.args.origin.y) (c.args.c.z -ℤ c.args.origin.z)
+    (sym (let it : c.is_far.result ≡ ltb farthest (nat_abs (c.args.c.x -ℤ c.args.origin.x)) = came_far c.args.c.x c.args.origin.x _ c.struct_told-1.given.0.1 c.struct_told-2-1.given.0.1 c.is_far.ensures in it) ∙ c.if-is_far.false)
+    (sym (let it : c.is_far-2.result ≡ ltb farthest (nat_abs (c.args.c.y -ℤ c.args.origin.y)) = came_far c.args.c.y c.args.origin.y _ c.struct_told-3-1.given.1.0.1 c.struct_told-4-1.given.1.0.1 c.is_far-2.ensures in it) ∙ c.if-is_far-2.false)
     _
-    ((let it : let c.args = c.args in
-    c.is_far-3.result ≡ ltb farthest (nat_abs (c.args.c.z -ℤ c.args.origin.z)) =     came_far c.args.c.z c.args.origin.z _ c.struct_told-5-1.given.1.1.0.1 c.struct_told-6-1.given.1.1.0.1 c.is_far-3.ensures in it))
+    ((let it : c.is_far-3.result ≡ ltb farthest (nat_abs (c.args.c.z -ℤ c.args.origin.z)) =     came_far c.args.c.z c.args.origin.z _ c.struct_told-5-1.given.1.1.0.1 c.struct_told-6-1.given.1.1.0.1 c.is_far-3.ensures in it))

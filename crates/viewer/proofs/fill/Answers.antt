@@ -16,7 +16,7 @@ first_place-at-requires c = omega (arith, (walk_starts c.args.sheet.now c.requir
 
 pub loop-at-init : goal.loop-at-init
 loop-at-init c =
-        filling_starts c.args.origin c.args.sheet.now c.args.out.now _ c.requires c.first_place-at.ensures
+    filling_starts c.args.origin c.args.sheet.now c.args.out.now _ c.requires c.first_place-at.ensures
 
 pub slice_bounds-rest-count : goal.slice_bounds-rest-count
 slice_bounds-rest-count c = omega (arith, c.loop-at-test.true)
@@ -47,17 +47,17 @@ slice_bounds-put_leg-start c = omega (arith, c.loop-at.invariant.room)
 
 pub put_leg-requires : goal.put_leg-requires
 put_leg-requires c =
-        let e = simp part_to_end at c.if-rest-eq1.true in
+    let e = simp part_to_end at c.if-rest-eq1.true in
     simp part_to_end (leg_needs c.loop-at.invariant c.loop-at-test.true e)
 
 pub overflow_add-k : goal.overflow_add-k
 overflow_add-k c =
-        let e = simp part_to_end at c.if-rest-eq1.true in
+    let e = simp part_to_end at c.if-rest-eq1.true in
     omega (arith, leg_room c.loop-at.invariant c.loop-at-test.true e, c.loop-at.invariant.kept, c.well_formed)
 
 pub overflow_add-at : goal.overflow_add-at
 overflow_add-at c =
-        let T = turn_at c.before.before.before.before.before.before.before.before in
+    let T = (let it : Turn c.args.sheet.now c.loop-at.at c.loop-at.invariant.left = filling_turn c.loop-at.invariant c.loop-at-test.true in it) in
     omega (arith, (let it : c.size_at-size.result ≡ 2 + be16 (drop c.loop-at.at c.args.sheet.now) = simp part_to_end at c.size_at-size.ensures in it), T.next.inside, c.well_formed)
 
 pub loop-at-smaller-then-rest-eq1 : goal.loop-at-smaller-then-rest-eq1
@@ -67,7 +67,7 @@ loop-at-smaller-then-rest-eq1 c =
 
 pub loop-at-preserved-then-rest-eq1 : goal.loop-at-preserved-then-rest-eq1
 loop-at-preserved-then-rest-eq1 c =
-            let e = simp part_to_end at c.if-rest-eq1.true in
+    let e = simp part_to_end at c.if-rest-eq1.true in
     let p = simp (part_to_end c.args.sheet.now) at c.put_leg.ensures in
     let six = six_at c.args.origin (drop c.loop-at.at c.args.sheet.now) in
     rw ((let it : c.size_at-size.result ≡ 2 + be16 (drop c.loop-at.at c.args.sheet.now) = simp part_to_end at c.size_at-size.ensures in it))
@@ -76,7 +76,7 @@ loop-at-preserved-then-rest-eq1 c =
 
 pub overflow_add-at-in-loop-at : goal.overflow_add-at-in-loop-at
 overflow_add-at-in-loop-at c =
-        let T = turn_at c.before.before.before.before in
+    let T = (let it : Turn c.args.sheet.now c.loop-at.at c.loop-at.invariant.left = filling_turn c.loop-at.invariant c.loop-at-test.true in it) in
     omega (arith, (let it : c.size_at-size.result ≡ 2 + be16 (drop c.loop-at.at c.args.sheet.now) = simp part_to_end at c.size_at-size.ensures in it), T.next.inside, c.well_formed)
 
 pub loop-at-smaller : goal.loop-at-smaller
@@ -86,7 +86,7 @@ loop-at-smaller c =
 
 pub loop-at-preserved : goal.loop-at-preserved
 loop-at-preserved c =
-            let b = bytes_drop c.args.sheet.now (λ i. (c.shared_slice_known-1.given i).fits) c.loop-at.at in
+    let b = bytes_drop c.args.sheet.now (λ i. (c.type_inv.sheet i).fits) c.loop-at.at in
     let e = simp part_to_end at c.if-rest-eq1.false in
     rw ((let it : c.size_at-size.result ≡ 2 + be16 (drop c.loop-at.at c.args.sheet.now) = simp part_to_end at c.size_at-size.ensures in it)) (filling_other c.loop-at.invariant c.loop-at-test.true b e)
 

@@ -5,6 +5,7 @@ use mathlib.Core.Path.{◌≡◌, sym, ◌∙◌}
 use borrow.Author.Rules.{part_to_end}
 use lib.ListN.{drop}
 use Rattle.format.specs.Bytes.{be16}
+use Rattle.format.proofs.SheetLaws.{bytes_drop}
 use Rattle.viewer.specs.Viewing.{far_at}
 use Rattle.viewer.proofs.Walk.{walk_starts, Turn, seeking_starts, seeking_ends, seeking_turn, seeking_needs, seeking_far, seeking_on}
 use Rattle.viewer.proofs.first_far.Goals as goal
@@ -26,7 +27,7 @@ far_record-requires c = simp part_to_end (seeking_needs c.loop-at.invariant c.lo
 
 pub returns-then-far_record : goal.returns-then-far_record
 returns-then-far_record c =
-        seeking_far c.loop-at.invariant c.loop-at-test.true (bytes_at c.before.before.before) (sym ((let it : c.far_record.result ≡ far_at c.args.origin (drop c.loop-at.at c.args.sheet.now) = simp part_to_end at c.far_record.ensures in it)) ∙ c.if-far_record.true)
+    seeking_far c.loop-at.invariant c.loop-at-test.true (bytes_drop c.args.sheet.now (λ i. (c.type_inv.sheet i).fits) c.loop-at.at) (sym ((let it : c.far_record.result ≡ far_at c.args.origin (drop c.loop-at.at c.args.sheet.now) = simp part_to_end at c.far_record.ensures in it)) ∙ c.if-far_record.true)
 
 pub overflow_add-number : goal.overflow_add-number
 overflow_add-number c =
@@ -50,7 +51,7 @@ loop-at-smaller c =
 
 pub loop-at-preserved : goal.loop-at-preserved
 loop-at-preserved c =
-        rw ((let it : c.size_at-at.result ≡ 2 + be16 (drop c.loop-at.at c.args.sheet.now) = simp part_to_end at c.size_at-at.ensures in it)) (seeking_on c.loop-at.invariant c.loop-at-test.true (bytes_at c.before.before.before.before) (sym ((let it : c.far_record.result ≡ far_at c.args.origin (drop c.loop-at.at c.args.sheet.now) = simp part_to_end at c.far_record.ensures in it)) ∙ c.if-far_record.false))
+    rw ((let it : c.size_at-at.result ≡ 2 + be16 (drop c.loop-at.at c.args.sheet.now) = simp part_to_end at c.size_at-at.ensures in it)) (seeking_on c.loop-at.invariant c.loop-at-test.true (bytes_drop c.args.sheet.now (λ i. (c.type_inv.sheet i).fits) c.loop-at.at) (sym ((let it : c.far_record.result ≡ far_at c.args.origin (drop c.loop-at.at c.args.sheet.now) = simp part_to_end at c.far_record.ensures in it)) ∙ c.if-far_record.false))
 
 pub returns : goal.returns
 returns c = seeking_ends c.loop-at.invariant c.loop-at-test.false

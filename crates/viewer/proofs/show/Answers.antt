@@ -5,17 +5,19 @@ use Rattle.viewer.proofs.show.Goals as goal
 
 pub overflow_mul-needed : goal.overflow_mul-needed
 overflow_mul-needed c =
-        let n = needed_few c.args.sheet.now c.args.origin c.args.out.now c.args.legs c.requires (λ i. (c.shared_slice_known-1.given i).fits) in
+    let n = needed_few c.args.sheet.now c.args.origin c.args.out.now c.args.legs c.requires (λ i. (c.type_inv.sheet i).fits) in
     omega (arith, n, c.well_formed)
 
 pub returns-then-out-needed : goal.returns-then-out-needed
 returns-then-out-needed c =
-        short_due c.args.sheet.now c.args.origin c.args.out.now c.args.legs c.requires c.if-out-needed.true
+    let z = short_due c.args.sheet.now c.args.origin c.args.out.now c.args.legs c.requires c.if-out-needed.true in
+    record { answer = z.0; numbers = z.1 }
 
 pub fill-requires : goal.fill-requires
 fill-requires c =
-        shown_fits c.args.sheet.now c.args.origin c.args.out.now c.args.legs c.requires c.if-out-needed.false
+    shown_fits c.args.sheet.now c.args.origin c.args.out.now c.args.legs c.requires c.if-out-needed.false
 
 pub returns : goal.returns
 returns c =
-            shown_due c.args.sheet.now c.args.origin c.args.out.now c.args.legs c.requires c.if-out-needed.false _ c.fill.ensures
+    let z = shown_due c.args.sheet.now c.args.origin c.args.out.now c.args.legs c.requires c.if-out-needed.false _ c.fill.ensures in
+    record { answer = z.0; numbers = z.1 }

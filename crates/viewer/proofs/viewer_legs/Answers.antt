@@ -6,18 +6,19 @@ use Rattle.viewer.proofs.viewer_legs.Goals as goal
 
 pub returns-then-number-eq21 : goal.returns-then-number-eq21
 returns-then-number-eq21 c =
-            none_due c.args.sheet.now c.args.origin c.args.out.now _ _ (rw c.in-Refused.is at c.reach-all.ensures) c.if-number-eq21.true
+    let z = none_due c.args.sheet.now c.args.origin c.args.out.now _ _ (rw c.in-Refused.is at c.reach-all.ensures) c.if-number-eq21.true in
+    record { answer = z.0; numbers = z.1.0; exact = z.1.1 }
 
 pub judge-verdict-requires : goal.judge-verdict-requires
 judge-verdict-requires c = (let it : Boxed c.args.sheet.now c.in-Box.least c.in-Box.greatest = record { legs = c.in-Box.legs; same = sym c.reach-all.ensures ∙ rw c.in-Box.is } in it)
 
 pub returns-in-Refusal : goal.returns-in-Refusal
 returns-in-Refusal c =
-            far_due c.args.sheet.now c.args.origin c.args.out.now (boxed_at c.before.before.before.before) _ _
-    (sym c.in-Refusal.is ∙ c.judge-verdict.ensures)
+    let z = far_due c.args.sheet.now c.args.origin c.args.out.now (let it : Boxed c.args.sheet.now c.in-Box.least c.in-Box.greatest = record { legs = c.in-Box.legs; same = sym c.reach-all.ensures ∙ rw c.in-Box.is } in it) _ _
+    (sym c.in-Refusal.is ∙ c.judge-verdict.ensures) in
+    record { answer = z.0; numbers = z.1.0; exact = z.1.1 }
 
 pub show-requires : goal.show-requires
-unfolding boxed_at
 show-requires c =
     let B = (let it : Boxed c.args.sheet.now c.in-Box.least c.in-Box.greatest = record { legs = c.in-Box.legs; same = sym c.reach-all.ensures ∙ rw c.in-Box.is } in it) in
     record {
@@ -27,9 +28,11 @@ show-requires c =
 
 pub returns-else-number-eq21 : goal.returns-else-number-eq21
 returns-else-number-eq21 c =
-            refused_due c.args.sheet.now c.args.origin c.args.out.now c.in-Refused.number c.in-Refused.place
-    (rw c.in-Refused.is at c.reach-all.ensures) c.if-number-eq21.false
+    let z = refused_due c.args.sheet.now c.args.origin c.args.out.now c.in-Refused.number c.in-Refused.place
+    (rw c.in-Refused.is at c.reach-all.ensures) c.if-number-eq21.false in
+    record { answer = z.0; numbers = z.1.0; exact = z.1.1 }
 
 pub returns-in_default : goal.returns-in_default
 returns-in_default c =
-        all_due c.args.sheet.now c.args.origin c.args.out.now _ _ c.show.ensures
+    let z = all_due c.args.sheet.now c.args.origin c.args.out.now _ _ (c.show.ensures.answer, c.show.ensures.numbers) in
+    record { answer = z.0; numbers = z.1.0; exact = z.1.1 }

@@ -23,7 +23,7 @@ put-n-requires c =
     Plainly c.args.version (take (length c.args.sheet.now - l.at) (drop l.at c.args.sheet.now)) l.hand.mark l.position
     (part c.args.sheet.now l.hand.from l.hand.to) i.size i.kept i.code i.form = rw c.in-One.is at c.find-found.ensures in it) in
     let S = (let it : let l = c.loop-at in let i = c.in-One.item in
-    Sizes c.args.sheet.now l.at l.hand.from l.hand.to i.size i.kept (label_at i.form) = plain_sizes _ _ _ _ _ _ _ _ _ _ _ c.loop-at-test.true c.loop-at.invariant.named.inside ((let it : let c.args = c.args in let l = c.loop-at in let i = c.in-One.item in
+    Sizes c.args.sheet.now l.at l.hand.from l.hand.to i.size i.kept (label_at i.form) = plain_sizes _ _ _ _ _ _ _ _ _ _ _ c.loop-at-test.true c.loop-at.invariant.named.inside ((let it : let l = c.loop-at in let i = c.in-One.item in
     Plainly c.args.version (take (length c.args.sheet.now - l.at) (drop l.at c.args.sheet.now)) l.hand.mark l.position
     (part c.args.sheet.now l.hand.from l.hand.to) i.size i.kept i.code i.form = rw c.in-One.is at c.find-found.ensures in it)) in it) in
     record { within = P.within; kept_first = S.first; kept_second = S.starts; few_dropped = S.few_dropped; few_added = S.few_added }

@@ -10,10 +10,11 @@ use Rattle.write.proofs.write.Goals as goal
 pub returns-then-out-bytes : goal.returns-then-out-bytes
 unfolding write_outcome write_buffer
 returns-then-out-bytes c =
-        let p = c.pass-answer.ensures in
-    passes_small v8 (front_header c.args.sheet.now) (sheet_result c.args.sheet.now) c.args.out.now
+    let p = c.pass-answer.ensures in
+    let z = passes_small v8 (front_header c.args.sheet.now) (sheet_result c.args.sheet.now) c.args.out.now
     c.pass-answer.new.out c.pass-answer.result p.kept
-    p.answer c.in-Done.is c.if-out-bytes.true
+    p.answer c.in-Done.is c.if-out-bytes.true in
+    record { answer = z.0; file = z.1 }
 
 pub slice_bounds-pass-end-in-Done-2 : goal.slice_bounds-pass-end-in-Done-2
 slice_bounds-pass-end-in-Done-2 c =
@@ -25,16 +26,18 @@ slice_bounds-pass-end-in-Done-2 c =
 pub returns-in-Refused : goal.returns-in-Refused
 unfolding write_outcome write_buffer
 returns-in-Refused c =
-        let p = c.pass-answer.ensures in
-    passes_refused v8 (front_header c.args.sheet.now) (sheet_result c.args.sheet.now) c.args.out.now c.pass-answer.new.out
-    c.pass-answer.result p.kept p.answer c.in-Refused.is
+    let p = c.pass-answer.ensures in
+    let z = passes_refused v8 (front_header c.args.sheet.now) (sheet_result c.args.sheet.now) c.args.out.now c.pass-answer.new.out
+    c.pass-answer.result p.kept p.answer c.in-Refused.is in
+    record { answer = z.0; file = z.1 }
 
 pub returns-else-out-bytes : goal.returns-else-out-bytes
 unfolding write_outcome write_buffer
 returns-else-out-bytes c =
-        let p = c.pass-answer.ensures in
-    passes_done v8 (front_header c.args.sheet.now) (sheet_result c.args.sheet.now) c.args.out.now
+    let p = c.pass-answer.ensures in
+    let z = passes_done v8 (front_header c.args.sheet.now) (sheet_result c.args.sheet.now) c.args.out.now
     c.pass-answer.new.out
     c.pass-answer.result p.kept p.answer
     c.in-Done.is c.if-out-bytes.false
-    c.pass.ensures
+    c.pass.ensures in
+    record { answer = z.0; file = z.1 }

@@ -9,14 +9,12 @@ use Rattle.write_v7.proofs.pass.Goals as goal
 
 pub put_header-head-requires : goal.put_header-head-requires
 put_header-head-requires c =
-    let F = (let it : let f = c.front-1.given.0 in
-    Fronted c.version_of-version.result c.args.sheet.now f.0 f.1.0 f.1.1.0 = rw c.in-Whole.is at c.read_front-front.ensures in it) in
+    let F = (let it : Fronted c.version_of-version.result c.args.sheet.now c.in-Whole.extended c.in-Whole.title c.in-Whole.time = rw c.in-Whole.is at c.read_front-front.ensures in it) in
     (simp (length-take, length-drop) (omega (arith, F.title_short)), simp (length-take, length-drop) (omega (arith, F.time_short)))
 
 pub put_records-requires : goal.put_records-requires
 put_records-requires c =
-    (((let it : let f = c.front-1.given.0 in
-    Fronted c.version_of-version.result c.args.sheet.now f.0 f.1.0 f.1.1.0 = rw c.in-Whole.is at c.read_front-front.ensures in it)).inside, omega (arith, c.put_header-head.ensures.most))
+    (((let it : Fronted c.version_of-version.result c.args.sheet.now c.in-Whole.extended c.in-Whole.title c.in-Whole.time = rw c.in-Whole.is at c.read_front-front.ensures in it)).inside, omega (arith, c.put_header-head.ensures.most))
 
 pub returns-in-Flawed : goal.returns-in-Flawed
 returns-in-Flawed c =
@@ -26,46 +24,38 @@ returns-in-Flawed c =
 
 pub returns-in-Whole : goal.returns-in-Whole
 returns-in-Whole c =
-        let F = front_at c.before.before.before.before.before.before.before.before.before.before.before in
+        let F = rw c.in-Whole.is at c.read_front-front.ensures in
     pass_v7 _ _ _ _ _ _ _ _ _ _ _ c.version_of-version.ensures F
     c.put_header-head.ensures c.put_records.ensures
 
 pub overflow_add-middle : goal.overflow_add-middle
 overflow_add-middle c =
-    omega (arith, (let it : let f = c.front-1.given.0 in
-    Fronted c.version_of-version.result c.args.sheet.now f.0 f.1.0 f.1.1.0 = rw c.in-Whole.is at c.read_front-front.ensures in it))
+    omega (arith, (let it : Fronted c.version_of-version.result c.args.sheet.now c.in-Whole.extended c.in-Whole.title c.in-Whole.time = rw c.in-Whole.is at c.read_front-front.ensures in it))
 
 pub overflow_add-begin : goal.overflow_add-begin
 overflow_add-begin c =
-    omega (arith, (let it : let f = c.front-1.given.0 in
-    Fronted c.version_of-version.result c.args.sheet.now f.0 f.1.0 f.1.1.0 = rw c.in-Whole.is at c.read_front-front.ensures in it))
+    omega (arith, (let it : Fronted c.version_of-version.result c.args.sheet.now c.in-Whole.extended c.in-Whole.title c.in-Whole.time = rw c.in-Whole.is at c.read_front-front.ensures in it))
 
 pub slice_bounds-put_header-count : goal.slice_bounds-put_header-count
 slice_bounds-put_header-count c =
-    omega (arith, (let it : let f = c.front-1.given.0 in
-    Fronted c.version_of-version.result c.args.sheet.now f.0 f.1.0 f.1.1.0 = rw c.in-Whole.is at c.read_front-front.ensures in it))
+    omega (arith, (let it : Fronted c.version_of-version.result c.args.sheet.now c.in-Whole.extended c.in-Whole.title c.in-Whole.time = rw c.in-Whole.is at c.read_front-front.ensures in it))
 
 pub slice_bounds-put_header-start : goal.slice_bounds-put_header-start
 slice_bounds-put_header-start c =
-    omega (arith, (let it : let f = c.front-1.given.0 in
-    Fronted c.version_of-version.result c.args.sheet.now f.0 f.1.0 f.1.1.0 = rw c.in-Whole.is at c.read_front-front.ensures in it))
+    omega (arith, (let it : Fronted c.version_of-version.result c.args.sheet.now c.in-Whole.extended c.in-Whole.title c.in-Whole.time = rw c.in-Whole.is at c.read_front-front.ensures in it))
 
 pub slice_bounds-put_header-end : goal.slice_bounds-put_header-end
 slice_bounds-put_header-end c =
-    omega (arith, (let it : let f = c.front-1.given.0 in
-    Fronted c.version_of-version.result c.args.sheet.now f.0 f.1.0 f.1.1.0 = rw c.in-Whole.is at c.read_front-front.ensures in it))
+    omega (arith, (let it : Fronted c.version_of-version.result c.args.sheet.now c.in-Whole.extended c.in-Whole.title c.in-Whole.time = rw c.in-Whole.is at c.read_front-front.ensures in it))
 
 pub slice_bounds-put_header-count-in-Whole : goal.slice_bounds-put_header-count-in-Whole
 slice_bounds-put_header-count-in-Whole c =
-    omega (arith, (let it : let f = c.front-1.given.0 in
-    Fronted c.version_of-version.result c.args.sheet.now f.0 f.1.0 f.1.1.0 = rw c.in-Whole.is at c.read_front-front.ensures in it))
+    omega (arith, (let it : Fronted c.version_of-version.result c.args.sheet.now c.in-Whole.extended c.in-Whole.title c.in-Whole.time = rw c.in-Whole.is at c.read_front-front.ensures in it))
 
 pub slice_bounds-put_header-start-in-Whole : goal.slice_bounds-put_header-start-in-Whole
 slice_bounds-put_header-start-in-Whole c =
-    omega (arith, (let it : let f = c.front-1.given.0 in
-    Fronted c.version_of-version.result c.args.sheet.now f.0 f.1.0 f.1.1.0 = rw c.in-Whole.is at c.read_front-front.ensures in it))
+    omega (arith, (let it : Fronted c.version_of-version.result c.args.sheet.now c.in-Whole.extended c.in-Whole.title c.in-Whole.time = rw c.in-Whole.is at c.read_front-front.ensures in it))
 
 pub slice_bounds-put_header-end-in-Whole : goal.slice_bounds-put_header-end-in-Whole
 slice_bounds-put_header-end-in-Whole c =
-    omega (arith, (let it : let f = c.front-1.given.0 in
-    Fronted c.version_of-version.result c.args.sheet.now f.0 f.1.0 f.1.1.0 = rw c.in-Whole.is at c.read_front-front.ensures in it))
+    omega (arith, (let it : Fronted c.version_of-version.result c.args.sheet.now c.in-Whole.extended c.in-Whole.title c.in-Whole.time = rw c.in-Whole.is at c.read_front-front.ensures in it))

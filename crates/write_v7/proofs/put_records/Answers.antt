@@ -42,10 +42,10 @@ pub more-total-requires : goal.more-total-requires
 more-total-requires c =
     omega (arith, c.loop-at.invariant.stands.few, ((let it : let a =
     c.args in let l =
-    c.loop-at in let t = c.turned-1.given.0 in
+    c.loop-at in
     let from = c.within-room.result in
     Turns a.version a.sheet.now l.at l.hand (take (length l.out - from) (drop from l.out))
-    c.put_next-turned.new.out t.0 t.1.0 t.1.1.0 t.1.1.1.0 = rw c.in-Put.is at c.put_next-turned.ensures in it)).puts.most)
+    c.put_next-turned.new.out c.in-Put.size c.in-Put.bytes c.in-Put.bad c.in-Put.next = rw c.in-Put.is at c.put_next-turned.ensures in it)).puts.most)
 
 pub first_at-fault-requires : goal.first_at-fault-requires
 first_at-fault-requires c =
@@ -66,10 +66,10 @@ overflow_add-at c =
     (c.loop-at.at + c.in-Put.size ≤ length
     c.args.sheet.now) =     let T = (let it : let a =
     c.args in let l =
-    c.loop-at in let t = c.turned-1.given.0 in
+    c.loop-at in
     let from = c.within-room.result in
     Turns a.version a.sheet.now l.at l.hand (take (length l.out - from) (drop from l.out))
-    c.put_next-turned.new.out t.0 t.1.0 t.1.1.0 t.1.1.1.0 = rw c.in-Put.is at c.put_next-turned.ensures in it) in
+    c.put_next-turned.new.out c.in-Put.size c.in-Put.bytes c.in-Put.bad c.in-Put.next = rw c.in-Put.is at c.put_next-turned.ensures in it) in
     found_size _ c.args.sheet.now c.loop-at.at
     c.loop-at-test.true _ _ _ T.told in it), c.well_formed)
 
@@ -78,10 +78,10 @@ loop-at-smaller c = omega (arith, (let it : (3 ≤ c.in-Put.size) ×
     (c.loop-at.at + c.in-Put.size ≤ length
     c.args.sheet.now) =     let T = (let it : let a =
     c.args in let l =
-    c.loop-at in let t = c.turned-1.given.0 in
+    c.loop-at in
     let from = c.within-room.result in
     Turns a.version a.sheet.now l.at l.hand (take (length l.out - from) (drop from l.out))
-    c.put_next-turned.new.out t.0 t.1.0 t.1.1.0 t.1.1.1.0 = rw c.in-Put.is at c.put_next-turned.ensures in it) in
+    c.put_next-turned.new.out c.in-Put.size c.in-Put.bytes c.in-Put.bad c.in-Put.next = rw c.in-Put.is at c.put_next-turned.ensures in it) in
     found_size _ c.args.sheet.now c.loop-at.at
     c.loop-at-test.true _ _ _ T.told in it))
 
@@ -92,10 +92,10 @@ loop-at-preserved c =
     (going_more _ _ _ _ _ _ _ _ _ _ _ _ c.loop-at.invariant c.loop-at-test.true _ _ _ _ _ _ W.0 W.1
     ((let it : let a =
     c.args in let l =
-    c.loop-at in let t = c.turned-1.given.0 in
+    c.loop-at in
     let from = c.within-room.result in
     Turns a.version a.sheet.now l.at l.hand (take (length l.out - from) (drop from l.out))
-    c.put_next-turned.new.out t.0 t.1.0 t.1.1.0 t.1.1.1.0 = rw c.in-Put.is at c.put_next-turned.ensures in it)))
+    c.put_next-turned.new.out c.in-Put.size c.in-Put.bytes c.in-Put.bad c.in-Put.next = rw c.in-Put.is at c.put_next-turned.ensures in it)))
 
 pub returns-then-extended-eq1 : goal.returns-then-extended-eq1
 returns-then-extended-eq1 c =

@@ -11,16 +11,17 @@ use Rattle.write_v7.proofs.write_v7.Goals as goal
 pub returns-then-out-bytes : goal.returns-then-out-bytes
 unfolding write_outcome write_buffer
 returns-then-out-bytes c =
-            let p = c.pass-answer.ensures in
+    let p = c.pass-answer.ensures in
     let h = front_header c.args.sheet.now in
     let x = sheet_result c.args.sheet.now in
-    rw (headed_records (v7.bars h) 23 x) at
+    let z = rw (headed_records (v7.bars h) 23 x) at
     (passes_small v7 h (headed v7 h x) c.args.out.now c.pass-answer.new.out
-    c.pass-answer.result p.kept p.answer c.in-Done.is c.if-out-bytes.true)
+    c.pass-answer.result p.kept p.answer c.in-Done.is c.if-out-bytes.true) in
+    record { answer = z.0; file = z.1 }
 
 pub slice_bounds-pass-end-in-Done-2 : goal.slice_bounds-pass-end-in-Done-2
 slice_bounds-pass-end-in-Done-2 c =
-        let e = length-take-le c.in-Done.bytes
+    let e = length-take-le c.in-Done.bytes
     (c.pass-answer.new.out ++ c.args.out.now) (omega
     (arith, c.if-out-bytes.false)) in
     omega (arith, e)
@@ -28,19 +29,21 @@ slice_bounds-pass-end-in-Done-2 c =
 pub returns-in-Refused : goal.returns-in-Refused
 unfolding write_outcome write_buffer
 returns-in-Refused c =
-            let p = c.pass-answer.ensures in
+    let p = c.pass-answer.ensures in
     let h = front_header c.args.sheet.now in
     let x = sheet_result c.args.sheet.now in
-    rw (headed_records (v7.bars h) 23 x) at
+    let z = rw (headed_records (v7.bars h) 23 x) at
     (passes_refused v7 h (headed v7 h x) c.args.out.now c.pass-answer.new.out
-    c.pass-answer.result p.kept p.answer c.in-Refused.is)
+    c.pass-answer.result p.kept p.answer c.in-Refused.is) in
+    record { answer = z.0; file = z.1 }
 
 pub returns-else-out-bytes : goal.returns-else-out-bytes
 unfolding write_outcome write_buffer
 returns-else-out-bytes c =
-            let p = c.pass-answer.ensures in
+    let p = c.pass-answer.ensures in
     let h = front_header c.args.sheet.now in
     let x = sheet_result c.args.sheet.now in
-    rw (headed_records (v7.bars h) 23 x) at
+    let z = rw (headed_records (v7.bars h) 23 x) at
     (passes_done v7 h (headed v7 h x) c.args.out.now c.pass-answer.new.out c.pass-answer.result p.kept p.answer
-    c.in-Done.is c.if-out-bytes.false c.pass.ensures)
+    c.in-Done.is c.if-out-bytes.false c.pass.ensures) in
+    record { answer = z.0; file = z.1 }
