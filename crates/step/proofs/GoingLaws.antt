@@ -5,6 +5,7 @@ use mathlib.Core.Path.{◌≡◌, refl, sym, ap, ◌∙◌}
 use mathlib.Core.List.{List, [], ◌∷◌}
 use lib.ListN.{length, drop, length-drop}
 use types.Run.{OneOf, miss}
+use borrow.Enum.Refused.{Among, opened as opened_tag}
 use denote.Enum.Declared.{tag_of}
 use Rattle.format.specs.Bytes.{pick, over}
 use Rattle.format.specs.State.{State, Record, Next, bad, end, on, made}
@@ -99,6 +100,10 @@ module _ {h here : Held} {label file old label' now : List ℕ} {n : ℕ} (L : L
 
   pub left_stops : OneOf (0 ∷ 2 ∷ 3 ∷ []) (tag_of the_type t.answer) → Goes h label file old t label'' new
   left_stops o = left_is (go_stops file (length now) n (stand_seen here label') (λ e. not_nothing t.answer o (S.answer ∙ e)))
+
+  -- the same, as an arm knows it
+  pub left_among : Among (0 ∷ 2 ∷ 3 ∷ []) (tag_of the_type t.answer) → Goes h label file old t label'' new
+  left_among o = left_stops (opened_tag o)
 
   pub left_again : (n ≡ 0 → ⊥) → t.answer ≡ Nothing → Left h label file old (n - 1) t.stand label'' new
   unfolding step_buffer over

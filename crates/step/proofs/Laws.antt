@@ -47,6 +47,7 @@ use Rattle.item.specs.declared.Step.{Step as ItemStep}
 use Rattle.item.specs.declared.Step.TheVariants.{Bad, End, On, Made}
 use Rattle.item.specs.contracts.Step as Steps'
 use types.Run.{OneOf, miss}
+use borrow.Enum.Refused.{Among, opened as opened_tag}
 use denote.Enum.Declared.{tag_of}
 use Rattle.item.proofs.Steps.{label_short, label_long, label_fits_lem, comes_relabelled}
 use Rattle.format.proofs.SheetLaws.{layout_size}
@@ -155,12 +156,19 @@ module _ (version : ℕ) (s : List ℕ) (st : State) where
   none_of (ErrorTold t) o R = absurd (miss (0 ∷ 1 ∷ 2 ∷ 3 ∷ 4 ∷ 5 ∷ []) 6 tt o)
   none_of (Relabel n cut from count body) o R = absurd (miss (0 ∷ 1 ∷ 2 ∷ 3 ∷ 4 ∷ 5 ∷ []) 7 tt o)
 
+  -- the same, as an arm knows it
+  pub none_among : (it : Told) → Among (0 ∷ 1 ∷ 2 ∷ 3 ∷ 4 ∷ 5 ∷ []) (tag_of Items.the_type it) → Reads it s (item_of version s) → Peeks End (next version s st)
+  none_among it o R = none_of it (opened_tag o) R
+
 -- what makes no record wants no room
 pub no_room : (r : ItemStep) (room : ℕ) → OneOf (0 ∷ 1 ∷ 2 ∷ []) (tag_of Steps'.the_type r) → Enough ≡ step_room r room
 no_room (Bad k) room o = refl
 no_room End room o = refl
 no_room (On n m st) room o = refl
 no_room (Made n m st f kept) room o = absurd (miss (0 ∷ 1 ∷ 2 ∷ []) 3 tt o)
+
+pub no_room_among : (r : ItemStep) (room : ℕ) → Among (0 ∷ 1 ∷ 2 ∷ []) (tag_of Steps'.the_type r) → Enough ≡ step_room r room
+no_room_among r room o = no_room r room (opened_tag o)
 
 -- room for every record is room for this one
 module _ (room : ℕ) (ample : 4130 ≤ room) where

@@ -2,8 +2,7 @@
 use mathlib.Core.Path.{ap}
 use lib.ListN.{length}
 use borrow.Author.Rules.{rules}
-use borrow.Enum.Refused.{opened}
-use Rattle.step.proofs.GoingLaws.{left_first, left_stops, left_last, left_again}
+use Rattle.step.proofs.GoingLaws.{left_first, left_among, left_last, left_again}
 use Rattle.step.proofs.next_at.Goals as goal
 
 pub loop-t-init : goal.loop-t-init
@@ -15,7 +14,7 @@ shape_of-out-in_default c =
 
 pub returns-in_default : goal.returns-in_default
 returns-in_default c =
-    left_stops c.loop-t.invariant c.step_at-t.ensures (opened (search rules))
+    left_among c.loop-t.invariant c.step_at-t.ensures (search rules)
 
 pub shape_of-out-then-left-eq0 : goal.shape_of-out-then-left-eq0
 shape_of-out-then-left-eq0 c =

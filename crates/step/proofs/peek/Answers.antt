@@ -2,9 +2,8 @@
 use native.Mathlib.Omega.{arith}
 use mathlib.Core.Path.{sym, ◌∙◌}
 use borrow.Author.Rules.{rules}
-use borrow.Enum.Refused.{opened}
 use Rattle.item.proofs.Steps.{comes_error}
-use Rattle.step.proofs.Laws.{tells_room, none_of, peek_short, peek_long, peek_fits}
+use Rattle.step.proofs.Laws.{tells_room, none_among, peek_short, peek_long, peek_fits}
 use Rattle.step.proofs.peek.Goals as goal
 
 pub returns-in_default-kept : goal.returns-in_default-kept
@@ -35,4 +34,4 @@ returns-else-keep-count c =
 
 pub returns-in_default : goal.returns-in_default
 returns-in_default c =
-        none_of _ _ _ c.decode-it.result (opened (search rules)) c.decode-it.ensures
+        none_among _ _ _ c.decode-it.result (search rules) c.decode-it.ensures

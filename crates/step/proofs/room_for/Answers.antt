@@ -1,8 +1,7 @@
 -- `step::room_for` meets its contract. Assumes nothing.
 use mathlib.Core.Path.{◌∙◌}
 use borrow.Author.Rules.{rules}
-use borrow.Enum.Refused.{opened}
-use Rattle.step.proofs.Laws.{ample_room, no_room, room_lacks, room_enough}
+use Rattle.step.proofs.Laws.{ample_room, no_room_among, room_lacks, room_enough}
 use Rattle.step.proofs.room_for.Goals as goal
 
 pub returns-then-room-ge-RECORD_LIMIT : goal.returns-then-room-ge-RECORD_LIMIT
@@ -10,7 +9,7 @@ returns-then-room-ge-RECORD_LIMIT c = ample_room _ c.if-room-ge-RECORD_LIMIT.tru
 
 pub returns-in_default : goal.returns-in_default
 returns-in_default c =
-    no_room c.peek-seen.result _ (opened (search rules)) ∙ c.peek-seen.ensures.same _
+    no_room_among c.peek-seen.result _ (search rules) ∙ c.peek-seen.ensures.same _
 
 pub record_size-n-requires : goal.record_size-n-requires
 record_size-n-requires c =
