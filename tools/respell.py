@@ -84,8 +84,13 @@ def table_of(declared, foreign):
 
 def turn_code(text, table):
     def new(it):
-        is_path = text[: it.start()].endswith("proofs.")
-        return it[0] if is_path else table.get(it[0], it[0])
+        before, behind = text[: it.start()], text[it.end() :]
+        if before.endswith("proofs."):
+            return it[0]
+        # a label keeps its definition's name
+        is_label = before.endswith(".") or behind.startswith(" =") and before.strip() or before.strip() == "pub" and behind.startswith(" : length label")
+        name = table.get(it[0], it[0])
+        return name.removesuffix("_lem") if it[0] == "label-fits" and is_label else name
 
     return TOKEN.sub(new, text)
 

@@ -245,7 +245,7 @@ module _ (st : State) (n : ℕ) (g : GoodState st) where
       → GoodNext (leg_from p n st flags to l)
   leg_good Unset q flags to hf hp l h = tt
   leg_good (Stands from) q flags to hf hp l h = (
-    record { flags_fit = hf; style_fits = g.style_fits; date_fits = g.date_fits; from_fits = q; to_fits = hp; label_fits_lem = h },
+    record { flags_fit = hf; style_fits = g.style_fits; date_fits = g.date_fits; from_fits = q; to_fits = hp; label_fits = h },
     record { label_short = h; style_fits = g.style_fits; date_fits = g.date_fits; position_fits = hp },
   )
 
@@ -263,10 +263,10 @@ module _ (st : State) (n : ℕ) (g : GoodState st) where
   apply_good (Error t) i = (i, g)
   apply_good (Xsect last d k added) i =
       good_label (Back k) added _ λ l h.
-      (record { last_fits = i.0; date_fits = g.date_fits; dimensions_fit = i.1; label_fits_lem = h }, named_good l h)
+      (record { last_fits = i.0; date_fits = g.date_fits; dimensions_fit = i.1; label_fits = h }, named_good l h)
   apply_good (Label flags p k added) i =
       good_label (Back k) added _ λ l h.
-      (record { flags_fit = i.0; place_fits = i.1; label_fits_lem = h }, named_good l h)
+      (record { flags_fit = i.0; place_fits = i.1; label_fits = h }, named_good l h)
   apply_good (Line flags p k added) i =
       good_label (Back k) added _ λ l h.
       leg_good st.setting.position g.position_fits flags p i.0 i.1 l h

@@ -246,7 +246,7 @@ module _ (last label : List ℕ) (hl : length last ≤ label_limit) (rest : List
   unfolding station_codes
   station_kept s g =
       let k = kept_bytes last label in
-      rw (station_item_lem last label k hl g.label_fits_lem s.flags s.place rest g.place_fits) (drop_back k (kept_shares last label).first)
+      rw (station_item_lem last label k hl g.label_fits s.flags s.place rest g.place_fits) (drop_back k (kept_shares last label).first)
 
   pub section_kept : (s : Section) → GoodSection s label → drop_leaves last (item_of 8 (section_codes last s label ++ rest)) ≡ kept_bytes last label
   unfolding section_codes
@@ -254,8 +254,8 @@ module _ (last label : List ℕ) (hl : length last ≤ label_limit) (rest : List
       let k = kept_bytes last label in
       let b = drop_back k (kept_shares last label).first in
       pick_case (λ (x : List ℕ). drop_leaves last (item_of 8 (x ++ rest)) ≡ k) (all_short s.size) _ _
-      (λ e. rw (short_section_item last label k hl g.label_fits_lem s.last s.size rest g.last_fits g.dimensions_fit e) b)
-      (λ e. rw (wide_section_item last label k hl g.label_fits_lem s.last s.size rest g.last_fits g.dimensions_fit) b)
+      (λ e. rw (short_section_item last label k hl g.label_fits s.last s.size rest g.last_fits g.dimensions_fit e) b)
+      (λ e. rw (wide_section_item last label k hl g.label_fits s.last s.size rest g.last_fits g.dimensions_fit) b)
 
   -- a leg keeps the longest common start; with 0x20 that is the whole label
   pub line_kept : (flags : ℕ) (to : Point) → flags ≤ 7 → GoodPoint to → length label ≤ label_limit

@@ -68,7 +68,7 @@ not_extended h g e = let z = eqb-false h.extended 1 e in omega (arith, z, g.exte
 pub v7_reads_back : ReadsBack v7 unstyled V7State
 v7_reads_back =
     record {
-      starts = record { style_is = refl; label_fits_lem = omega arith };
+      starts = record { style_is = refl; label_fits = omega arith };
       goes = v7_codes_go;
       fits_after = v7_after_fits;
       closes = v7_closing_read;

@@ -171,7 +171,7 @@ body_some version (error t) = omega arith
 pub layout_length : (version : ℕ) (r : Record) → WellFormed r → length (layout version r) ≤ record_limit
 layout_length version (leg g label) w = omega (arith, layout_leg version g label)
 layout_length version (station s label) w = omega (arith, layout_station version s label)
-layout_length version (section s label) w = omega (arith, layout_is version (section s label), section_most version s label w.label_fits_lem)
+layout_length version (section s label) w = omega (arith, layout_is version (section s label), section_most version s label w.label_fits)
 layout_length version (error t) w = omega (arith, layout_error version t)
 
 -- the size that the code adds up is that of the layout
@@ -211,7 +211,7 @@ module _ (label rest : List ℕ) (n : ℕ) where
       let q = w.to_fits in
       let d = date_back g.date w.date_fits in
       simp (
-        fits_back leg_size en w.label_fits_lem,
+        fits_back leg_size en w.label_fits,
         le-leb g.flags 0x07 w.flags_fit,
         le-leb g.style 5 w.style_fits,
         be16_to,
@@ -233,7 +233,7 @@ module _ (label rest : List ℕ) (n : ℕ) where
   unfolding station_entry pick to_be32
   station_back en s w =
       let g = w.place_fits in
-      simp (fits_back station_size en w.label_fits_lem, le-leb s.flags 0x7f w.flags_fit, be32_to, g.x_fits, g.y_fits, g.z_fits, label_back station_size en)
+      simp (fits_back station_size en w.label_fits, le-leb s.flags 0x7f w.flags_fit, be32_to, g.x_fits, g.y_fits, g.z_fits, label_back station_size en)
 
   section_back : n ≡ section_size + length label → (s : Section) → GoodSection s label → section_entry n (section_body s label ++ rest) ≡ entry (2 + n) (section s label)
   unfolding section_entry pick to_be16 to_be32
@@ -241,7 +241,7 @@ module _ (label rest : List ℕ) (n : ℕ) where
       let g = w.dimensions_fit in
       let d = date_back s.date w.date_fits in
       simp (
-        fits_back section_size en w.label_fits_lem,
+        fits_back section_size en w.label_fits,
         le-leb s.last 1 w.last_fits,
         be16_to,
         d.day_fits,
@@ -261,7 +261,7 @@ module _ (label rest : List ℕ) (n : ℕ) where
   unfolding undated_section_entry pick to_be32
   undated_back en s w u =
       let g = w.dimensions_fit in
-      simp (fits_back undated_section_size en w.label_fits_lem, le-leb s.last 1 w.last_fits, be32_to, g.left_fits, g.right_fits, g.up_fits, g.down_fits, label_back undated_section_size en)
+      simp (fits_back undated_section_size en w.label_fits, le-leb s.last 1 w.last_fits, be32_to, g.left_fits, g.right_fits, g.up_fits, g.down_fits, label_back undated_section_size en)
       (ap (λ (d : Dated). entry (2 + n) (section (record { last = s.last; date = d; size = s.size }) label)) (sym u))
 
 error_back : (t : Traverse) (rest : List ℕ) → GoodTraverse t → error_entry 21 (error_body t ++ rest) ≡ entry 23 (error t)
@@ -509,7 +509,7 @@ module _ (version n : ℕ) (t : List ℕ) (b : Bytes t) (inside : n ≤ length t
           date_fits = (date_read _ _ _ h.1).fits (be16_fits _ (bytes_drop t b 4)) (be16_fits _ (bytes_drop t b 6));
           from_fits = point_fits 8;
           to_fits = point_fits 20;
-          label_fits_lem = label_short t b n inside leg_size f.0;
+          label_fits = label_short t b n inside leg_size f.0;
         },
       ))
       λ e. tt
@@ -520,7 +520,7 @@ module _ (version n : ℕ) (t : List ℕ) (b : Bytes t) (inside : n ≤ length t
       pick_case (BodyRead version n t) _ _ _
       (λ e.
       let f = both (label_fits n station_size) _ e in
-      (refl, station_take t b n inside (fits n station_size f.0).least e0, record { flags_fit = leb-true _ _ f.1; place_fits = point_fits 2; label_fits_lem = label_short t b n inside station_size f.0 }))
+      (refl, station_take t b n inside (fits n station_size f.0).least e0, record { flags_fit = leb-true _ _ f.1; place_fits = point_fits 2; label_fits = label_short t b n inside station_size f.0 }))
       λ e. tt
 
   dimensions_fit : (k : ℕ) → GoodDimensions (dimensions_of 4 be32 (drop k t))
@@ -539,7 +539,7 @@ module _ (version n : ℕ) (t : List ℕ) (b : Bytes t) (inside : n ≤ length t
           last_fits = leb-true _ _ g.0;
           date_fits = (date_read _ _ _ g.1).fits (be16_fits _ (bytes_drop t b 3)) (be16_fits _ (bytes_drop t b 5));
           dimensions_fit = dimensions_fit 7;
-          label_fits_lem = label_short t b n inside section_size f.0;
+          label_fits = label_short t b n inside section_size f.0;
         },
       ))
       λ e. tt
@@ -552,7 +552,7 @@ module _ (version n : ℕ) (t : List ℕ) (b : Bytes t) (inside : n ≤ length t
       let f = both (label_fits n undated_section_size) _ e in (
         refl,
         pick_true _ _ u ∙ undated_take t b n inside (fits n undated_section_size f.0).least e0,
-        record { last_fits = leb-true _ _ f.1; date_fits = tt; dimensions_fit = dimensions_fit 2; label_fits_lem = label_short t b n inside undated_section_size f.0 },
+        record { last_fits = leb-true _ _ f.1; date_fits = tt; dimensions_fit = dimensions_fit 2; label_fits = label_short t b n inside undated_section_size f.0 },
       ))
       λ e. tt
 

@@ -303,7 +303,7 @@ module _ (l : List ℕ) (date : Dated) (position : Position) (hl : length l ≤ 
       goes_as (sym e) n
       (goes_append D (M ++ (L ++ rest)) (date_if_read dates_read here (M ++ (L ++ rest)) g.date w.date_fits)
       (goes_append M (L ++ rest) (move_if_read 7 dated (L ++ rest) code_move g.from w.from_fits)
-      (line_go (moved g.from dated) rest hl m w.label_fits_lem g w refl refl refl)))
+      (line_go (moved g.from dated) rest hl m w.label_fits g w refl refl refl)))
 
   section_go : (s : Section) (m : List ℕ) → GoodSection s m
       → Goes 7 (v7_codes here (section s m) ++ rest) here (section s m ∷ []) (length (v7_codes here (section s m))) (v7_after here (section s m))
@@ -313,19 +313,19 @@ module _ (l : List ℕ) (date : Dated) (position : Position) (hl : length l ≤ 
       let X = v7_section_codes l s m in
       goes_as (sym (append_assoc D X rest)) (sym (length-append D X))
       (goes_append D (X ++ rest) (date_if_read dates_read here (X ++ rest) s.date w.date_fits)
-      (xsect_go (dated_by s.date here) rest hl m w.label_fits_lem s w refl))
+      (xsect_go (dated_by s.date here) rest hl m w.label_fits s w refl))
 
   record_go : (r : Record) → WellFormed r → v7_unable r ≡ false
       → Goes 7 (v7_codes here r ++ rest) here (unstyled r ∷ []) (length (v7_codes here r)) (v7_after here r)
   record_go (leg g m) w u = leg_go g m w
-  record_go (station s m) w u = station_go here rest hl m w.label_fits_lem s w (ltb-false 0x1f s.flags u)
+  record_go (station s m) w u = station_go here rest hl m w.label_fits s w (ltb-false 0x1f s.flags u)
   record_go (section s m) w u = section_go s m w
   record_go (error t) w u = goes_made (0x22 ∷ traverse_bytes to_le32 t) rest here (error t) here (error_next 7 here rest 0x22 code_error t w)
 
 -- a state that reading v7 is in: its style is not said, and the label is not too long
 pub record V7State (st : State) : Type 0 where
   pub style_is : st.setting.style ≡ not_said
-  pub label_fits_lem : length st.label ≤ label_limit
+  pub label_fits : length st.label ≤ label_limit
 
 pub v7_codes_go : (st : State) (r : Record) → V7State st → WellFormed r → v7_unable r ≡ false → (rest : List ℕ)
     → Goes 7 (v7_codes st r ++ rest) st (unstyled r ∷ []) (length (v7_codes st r)) (v7_after st r)
@@ -333,12 +333,12 @@ v7_codes_go st r s w u rest =
     let e : unsaid st.label st.setting.date st.setting.position ≡ st =
     λ i. record { label = st.label; setting = record { style = sym s.style_is i; date = st.setting.date; position = st.setting.position } } in
     subst (λ (x : State). Goes 7 (v7_codes x r ++ rest) x (unstyled r ∷ []) (length (v7_codes x r)) (v7_after x r)) e
-    (record_go st.label st.setting.date st.setting.position s.label_fits_lem rest r w u)
+    (record_go st.label st.setting.date st.setting.position s.label_fits rest r w u)
 
 pub v7_after_fits : (st : State) (r : Record) → V7State st → WellFormed r → V7State (v7_after st r)
-v7_after_fits st (leg g m) s w = record { style_is = refl; label_fits_lem = w.label_fits_lem }
-v7_after_fits st (station x m) s w = record { style_is = s.style_is; label_fits_lem = w.label_fits_lem }
-v7_after_fits st (section x m) s w = record { style_is = s.style_is; label_fits_lem = w.label_fits_lem }
+v7_after_fits st (leg g m) s w = record { style_is = refl; label_fits = w.label_fits }
+v7_after_fits st (station x m) s w = record { style_is = s.style_is; label_fits = w.label_fits }
+v7_after_fits st (section x m) s w = record { style_is = s.style_is; label_fits = w.label_fits }
 v7_after_fits st (error t) s w = s
 
 -- ---- the closing codes end the file

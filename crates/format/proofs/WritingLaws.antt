@@ -327,7 +327,7 @@ module _ (st : State) (rest : List ℕ) (hl : length st.label ≤ label_limit) w
       let k = kept_bytes st.label label in
       let c = station_codes st.label s label in
       let e : next 8 (c ++ rest) st ≡ made (length c) (station s label) (named label st) =
-      rw (station_item_lem st.label label k hl g.label_fits_lem s.flags s.place rest g.place_fits, label_read st.label label k (kept_shares st.label label) g.label_fits_lem) in
+      rw (station_item_lem st.label label k hl g.label_fits s.flags s.place rest g.place_fits, label_read st.label label k (kept_shares st.label label) g.label_fits) in
       goes_made c rest st (station s label) (named label st) e
 
   -- XSECT, where the date is the section's
@@ -337,14 +337,14 @@ module _ (st : State) (rest : List ℕ) (hl : length st.label ≤ label_limit) w
       let d = s.size in
       let k = kept_bytes st.label label in
       let name = label_codes st.label label k in
-      let e = label_read st.label label k (kept_shares st.label label) g.label_fits_lem in
+      let e = label_read st.label label k (kept_shares st.label label) g.label_fits in
       let r = section s label in
       let a = (0x30 + s.last) ∷ (name ++ dimension_bytes to_le16 d) in
       let b = (0x32 + s.last) ∷ (name ++ dimension_bytes to_le32 d) in
       let ea : all_short d ≡ true → next 8 (a ++ rest) st ≡ made (length a) r (named label st) =
-      λ q. rw (short_section_item st.label label k hl g.label_fits_lem s.last d rest g.last_fits g.dimensions_fit q, e, hd) in
+      λ q. rw (short_section_item st.label label k hl g.label_fits s.last d rest g.last_fits g.dimensions_fit q, e, hd) in
       let eb : next 8 (b ++ rest) st ≡ made (length b) r (named label st) =
-      rw (wide_section_item st.label label k hl g.label_fits_lem s.last d rest g.last_fits g.dimensions_fit, e, hd) in
+      rw (wide_section_item st.label label k hl g.label_fits s.last d rest g.last_fits g.dimensions_fit, e, hd) in
       pick_case (λ (x : List ℕ). Reads x r (named label st)) (all_short d) a b (λ q. goes_made a rest st r (named label st) (ea q)) (λ q. goes_made b rest st r (named label st) eb)
 
   error_read : (t : Traverse) → GoodTraverse t → Reads (error_codes t) (error t) st
@@ -397,7 +397,7 @@ leg_read st g label hl w u rest =
     (goes_append S (D ++ (M ++ (L ++ rest))) (style_read st g.style (D ++ (M ++ (L ++ rest))) w.style_fits u)
     (goes_append D (M ++ (L ++ rest)) (date_if_read v8_dates_read styled-st (M ++ (L ++ rest)) g.date w.date_fits)
     (goes_append M (L ++ rest) (move_if_read 8 dated-st (L ++ rest) v8_move g.from w.from_fits)
-    (line_read moved-st rest hl g.flags g.from g.to label w.flags_fit w.to_fits w.label_fits_lem refl))))
+    (line_read moved-st rest hl g.flags g.from g.to label w.flags_fit w.to_fits w.label_fits refl))))
 
 -- ---- codes-go: reading the codes of a record from any state makes exactly that record, leaves the state that writing leaves, and goes on at
 -- what follows
@@ -426,7 +426,7 @@ closing_read st at =
     pick_case (λ (x : List ℕ). run 8 at x st ≡ stop Good) _ _ _ (λ q. end_read st at (eqb-true st.setting.style 0 q)) (λ q. normal_end_read st at (eqb-false st.setting.style 0 q))
 
 pub after_short : (st : State) (r : Record) → length st.label ≤ label_limit → WellFormed r → length (after st r).label ≤ label_limit
-after_short st (leg g label) h w = w.label_fits_lem
-after_short st (station s label) h w = w.label_fits_lem
-after_short st (section s label) h w = w.label_fits_lem
+after_short st (leg g label) h w = w.label_fits
+after_short st (station s label) h w = w.label_fits
+after_short st (section s label) h w = w.label_fits
 after_short st (error t) h g = h

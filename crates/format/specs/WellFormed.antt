@@ -43,18 +43,18 @@ pub record GoodLeg (g : Leg) (label : List ℕ) : Type 0 where
   pub date_fits : GoodDated g.date
   pub from_fits : GoodPoint g.from
   pub to_fits : GoodPoint g.to
-  pub label_fits_lem : length label ≤ label_limit
+  pub label_fits : length label ≤ label_limit
 
 pub record GoodStation (s : Station) (label : List ℕ) : Type 0 where
   pub flags_fit : s.flags ≤ 0x7f
   pub place_fits : GoodPoint s.place
-  pub label_fits_lem : length label ≤ label_limit
+  pub label_fits : length label ≤ label_limit
 
 pub record GoodSection (s : Section) (label : List ℕ) : Type 0 where
   pub last_fits : s.last ≤ 1
   pub date_fits : GoodDated s.date
   pub dimensions_fit : GoodDimensions s.size
-  pub label_fits_lem : length label ≤ label_limit
+  pub label_fits : length label ≤ label_limit
 
 -- a well-formed record
 abbrev pub WellFormed : Record → Type 0

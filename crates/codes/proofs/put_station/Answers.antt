@@ -11,7 +11,7 @@ put_label-b-requires c =
     let h = kept_shares c.args.last.now
     c.args.name.now in
     let e = c.kept_bytes-kept.ensures in
-    let g = c.requires.1.label_fits_lem in (
+    let g = c.requires.1.label_fits in (
       omega (arith, c.put-a.ensures.most),
       omega (arith, c.requires),
       omega (arith, g),

@@ -13,7 +13,7 @@ put_label-b-requires c =
     let h = kept_shares c.args.last.now
     c.args.name.now in
     let e = c.kept_bytes-kept.ensures in
-    let g = c.requires.2.label_fits_lem in (
+    let g = c.requires.2.label_fits in (
       omega (
         arith,
         c.put-a.ensures.most,
@@ -43,7 +43,7 @@ put_label-b-requires-2 c =
     let h = kept_shares c.args.last.now
     c.args.name.now in
     let e = c.kept_bytes-kept.ensures in
-    let g = c.requires.2.label_fits_lem in (
+    let g = c.requires.2.label_fits in (
       omega (
         arith,
         c.put-a-2.ensures.most,
