@@ -201,7 +201,7 @@ module _ (file : List ℕ) (p : Place) (b : List ℕ) (R : Ready file p b) (byte
         date_fits = g.date_fits;
         from_fits = rw stands at g.position_fits;
         to_fits = point_good (drop (2 + add) s) (bytes_drop s s_bytes (2 + add));
-        label_fits_lem = omega (arith, n, L.few, L.few_add);
+        label_fits = omega (arith, n, L.few, L.few_add);
       }
 
   codes_are : codes st r ≡ take (14 + add) s

@@ -15,7 +15,8 @@ shape_of-out-then-answer-ne2 c =
 pub returns-then-answer-ne2 : goal.returns-then-answer-ne2
 returns-then-answer-ne2 c =
     let E = c.cockledrift_step-answer.ensures in
-    goes_stops c.loop-answer.invariant E.answer E.stand.1 E.stand.0 c.if-answer-ne2.true
+    let z = goes_stops c.loop-answer.invariant E.answer E.«record» E.stand c.if-answer-ne2.true in
+    record { answer = z.0; stand = z.1.0; «record» = z.1.1 }
 
 pub shape_of-out-then-left-eq0 : goal.shape_of-out-then-left-eq0
 shape_of-out-then-left-eq0 c =
@@ -24,10 +25,11 @@ shape_of-out-then-left-eq0 c =
 pub returns-then-left-eq0 : goal.returns-then-left-eq0
 returns-then-left-eq0 c =
     let E = c.cockledrift_step-answer.ensures in
-    goes_last c.loop-answer.invariant E.answer E.stand.1 E.stand.0 c.if-left-eq0.true
+    let z = goes_last c.loop-answer.invariant E.answer E.«record» E.stand c.if-left-eq0.true in
+    record { answer = z.0; stand = z.1.0; «record» = z.1.1 }
 
 pub loop-answer-preserved : goal.loop-answer-preserved
 loop-answer-preserved c =
     let E = c.cockledrift_step-answer.ensures in
     goes_again c.loop-answer.invariant
-    E.answer E.stand.1 E.stand.0 c.if-left-eq0.false c.if-answer-ne2.false
+    E.answer E.«record» E.stand c.if-left-eq0.false c.if-answer-ne2.false

@@ -4,4 +4,4 @@ use Rattle.capi.proofs.cockledrift_read_strict.Goals as goal
 
 pub returns : goal.returns
 returns c =
-    let R = c.read_strict-a in record { answer = tells R.result c.tell.ensures R.ensures.0; sheet = R.ensures.1.0; room = R.ensures.1.1 }
+    let R = c.read_strict-a in record { answer = tells R.result c.tell.ensures R.ensures.answer; sheet = R.ensures.sheet; room = R.ensures.room }

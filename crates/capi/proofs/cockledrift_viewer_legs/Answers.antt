@@ -11,4 +11,4 @@ returns c =
     let y = to_z-of_z w32 c.args.y c.ranges.y in
     let z = to_z-of_z w32 c.args.z c.ranges.z in
     let e = rw (x, y, z) at c.viewer_legs-r.ensures in
-    (c.tell_viewed.ensures ∙ ap view_numbers e.answer, e.numbers)
+    record { answer = c.tell_viewed.ensures ∙ ap view_numbers e.answer; numbers = e.numbers; exact = e.exact }

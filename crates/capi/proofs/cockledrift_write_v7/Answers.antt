@@ -4,4 +4,4 @@ use Rattle.capi.proofs.cockledrift_write_v7.Goals as goal
 
 pub returns : goal.returns
 returns c =
-    let R = c.write_v7-a in record { answer = tells R.result c.tell.ensures R.ensures.0; file = R.ensures.1 }
+    let R = c.write_v7-a in record { answer = tells R.result c.tell.ensures R.ensures.answer; file = R.ensures.file }
