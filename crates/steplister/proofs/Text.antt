@@ -111,7 +111,7 @@ module _ {file : List ℕ} {v p x t m : ℕ} (O : Opens file v p x t m) (fits : 
         let rs = layout_all sheet_version X.records in
         let k : g.bytes ≡ front + length rs = A.bytes_are ∙ ap (λ (y : Result). front + length (layout_all sheet_version y.records)) left_is in
         let d : sheet ≡ laid before front rs =
-        A.Laid-in (omega (arith, l, room)) ∙ ap (λ (y : Result). laid before front (layout_all sheet_version y.records)) left_is in
+        A.laid_in (omega (arith, l, room)) ∙ ap (λ (y : Result). laid before front (layout_all sheet_version y.records)) left_is in
         ap₂ take k d ∙ take_laid before rs front (omega (arith, k, l, room))
         ∙ ap (λ (y : List ℕ). y ++ rs) (ap (take front) F.1 ∙ take_at (sheet_version ∷ header_layout h) _ front (front_length ∙ sym F.0))
 

@@ -29,5 +29,5 @@ pub returns-in-Done : goal.returns-in-Done
 returns-in-Done c =
         let l = length-take-le c.args.n c.args.input.now c.requires.1 in
     let e = rw c.in-Done.is at c.convert-a.ensures.answer in
-    let O = output_file (take c.args.n c.args.input.now) c.args.sheet.now c.args.out.now c.requires.2 c.requires.3 (omega (arith, l, c.if-n-gt-INPUT_LIMIT.false)) _ _ _ _ e c.convert-a.ensures.sheet.1 in
+    let O = output_file (take c.args.n c.args.input.now) c.args.sheet.now c.args.out.now c.requires.2 c.requires.3 (omega (arith, l, c.if-n-gt-INPUT_LIMIT.false)) _ _ _ _ e c.convert-a.ensures.file in
     (omega (arith, O.room, c.requires.3), O.text)

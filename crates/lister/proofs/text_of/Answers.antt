@@ -25,6 +25,12 @@ slice_bounds-list-end-in-Done c =
     let k = c.read-a.auto.sheet in
     omega arith
 
+pub slice_bounds-list-end-in-Done-2 : goal.slice_bounds-list-end-in-Done-2
+slice_bounds-list-end-in-Done-2 c =
+    let h = read_room _ _ _ _ _ (rw c.in-Done.is at c.read-a.ensures.answer) in
+    let k = c.read-a.auto.sheet in
+    sym (length-take-le _ _ (omega arith))
+
 pub returns-in-Refused : goal.returns-in-Refused
 returns-in-Refused c =
         let l = length-take-le c.args.n c.args.input.now c.requires.1 in
