@@ -47,5 +47,5 @@ returns-in-Whole c =
     let O = opens c.opening-head.ensures c.in-Whole.is in
     let F = c.lay_front-front in
         let P = c.stop_text.ensures in
-    let t = stepped_text O (omega (arith, l, c.if-n-gt-INPUT_LIMIT.false)) c.args.sheet.now F.ensures (omega (arith, F.auto, c.requires.2)) c.gather-gathered.ensures in
+    let t = stepped_text O (omega (arith, l, c.if-n-gt-INPUT_LIMIT.false)) c.args.sheet.now (F.ensures.answer, F.ensures.sheet) (omega (arith, F.auto, c.requires.2)) c.gather-gathered.ensures in
     (P.0, P.1 ∙ t bytes (omega (arith, F.auto, c.gather-gathered.auto, c.requires.2)))
