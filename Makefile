@@ -1,4 +1,4 @@
-# libcockledrift.a and libcockledrift.so: the proved archive of `rt staticlib capi`, and the messages of
+# libcockledrift.a and libcockledrift.so: the proved archive of `tools/staticlib capi`, and the messages of
 # include/cockledrift.h. The program `cockledrift`, over the same archive.
 #
 #   make                              both libraries, in target/lib, and the program, in rust/target/release
@@ -39,18 +39,18 @@ all: libraries $(PROGRAM)
 libraries: $(OUT)/libcockledrift.a $(OUT)/$(SHARED) $(OUT)/cockledrift.pc
 
 proved:
-	rt staticlib capi
+	tools/staticlib capi
 
 # Where there is one already it is taken as it is: rt alone knows whether it is up to date.
 $(PROVED):
-	rt staticlib capi
+	tools/staticlib capi
 
 # What it does is told; what the proof says goes to a file.
 start:
 	@if [ ! -f $(PROVED) ]; then \
 		command -v rt >/dev/null || { echo 'rt, the Rattle toolchain, is not on PATH: it proves the library.'; exit 1; }; \
 		echo 'Proving the library: the first time this takes minutes. Its log is target/start.log.'; \
-		mkdir -p target && rt staticlib capi >target/start.log 2>&1 || { tail target/start.log; exit 1; }; \
+		mkdir -p target && tools/staticlib capi >target/start.log 2>&1 || { tail target/start.log; exit 1; }; \
 	fi
 	@command -v cargo >/dev/null || { echo 'cargo is not on PATH: it builds the program.'; exit 1; }
 	@echo 'Building $(BUILT).'

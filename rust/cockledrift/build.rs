@@ -5,7 +5,7 @@
 use std::path::{Path, PathBuf};
 use std::{env, fs};
 
-/// An archive `lib{name}.a`, which `rt staticlib {name}` makes, and its
+/// An archive `lib{name}.a`, which `tools/staticlib {name}` makes, and its
 /// functions after `cockledrift_`.
 struct Archive {
     name: &'static str,
@@ -102,6 +102,6 @@ fn holds(archive: &[u8], function: &str) -> bool {
 fn fail(name: &str, what: &str) {
     println!(
         "cargo::error=the proved library is missing: {what}. \
-         `rt staticlib {name}` in the repository's folder builds it."
+         `tools/staticlib {name}` in the repository's folder builds it."
     );
 }

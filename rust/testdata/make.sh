@@ -34,7 +34,7 @@ make departures/trim.svx departures/trim 3 4 5 6 7
 make departures/longname.svx departures/longname 7 8
 
 # What the library writes of each file that reads, and what dump3d says of that.
-# Needs the proved library too: rt staticlib capi.
+# Needs the proved library too: tools/staticlib capi.
 for file in *.3d; do
     cargo run -q --release --offline -p cockledrift --example convert < "$file" > "written/$file"
     dump3d -d "written/$file" > "written/${file%.3d}.dump"

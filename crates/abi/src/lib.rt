@@ -1,5 +1,6 @@
 // Answers as numbers, for C and Rust.
 #![tactic(auto)]
+
 ghost use Rattle.std.specs.Prelude.{◌≡◌};
 ghost use Rattle.format.specs.Summary.{holds};
 ghost use Rattle.format.specs.Answers.{later_of, opened_of, stepped_of, viewed_of, summed_of, entrances_of};

@@ -2,7 +2,7 @@
 use Prim.Native.Nat.{ℕ}
 use mathlib.Core.Path.{◌≡◌, ap, ◌∙◌}
 use mathlib.Core.List.{List}
-use Rattle.sha256.specs.Streams.{Stream, updated, stream_of, running_of, state_stream}
+use Rattle.sha256.specs.Streams.{updated, stream_of, running_of, state_stream}
 use Rattle.sha256.specs.declared.Running.{Running}
 
 pub update_stores : (s n d d' b : List ℕ) (run next : Running) → run ≡ running_of s → running_of n ≡ next → stream_of next d' ≡ updated (stream_of run d) b

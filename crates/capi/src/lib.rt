@@ -1,5 +1,6 @@
 // The library for C and Rust: each answer as numbers.
 #![tactic(auto)]
+
 ghost use Rattle.std.specs.Prelude.{◌≡◌, length, replicate};
 ghost use Rattle.format.specs.Header.{opening_of};
 ghost use Rattle.format.specs.Reading.{read_outcome, read_buffer};

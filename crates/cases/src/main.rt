@@ -1,6 +1,7 @@
 // Cases 11, 12 and 13 of document 01 (13 with the zones of #101) and the dates of
 // cross-sections (#106), run through the proved functions.
 #![tactic(auto)]
+
 use format::{Answer, Later};
 use listing::Printed;
 

@@ -1,6 +1,7 @@
 // The v8 codes of one record. Each piece is written where it fits, so the same code
 // measures when it is lent no bytes.
 #![tactic(auto)]
+
 ghost use Rattle.std.specs.Prelude.{◌≡◌, ◌++◌, ℕ, ◌+◌, ◌-◌, ◌≤◌, length, drop};
 ghost use Rattle.format.specs.Bytes.{to_le16, to_le32, same};
 ghost use Rattle.format.specs.Fields.{record_of, state_of};

@@ -1,6 +1,7 @@
 // Conversion: reads a file of any version to a lent sheet, then writes it as v8. A sheet
 // made by reading is never refused with 12 or 13, so 16 and 11 are left (#113).
 #![tactic(auto)]
+
 ghost use Rattle.std.specs.Prelude.{◌≡◌, length};
 ghost use Rattle.format.specs.Reading.{read_buffer};
 ghost use Rattle.format.specs.Conversion.{convert_outcome, convert_buffer};

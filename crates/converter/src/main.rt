@@ -1,6 +1,7 @@
 // Converts a 3d file of any version to v8. The file is standard input, at most 16,384
 // bytes; the v8 file, or the refusal's line, goes to standard output.
 #![tactic(auto)]
+
 ghost use Rattle.std.specs.Prelude.{◌≡◌, ◌+◌, ◌≤◌, length, take};
 ghost use Rattle.listing.specs.Lines.{input_limit};
 ghost use Rattle.converter.specs.Converter.{converter_sheet_limit, converter_file_limit, converter_text};

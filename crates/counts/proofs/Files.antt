@@ -5,9 +5,8 @@ use mathlib.Core.List.{List, ◌++◌}
 use native.Mathlib.Omega.{arith}
 use lib.ListN.{length, take, drop, length-append}
 use lib.Seq.{length-take-le}
-use lib.Dec.{ltb}
 use borrow.Author.Tests.{lt-ltb, le-ltb}
-use Rattle.format.specs.Bytes.{pick, over}
+use Rattle.format.specs.Bytes.{over}
 use Rattle.format.specs.Header.{Header}
 use Rattle.format.specs.Refusals.{Result, Outcome, accepted, refused, buffer_of}
 use Rattle.format.specs.Writing.{Writer, file_of, writing_verdict, filed_outcome, written_outcome}

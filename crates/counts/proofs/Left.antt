@@ -21,7 +21,7 @@ use Rattle.format.specs.Codes.{codes_limit, codes, unsayable}
 use Rattle.format.specs.Fields.{record_of, state_of}
 use Rattle.format.specs.Answers.{answer_of}
 use Rattle.format.specs.declared.Answer.{Answer}
-use Rattle.format.specs.declared.Answer.TheVariants.{Done, Refused}
+use Rattle.format.specs.declared.Answer.TheVariants.{Refused}
 use Rattle.format.specs.declared.Setting.{Setting}
 use Rattle.format.specs.declared.Fields.{Fields}
 use Rattle.format.proofs.WritingLaws.{unsayable_at}

@@ -1,6 +1,7 @@
 // Writing one record after another: the codes of each go behind those before it, and
 // bytes, records and the first fault are counted.
 #![tactic(auto)]
+
 ghost use Rattle.std.specs.Prelude.{◌≡◌, [], ◌+◌, ◌≤◌, length};
 ghost use Rattle.format.specs.Fields.{record_of, state_of};
 ghost use Rattle.format.specs.Refusals.{or_else};

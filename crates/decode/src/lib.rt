@@ -1,5 +1,6 @@
 // One item of a file: what its bytes say, read where they lie.
 #![tactic(auto)]
+
 ghost use Rattle.std.specs.Prelude.{◌≡◌, ℕ, ◌≤◌, length, drop};
 ghost use Rattle.format.specs.Bytes.{le16, le32, widened};
 ghost use Rattle.format.specs.Items.{point_of, dimensions_of, traverse_of, move_item, error_item, day_item, span_item, days_item, day_of_seconds, seconds_item, two_seconds_item, item_of};

@@ -3,6 +3,7 @@
 // until reading the old file and writing the new one are in the same state, and from
 // there on the old bytes.
 #![tactic(auto)]
+
 ghost use Rattle.std.specs.Prelude.{◌≡◌, ◌+◌, ◌≤◌, length, take, drop};
 ghost use Rattle.format.specs.Answers.{answer_of};
 ghost use Rattle.format.specs.Codes.{codes_limit, closing};

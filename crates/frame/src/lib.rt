@@ -1,6 +1,7 @@
 // What a v8 file has around the codes of its records: the header and the closing codes.
 // Each piece is written where it fits.
 #![tactic(auto)]
+
 ghost use Rattle.std.specs.Prelude.{◌≤◌, length};
 ghost use Rattle.format.specs.Header.{title_limit, time_limit};
 ghost use Rattle.format.specs.Codes.{closing, header_codes, header_limit};

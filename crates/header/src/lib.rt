@@ -1,5 +1,6 @@
 // Opening a file: its length and its header, and where its items start.
 #![tactic(auto)]
+
 ghost use Rattle.std.specs.Prelude.{◌≡◌, ◌+◌, ◌-◌, ◌≤◌, length, take, get_or};
 ghost use Rattle.format.specs.Bytes.{same};
 ghost use Rattle.format.specs.Header.{magic, good_version, extended_byte, closed_header, time_line, title_line, opening_of, file_limit, time_limit, title_limit};

@@ -1,6 +1,7 @@
 // Where a step reader stands, as numbers that its caller holds from one step to the next.
 // Any numbers are some stand: nothing that a caller puts there is unsafe.
 #![tactic(auto)]
+
 ghost use Rattle.std.specs.Prelude.{◌≡◌, ◌+◌, ◌%◌, ◌≤◌, ◌<◌};
 ghost use Rattle.format.specs.Label.{label_limit};
 ghost use Rattle.format.specs.Answers.{stepped_of};

@@ -1,15 +1,13 @@
 -- The steps of the commonest items: the label is extended in its buffer by sixteen bytes of the file, whatever it gains, and its first bytes
 -- are then the label that `short` tells. So each is the step that `take_item` would answer. Assumes nothing.
-use Prim.Native.Nat.{ℕ, ◌+◌, ◌-◌, ◌≤◌, ◌<◌}
+use Prim.Native.Nat.{ℕ, ◌+◌, ◌≤◌, ◌<◌}
 use mathlib.Core.Path.{◌≡◌, sym, ap, ◌∙◌}
 use mathlib.Core.List.{List, ◌++◌}
 use native.Mathlib.Omega.{arith}
 use lib.ListN.{length, take, drop, length-drop}
 use lib.Seq.{take-take, take-append-le, take-append-add, length-take-le}
-use Rattle.format.specs.Items.{Item, item_of}
+use Rattle.format.specs.Items.{Item}
 use Rattle.format.specs.Label.{label_limit}
-use Rattle.format.specs.Outline.{drop_leaves}
-use Rattle.format.specs.State.{State, Next, on, made, leg, station, section}
 use Rattle.format.specs.Fields.{state_of}
 use Rattle.format.specs.Reading.{next}
 use Rattle.format.specs.declared.Point.{Point}
@@ -18,9 +16,9 @@ use Rattle.format.specs.declared.Setting.{Setting}
 use Rattle.wire.specs.Laid.{laid}
 use Rattle.wire.proofs.Laws.{length_laid}
 use Rattle.short.specs.Brief.{Brief, Moves, Trimmed, make_line, make_station, make_section, leg_at, station_at, section_at, place_at, name_at}
-use Rattle.short.proofs.Laws.{name_length, brief_leg_lem, brief_station, brief_section, brief_move, brief_trim}
+use Rattle.short.proofs.Laws.{brief_leg_lem, brief_station, brief_section, brief_move, brief_trim}
 use Rattle.item.specs.Seen.{Tells}
-use Rattle.item.specs.Commonest.{moved_to, extended, leg_step, station_step, section_step, move_step, trim_step}
+use Rattle.item.specs.Commonest.{extended, leg_step, station_step, section_step, move_step, trim_step}
 
 -- the label in its buffer: `keep` bytes of it stay, then `add` of the sixteen that are laid in
 pub label_extended : (b s : List ℕ) (len keep add : ℕ) → keep ≤ len → keep + 16 ≤ length b → add < 16 → 18 ≤ length s → take (keep + add) (extended b keep s) ≡ name_at s keep add (take len b)

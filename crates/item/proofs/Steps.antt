@@ -1,42 +1,40 @@
 -- What each item does to the state, on plain values. Assumes nothing.
-use Prim.Native.Nat.{ℕ, ◌+◌, ◌-◌, ◌≤◌, ◌<◌}
+use Prim.Native.Nat.{ℕ, ◌-◌, ◌≤◌, ◌<◌}
 use mathlib.Core.Path.{◌≡◌, refl, sym, ap, ◌∙◌}
-use mathlib.Core.List.{List, [], ◌∷◌, ◌++◌}
+use mathlib.Core.List.{List, []}
 use native.Mathlib.Omega.{arith}
 use lib.ListN.{length, take, drop}
 use lib.Seq.{length-take-le}
 use mathlib.Core.Bool.{Bool, true, false}
 use lib.Dec.{ltb}
 use Rattle.format.specs.Bytes.{pick}
-use Rattle.format.specs.Label.{Labelled, too_short, too_long, labelled, kept_of, label_step, label_limit}
+use Rattle.format.specs.Label.{Labelled, too_short, too_long, labelled, kept_of, label_step}
 use Rattle.format.specs.Outline.{own_drop, drop_leaves}
 use Rattle.format.specs.declared.Kept.{Kept}
 use Rattle.format.specs.declared.Kept.TheVariants.{Keeps, Lacks}
 use Rattle.format.proofs.Basics.{pick_case}
 use Rattle.format.specs.declared.Cut.{Cut}
-use Rattle.format.specs.declared.Cut.TheVariants.{Empty, Back}
-use Rattle.format.specs.Items.{Item, Stop as stop_item, Style as style_item, Move as move_item, NoDate as no_date_item, Date as date_item, Error as error_item, Decoded, faulty, whole, item_of}
-use Rattle.format.specs.State.{State, Record, Next, bad, end, on, made, date_of, bad_dates, named, on_label, leg_from, apply, next_of}
+use Rattle.format.specs.declared.Cut.TheVariants.{Back}
+use Rattle.format.specs.Items.{Item, Style as style_item, Date as date_item, whole, item_of}
+use Rattle.format.specs.State.{State, Next, bad, end, on, made, date_of, named, on_label, leg_from, apply, next_of}
 use Rattle.format.specs.Reading.{next}
 use Rattle.format.specs.declared.Point.{Point}
 use Rattle.format.specs.declared.Traverse.{Traverse}
-use Rattle.format.specs.declared.Dated.{Dated}
 use Rattle.format.specs.declared.Dated.TheVariants.{Undated}
 use Rattle.format.specs.declared.Position.{Position}
 use Rattle.format.specs.declared.Position.TheVariants.{Unset, Stands}
 use Rattle.format.proofs.ApplyLaws.{style_other as style_others, style_first as style_firsts, style_end as style_ends, date_before as dates_before, date_late as dates_late, date_on as dates_on, stop_end, stop_empties, leg_unset as legs_unset, leg_set as legs_set}
-use Rattle.label.specs.Seen.{relabelled_seen, Tells as LabelTells}
+use Rattle.label.specs.Seen.{Tells as LabelTells}
 use Rattle.label.specs.declared.Relabelled.TheVariants.{TooShort, TooLong, Fits}
 use Rattle.decode.specs.Seen.{item_seen, relabel_item, dropped, Suits, Reads}
-use Rattle.item.specs.Seen.{seen, Short, Tells, TellsKept, TellsStayed, made_of, Does}
+use Rattle.item.specs.Seen.{seen, Tells, TellsKept, TellsStayed, made_of, Does}
 use Rattle.decode.specs.declared.Body.{Body}
 use Rattle.decode.specs.declared.Body.TheVariants.{Only, Section as SectionBody, Station as StationBody, Line as LineBody}
 use Rattle.decode.specs.declared.Item.{Item as Told}
-use Rattle.decode.specs.declared.Item.TheVariants.{Faulty, Stop, Style, Move, NoDate, Date, Error as ErrorTold, Relabel}
+use Rattle.decode.specs.declared.Item.TheVariants.{Faulty, Stop, Move, NoDate, Error as ErrorTold, Relabel}
 use Rattle.format.specs.Fields.{state_of}
 use Rattle.format.specs.declared.Setting.{Setting}
-use Rattle.format.specs.declared.Fields.{Fields}
-use Rattle.format.specs.declared.Fields.TheVariants.{Leg, Station, Section, Error}
+use Rattle.format.specs.declared.Fields.TheVariants.{Leg, Error}
 use Rattle.item.specs.declared.Step.{Step}
 use Rattle.item.specs.declared.Step.TheVariants.{Bad, End, On, Made}
 

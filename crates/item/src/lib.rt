@@ -1,6 +1,7 @@
 // What an item of a file does to the state. The label is lent, so nothing is copied but
 // the bytes that the label gains.
 #![tactic(auto)]
+
 ghost use Rattle.std.specs.Prelude.{◌≡◌, [], ℕ, ◌+◌, ◌≤◌, ◌<◌, length, take, drop};
 ghost use Rattle.format.specs.Items.{Style as style_item, Date as date_item, item_of};
 ghost use Rattle.format.specs.Label.{label_limit};

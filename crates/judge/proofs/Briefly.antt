@@ -1,23 +1,20 @@
 -- A LINE with a label part of one byte is what the writing rules give for the leg that it makes, where nothing stands before it and no more
 -- of the label could have stayed. Then `codes_go` says what reading it makes. Assumes nothing.
-use Prim.Native.Nat.{ℕ, suc, ◌+◌, ◌-◌, ◌*◌, ◌/◌, ◌%◌, ◌≤◌, ◌<◌}
+use Prim.Native.Nat.{ℕ, suc, ◌+◌, ◌-◌, ◌/◌, ◌%◌, ◌≤◌, ◌<◌}
 use mathlib.Core.Path.{◌≡◌, refl, sym, ap, ap₂, ◌∙◌}
 use mathlib.Core.Bool.{Bool, true, false, ◌&&◌, ◌||◌, not}
 use mathlib.Core.List.{List, [], ◌∷◌, ◌++◌, append-nil}
 use native.Mathlib.Nat.{add-zero}
 use native.Mathlib.Omega.{arith}
 use lib.ListN.{length, get_or, take, drop, length-append, length-drop, take-append-drop}
-use lib.Seq.{drop-drop, get_or-drop, get_or-take, take-add, take-take, take_at, length-take-le, drop-append_seam}
-use lib.Dec.{eqb, ltb, leb}
+use lib.Seq.{drop-drop, get_or-drop, get_or-take, take-add, take-take, length-take-le, drop-append_seam}
+use lib.Dec.{eqb, ltb}
 use borrow.Author.Rules.{part_to_end}
 use borrow.Author.Tests.{eq-eqb, lt-ltb, le-ltb, le-leb}
-use Rattle.format.specs.Bytes.{pick, same, le32, to_le32, Bytes}
+use Rattle.format.specs.Bytes.{same, le32, to_le32, Bytes}
 use Rattle.format.specs.Items.{point_of}
-use Rattle.format.specs.Label.{too_short, too_long, labelled, label_step}
 use Rattle.format.specs.Fields.{state_of}
-use Rattle.format.specs.declared.Cut.TheVariants.{Back}
-use Rattle.format.specs.declared.Leg.{Leg}
-use Rattle.format.specs.State.{State, Record, leg}
+use Rattle.format.specs.State.{State, Record}
 use Rattle.format.specs.Sheet.{point_bytes}
 use Rattle.format.specs.WellFormed.{GoodPoint, WellFormed}
 use Rattle.format.specs.Codes.{dated_codes, v8_dates, common, short_part, part_codes, label_codes, style_if, date_if, move_if, line_codes, codes, unsayable}
@@ -26,9 +23,6 @@ use Rattle.format.specs.declared.Position.TheVariants.{Stands}
 use Rattle.format.proofs.Basics.{pick_true, pick_false, and_true, less_or_not}
 use Rattle.format.proofs.SheetLaws.{bytes_drop}
 use Rattle.format.proofs.WrittenItems.{same_date_refl, same_point_refl}
-use Rattle.format.proofs.WritingLaws.{Shares, label_read}
-use Rattle.label.specs.Seen.{Tells}
-use Rattle.label.specs.declared.Relabelled.TheVariants.{TooShort, TooLong, Fits}
 use Rattle.scan.specs.Places.{state_at}
 use Rattle.scan.specs.Keeping.{Swaps}
 use Rattle.scan.specs.declared.Place.{Place}

@@ -2,6 +2,7 @@
 // rules would have produced): its records are read one after another, and the codes of each
 // are compared with the file's bytes.
 #![tactic(auto)]
+
 ghost use Rattle.std.specs.Prelude.{◌≡◌, ◌+◌, ◌-◌, ◌≤◌, length, take, drop};
 ghost use Rattle.format.specs.Bytes.{same, le32};
 ghost use Rattle.format.specs.Fields.{record_of};

@@ -1,5 +1,6 @@
 // What a code says in a version.
 #![tactic(auto)]
+
 ghost use Rattle.std.specs.Prelude.{◌≡◌, List, ℕ, ◌≤◌, length, drop, get_or};
 ghost use Rattle.format.specs.Items.{section_item, old_part, new_part, old_date_item, v7_date_item, old_middle_item, old_low_item, old_high_item, new_date_item, new_low_item, new_high_item, item_of};
 ghost use Rattle.length.specs.Parts.{part_at};

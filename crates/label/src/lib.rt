@@ -1,6 +1,7 @@
 // The current label: its buffer of 4,096 bytes, and the one step that changes it in
 // every version. The buffer is lent, beside plain numbers: nothing here copies it.
 #![tactic(auto)]
+
 ghost use Rattle.std.specs.Prelude.{◌≡◌, ℕ, ◌+◌, ◌≤◌, length, take};
 ghost use Rattle.std.proofs.Math.Seq.{paste};
 ghost use Rattle.format.specs.Label.{dot_from, kept_to_dot, kept_of, label_step, label_limit};

@@ -3,6 +3,7 @@
 // what stands behind one is free. Which item it is, reading and stepping each tell in a function
 // of their own: one with two callers would not be joined to the loop of reading.
 #![tactic(auto)]
+
 ghost use Rattle.std.specs.Prelude.{◌≡◌, ◌+◌, ◌-◌, ◌^◌, ◌≤◌, ◌<◌, length, take};
 ghost use Rattle.short.specs.Brief.{place_at, station_at};
 ghost use Rattle.format.specs.State.{leg, station, section};

@@ -1,5 +1,6 @@
 // The records of a sheet, laid out in bytes.
 #![tactic(auto)]
+
 ghost use Rattle.std.specs.Prelude.{◌≡◌, List, [], ◌∷◌, ◌++◌, ℕ, ◌+◌, ◌^◌, ◌≤◌, ◌<◌, length, take};
 ghost use Rattle.format.specs.Bytes.{over, to_be16, to_be32};
 ghost use Rattle.format.specs.Sheet.{sheet_version, point_bytes, dimension_bytes, traverse_bytes, date_kind, date_day, date_last, date_bytes, error_size, record_limit, layout, header_layout};

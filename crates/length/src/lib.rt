@@ -1,5 +1,6 @@
 // The numbers of a label part.
 #![tactic(auto)]
+
 ghost use Rattle.std.specs.Prelude.{◌≡◌, ℕ, ◌+◌, ◌≤◌, ◌<◌, length};
 ghost use Rattle.format.specs.Bytes.{pick};
 ghost use Rattle.format.specs.Items.{old_part, length_size, length_value, long_part, new_part};

@@ -1,5 +1,6 @@
 // Prints the sheet of a 3d file as text. The file is standard input, at most 16,384 bytes.
 #![tactic(auto)]
+
 ghost use Rattle.std.specs.Prelude.{◌≡◌, ◌+◌, ◌≤◌, length, take};
 ghost use Rattle.listing.specs.Lines.{input_limit, lister_sheet_limit, lister_text_limit, lister_text};
 

@@ -2,6 +2,7 @@
 // the buffer reaches; a line is measured so with no room, and put where it fits. The
 // bounds on an index, each a little lower than its callee's, keep sums from wrapping.
 #![tactic(auto)]
+
 ghost use Rattle.std.specs.Prelude.{◌≡◌, [], ◌∷◌, ◌++◌, ℕ, ◌+◌, ◌*◌, ◌^◌, ◌≤◌, ◌<◌, length, drop};
 ghost use Rattle.listing.specs.Text.{decimal_text, signed_text, hex_digit, plain, escaped_byte, escaped, text_of, spaced};
 ghost use Rattle.listing.specs.Lines.{leg_word, version_word, title_word, date_text, point_words, dimension_words, traverse_words, leg_line, station_line, section_line, error_line, record_line, header_line, end_line, refusal_line, too_long_line, rest_of, listing_of, sheet_listing, listing_limit};

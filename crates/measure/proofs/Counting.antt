@@ -4,8 +4,7 @@ use mathlib.Core.Path.{◌≡◌, refl, sym, ap, ◌∙◌}
 use mathlib.Core.List.{List}
 use mathlib.Core.Bool.{Bool, true, false}
 use native.Mathlib.Omega.{arith}
-use lib.ListN.{length, take, drop}
-use borrow.Author.Rules.{part_to_end}
+use lib.ListN.{length}
 use Rattle.format.specs.Items.{Item}
 use Rattle.format.specs.Sheet.{sheet_version, layout}
 use Rattle.format.specs.State.{State, Record, leg, station, section, named, moved, made}

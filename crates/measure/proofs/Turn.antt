@@ -1,5 +1,5 @@
 -- A turn of the measuring loop, on plain values. Assumes nothing.
-use Prim.Native.Nat.{ℕ, ◌+◌, ◌-◌, ◌*◌, ◌≤◌, ◌<◌}
+use Prim.Native.Nat.{ℕ, ◌+◌, ◌-◌, ◌*◌, ◌≤◌}
 use mathlib.Core.Path.{◌≡◌, refl, sym, ◌∙◌}
 use mathlib.Core.List.{List}
 use mathlib.Core.Bool.{Bool, true, false}
@@ -10,7 +10,7 @@ use lib.ListN.{length, take, drop}
 use Rattle.format.specs.State.{State, start, end}
 use Rattle.format.specs.Refusals.{stop}
 use Rattle.format.specs.declared.Verdict.{Verdict}
-use Rattle.format.specs.declared.Verdict.TheVariants.{Good, Refusal}
+use Rattle.format.specs.declared.Verdict.TheVariants.{Refusal}
 use Rattle.format.specs.Reading.{next, ended, run, items_of}
 use Rattle.format.proofs.Basics.{pick_case}
 use Rattle.format.proofs.ReadingLaws.{there_within, left_bad, left_after, left_done, left_on, left_made}

@@ -1,6 +1,7 @@
 // The bytes and records of a v8 file's sheet, before any is written. Only the lengths of
 // labels count here, so no label is kept: v3 to v7 look for dots, and v8 does not.
 #![tactic(auto)]
+
 ghost use Rattle.std.specs.Prelude.{◌≡◌, Bool, ℕ, ◌≤◌, length, drop};
 ghost use Rattle.format.specs.Items.{Date as date_item, Style as style_item, move_item, day_item, span_item, days_item, error_item, new_part};
 ghost use Rattle.format.specs.State.{apply, next_of};

@@ -1,6 +1,7 @@
 // Label parts of v8, written: how many bytes of the previous label to drop, how many to
 // append, and those. Each piece is written where it fits.
 #![tactic(auto)]
+
 ghost use Rattle.std.specs.Prelude.{◌≡◌, ◌++◌, ◌-◌, ◌≤◌, length, drop};
 ghost use Rattle.format.specs.Bytes.{same};
 ghost use Rattle.format.specs.Codes.{common, kept_bytes, length_codes, short_part, part_codes};

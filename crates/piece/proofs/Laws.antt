@@ -1,16 +1,14 @@
 -- Pieces of what was laid, numbers in pieces, and names compared by fours: whatever is read of a room is a piece of it, whatever is written is
 -- laid in, so a piece before or behind what was laid is kept, and a piece of it is read back. Assumes nothing.
 use mathlib.Core.Path.{◌≡◌, refl, sym, ap, ap₂, ◌∙◌}
-use mathlib.Core.List.{List, [], ◌∷◌, ◌++◌, append_assoc, append-nil}
-use mathlib.Core.Bool.{Bool, true, false}
-use Prim.Native.Nat.{ℕ, suc, ◌+◌, ◌-◌, ◌*◌, ◌≤◌, ◌<◌, min}
-use native.Mathlib.Nat.{le_of_lt, add-zero, zero-add, add_assoc}
+use mathlib.Core.List.{List, [], ◌∷◌, ◌++◌}
+use mathlib.Core.Bool.{true, false}
+use Prim.Native.Nat.{ℕ, suc, ◌+◌, ◌-◌, ◌*◌, ◌≤◌, ◌<◌}
 use native.Mathlib.Numerals.{add-one}
 use native.Mathlib.Omega.{arith}
-use borrow.Author.Rules.{part_to_end}
-use borrow.Author.Tests.{eq-eqb, ne_eqb}
-use lib.ListN.{length, take, drop, get_or, set, length-append, length-take, length-drop, take-append-drop, replicate, length-replicate, replicate-append-replicate}
-use lib.Seq.{drop-drop, take_at, drop_at, drop-length, drop-cons, take-suc, append_snoc, set_at, length-take-le, take-append-le, drop-append-le, take-take, get_or-take}
+use borrow.Author.Tests.{eq-eqb}
+use lib.ListN.{length, take, drop, get_or, set, length-drop, take-append-drop, replicate, length-replicate, replicate-append-replicate}
+use lib.Seq.{drop-drop, drop_at, drop-cons, append_snoc, set_at, length-take-le, take-append-le, drop-append-le, get_or-take}
 use Rattle.format.specs.Bytes.{pick, le16, le32, same}
 use Rattle.format.proofs.Basics.{same_true, same_refl}
 use Rattle.wire.specs.Laid.{laid}

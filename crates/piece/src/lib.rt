@@ -1,6 +1,7 @@
 // Pieces of a lent room: numbers of three and five bytes, bytes laid in, and bytes
 // compared four at a time.
 #![tactic(auto)]
+
 ghost use Rattle.std.specs.Prelude.{◌≡◌, ◌+◌, ◌≤◌, ◌<◌, length, take, replicate};
 ghost use Rattle.format.specs.Bytes.{same};
 ghost use Rattle.wire.specs.Laid.{laid};

@@ -1,13 +1,12 @@
 -- What is known of a record's head comes to with a label behind it, and legs and stations among them, on plain values. Assumes nothing.
 use Prim.Native.Nat.{ℕ, ◌+◌, ◌-◌, ◌≤◌}
-use mathlib.Core.Path.{◌≡◌, refl, sym, ap, ◌∙◌}
+use mathlib.Core.Path.{◌≡◌, refl, sym, ◌∙◌}
 use mathlib.Core.List.{List, [], ◌∷◌, ◌++◌}
 use mathlib.Core.Bool.{Bool, true, false, not}
 use native.Mathlib.Omega.{arith}
 use lib.ListN.{length, get_or, drop}
 use borrow.Author.Tests.{not-false, lt-ltb}
 use Rattle.format.specs.Bytes.{be16, be32, to_le32}
-use Rattle.format.specs.Codes.{common}
 use Rattle.format.specs.Items.{point_of}
 use Rattle.format.specs.Sheet.{point_bytes, framed}
 use Rattle.format.specs.Fields.{record_of, state_of}

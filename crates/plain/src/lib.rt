@@ -2,6 +2,7 @@
 // byte, since style, date and position go on. They are found and written without being
 // taken apart; every other record goes the general way.
 #![tactic(auto)]
+
 ghost use Rattle.std.specs.Prelude.{◌≡◌, [], ◌∷◌, ◌++◌, true, ◌+◌, ◌*◌, ◌≤◌, ◌<◌, length, get_or};
 ghost use Rattle.format.specs.Bytes.{be16, be32, to_le16, to_le32, over};
 ghost use Rattle.format.specs.Codes.{short_part};

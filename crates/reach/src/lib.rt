@@ -1,6 +1,7 @@
 // How far a survey reaches: the least and greatest x, y and z over both ends of its legs,
 // in one pass over a sheet. The box is two rows of three.
 #![tactic(auto)]
+
 ghost use Rattle.std.specs.Prelude.{◌≡◌, [], ◌∷◌, true, ◌+◌, ◌≤◌, length, get_or, take, drop};
 ghost use Rattle.format.specs.Bytes.{same};
 ghost use Rattle.format.specs.Sheet.{leg_entry, entry_of, records_of};

@@ -1,6 +1,6 @@
 -- An item is settled by its own bytes. With other bytes behind them it is the same item; and where bytes are too few for an item, whatever comes
 -- behind them makes an item that is longer than they are, or none. Assumes nothing.
-use Prim.Native.Nat.{ℕ, zero, suc, ◌+◌, ◌-◌, ◌/◌, ◌%◌, ◌≤◌, ◌<◌}
+use Prim.Native.Nat.{ℕ, zero, suc, ◌+◌, ◌-◌, ◌%◌, ◌≤◌, ◌<◌}
 use mathlib.Core.Path.{◌≡◌, refl, sym, ap, ap₂, ◌∙◌}
 use mathlib.Core.List.{List, [], ◌∷◌, ◌++◌}
 use mathlib.Core.Bool.{Bool, true, false}
@@ -10,7 +10,7 @@ use lib.Dec.{eqb, ltb}
 use lib.Seq.{drop-drop, length-take-le}
 use borrow.Author.Tests.{ltb-true, ltb-false, le-ltb, eqb-false, eq-eqb, ne_eqb}
 use Rattle.format.specs.Bytes.{pick, le16, le32, widened}
-use Rattle.format.specs.Items.{Item, Stop, Shorten, Style, Move, NoDate, Date, Error, Xsect, Label, Line, Decoded, faulty, whole, reserved, sized, with_part, behind_code, labelled_item, station_item, line_item, section_item, move_item, error_item, day_item, span_item, days_item, seconds_item, two_seconds_item, day_of_seconds, old_part, length_size, length_value, long_part, new_part, old_date_item, v7_date_item, old_middle_item, old_low_item, old_high_item, new_date_item, new_low_item, new_high_item, point_of, dimensions_of, traverse_of, item_of}
+use Rattle.format.specs.Items.{Item, Move, Date, Error, Xsect, Label, Line, Decoded, faulty, whole, sized, with_part, behind_code, labelled_item, station_item, line_item, section_item, move_item, error_item, day_item, span_item, days_item, seconds_item, two_seconds_item, day_of_seconds, old_part, length_size, length_value, long_part, new_part, old_date_item, v7_date_item, old_middle_item, old_low_item, old_high_item, new_date_item, new_low_item, new_high_item, point_of, dimensions_of, traverse_of, item_of}
 use Rattle.format.specs.declared.Point.{Point}
 use Rattle.format.specs.declared.Dimensions.{Dimensions}
 use Rattle.format.specs.declared.LabelPart.{LabelPart}

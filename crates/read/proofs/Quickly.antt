@@ -7,7 +7,7 @@ use native.Mathlib.Omega.{arith}
 use lib.ListN.{length, take, drop}
 use lib.Seq.{take-take}
 use Rattle.format.specs.Label.{label_limit}
-use Rattle.format.specs.State.{Next, Record, leg, station, section}
+use Rattle.format.specs.State.{Next, leg, station, section}
 use Rattle.format.specs.Sheet.{sheet_version, layout, record_limit}
 use Rattle.format.specs.Reading.{next}
 use Rattle.format.specs.Fields.{record_of, state_of, record_size}
@@ -19,9 +19,9 @@ use Rattle.format.specs.declared.Position.TheVariants.{Unset, Stands as StandsAt
 use Rattle.format.specs.declared.Station.{Station as StationFields}
 use Rattle.format.specs.declared.Section.{Section as SectionFields}
 use Rattle.layout.specs.Freely.{LaidFreely}
-use Rattle.short.specs.Brief.{Brief, Moves, make_line, make_station, make_section, leg_at, station_at, section_at, place_at, name_at}
-use Rattle.item.specs.Seen.{seen, Tells}
-use Rattle.item.specs.Commonest.{moved_to, extended, leg_step, station_step, section_step, move_step, trim_step}
+use Rattle.short.specs.Brief.{Brief, Moves, make_line, make_station, make_section, leg_at, station_at, section_at, place_at}
+use Rattle.item.specs.Seen.{Tells}
+use Rattle.item.specs.Commonest.{moved_to, extended, leg_step, trim_step}
 use Rattle.item.proofs.Commonest.{label_extended, leg_told, station_told, section_told, move_told}
 use Rattle.item.specs.declared.Step.{Step}
 use Rattle.item.specs.declared.Step.TheVariants.{Bad, End, On, Made}
@@ -32,7 +32,7 @@ use Rattle.read.specs.declared.Moved.{Moved}
 use Rattle.read.specs.declared.Stand.{Stand}
 use Rattle.read.specs.declared.Common.{Common}
 use Rattle.read.specs.declared.Common.TheVariants.{Other, Went}
-use Rattle.read.specs.Turning.{ahead_of, passed_of, record_by, same_joint, MovesBy, LaidBy, Passes, PassesTo, TurnsLine, ShortlyAs, comes}
+use Rattle.read.specs.Turning.{ahead_of, passed_of, record_by, same_joint, MovesBy, LaidBy, Passes, TurnsLine, ShortlyAs, comes}
 use Rattle.read.proofs.Turn.{Going, going_made, going_on, item_within, told_laid, text as text_of}
 
 -- ---- how far a step goes

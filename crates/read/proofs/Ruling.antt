@@ -2,7 +2,6 @@
 -- whole. Assumes nothing.
 use mathlib.Core.Path.{◌≡◌, refl, sym, ap, ◌∙◌}
 use mathlib.Core.List.{List, [], ◌∷◌, ◌++◌, append-nil}
-use mathlib.Core.Bool.{Bool, true, false}
 use Prim.Native.Nat.{ℕ, ◌+◌, ◌-◌, ◌*◌, ◌≤◌, ◌<◌}
 use native.Mathlib.Nat.{add-zero}
 use native.Mathlib.Omega.{arith}
@@ -19,12 +18,8 @@ use Rattle.format.specs.Fields.{record_of, state_of, record_size}
 use Rattle.format.specs.declared.Fields.{Fields}
 use Rattle.format.proofs.SheetLaws.{layout_size}
 use Rattle.format.specs.declared.Setting.{Setting}
-use Rattle.format.specs.declared.Verdict.{Verdict}
 use Rattle.format.specs.declared.Verdict.TheVariants.{Refusal}
 use Rattle.format.proofs.ReadingLaws.{Within, there_within}
-use Rattle.item.specs.Seen.{seen, Tells}
-use Rattle.item.specs.Commonest.{trim_step}
-use Rattle.item.specs.declared.Step.{Step}
 use Rattle.item.specs.declared.Step.TheVariants.{On as OnStep}
 use Rattle.label.specs.declared.Label.{Label}
 use Rattle.measure.specs.Totals.{passed_by, pass_of}
@@ -40,12 +35,11 @@ use Rattle.read.specs.declared.Moved.{Moved}
 use Rattle.read.specs.declared.Stand.{Stand}
 use Rattle.read.specs.declared.Rule.{Rule}
 use Rattle.read.specs.declared.Rule.TheVariants.{Off, On}
-use Rattle.read.specs.declared.Common.{Common}
 use Rattle.read.specs.declared.Common.TheVariants.{Other, Trim, Went as WentOn}
 use Rattle.read.specs.declared.Turned.{Turned}
 use Rattle.read.specs.declared.Turned.TheVariants.{Bad, End, Went}
 use Rattle.read.specs.Turning.{ahead_of, passed_of}
-use Rattle.read.specs.Ruling.{is_on, Begins, BeginsBy, items_by, LentBy, ReadyTo, GoesBy, RuledOn, RuledAs, RulesIn, Rules, TurnsBy, ShortlyIf, BeginsAs, AnyItem, ShortTurn}
+use Rattle.read.specs.Ruling.{is_on, Begins, BeginsBy, items_by, LentBy, ReadyTo, GoesBy, RuledAs, Rules, TurnsBy, ShortlyIf, BeginsAs, AnyItem, ShortTurn}
 use Rattle.read.proofs.Turn.{Stands, text, Going, going_first, ends_bad, ends_end, item_within}
 use Rattle.read.proofs.Quickly.{onward, going_trim}
 

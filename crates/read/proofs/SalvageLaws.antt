@@ -14,10 +14,10 @@ use Rattle.format.specs.Bytes.{pick}
 use Rattle.format.specs.Header.{Header, Opening, shut, opened, file_limit, opening_of}
 use Rattle.format.specs.Sheet.{sheet_version, sheet_of}
 use Rattle.format.specs.Items.{Item, Stop, Shorten, Style, Move, NoDate, Date, Error, Xsect, Label, Line, Decoded, faulty, whole, item_of}
-use Rattle.format.specs.State.{State, start, Record, Next, bad, end, on, made, on_label, apply, next_of}
+use Rattle.format.specs.State.{State, start, Record, Next, bad, end, on, made, on_label, apply}
 use Rattle.format.specs.Label.{label_step}
 use Rattle.format.specs.Reading.{next, run, items_of, read_outcome, read_buffer, read_from}
-use Rattle.format.specs.Refusals.{Result, Outcome, accepted, refused, outcome_of}
+use Rattle.format.specs.Refusals.{Result, accepted, refused, outcome_of}
 use Rattle.format.specs.declared.Cut.{Cut}
 use Rattle.format.specs.declared.Cut.TheVariants.{Empty, Back}
 use Rattle.format.specs.declared.Verdict.{Verdict}

@@ -1,17 +1,17 @@
 -- A turn of a pass's loop, and the two passes together, on plain values. Assumes nothing.
 use mathlib.Core.Path.{◌≡◌, refl, sym, ap, ◌∙◌}
-use mathlib.Core.List.{List, [], ◌∷◌, ◌++◌, append_assoc, append-nil}
-use Prim.Native.Nat.{ℕ, ◌+◌, ◌-◌, ◌*◌, ◌≤◌, ◌<◌}
+use mathlib.Core.List.{List, [], ◌++◌, append_assoc, append-nil}
+use Prim.Native.Nat.{ℕ, ◌+◌, ◌-◌, ◌*◌, ◌≤◌}
 use native.Mathlib.Omega.{arith}
-use lib.ListN.{length, take, drop, length-drop, length-append}
+use lib.ListN.{length, take, drop, length-append}
 use lib.Seq.{length-take-le, take_all, drop-length}
 use Rattle.format.specs.Bytes.{over}
-use Rattle.format.specs.State.{State, start_setting, start, Record, Next}
-use Rattle.format.specs.Sheet.{sheet_version, layout, layout_all, header_layout, sheet_of}
+use Rattle.format.specs.State.{State, start_setting, start, Next}
+use Rattle.format.specs.Sheet.{sheet_version, layout, layout_all}
 use Rattle.format.specs.Refusals.{Result, stop}
-use Rattle.format.specs.declared.Verdict.TheVariants.{Good, Refusal}
+use Rattle.format.specs.declared.Verdict.TheVariants.{Refusal}
 use Rattle.format.specs.declared.Verdict.{Verdict}
-use Rattle.format.specs.Reading.{next, ended, run, items_of, read_outcome, read_buffer}
+use Rattle.format.specs.Reading.{next, ended, run, items_of}
 use Rattle.format.specs.Fields.{record_of, state_of, record_size}
 use Rattle.format.specs.declared.Fields.{Fields}
 use Rattle.format.proofs.ReadingLaws.{Within, there_within, left_bad, left_on, left_made}
@@ -28,10 +28,7 @@ use Rattle.measure.specs.Totals.{passed_by, pass_of}
 use Rattle.measure.specs.declared.Passed.{Passed}
 use Rattle.measure.proofs.Sums.{pass_also, pass_stop}
 use Rattle.measure.proofs.Turn.{left_end}
-use Rattle.read.specs.Pass.{ReadsTo}
 use Rattle.read.specs.Turning.{LaidBy}
-use Rattle.header.specs.Head.{saying, Opens}
-use Rattle.format.specs.declared.Answer.TheVariants.{Done as AnswerDone, Refused as AnswerRefused}
 
 -- ---- a record is laid in just where one is made
 

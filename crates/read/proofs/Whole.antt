@@ -1,7 +1,7 @@
 -- The two passes together, on plain values: what the first says of a file that was opened, what the second leaves in the sheet, and which
 -- way the answers of reading and salvaging go. Assumes nothing.
 use mathlib.Core.Path.{◌≡◌, refl, sym, ap, ◌∙◌}
-use mathlib.Core.List.{List, [], ◌∷◌, ◌++◌}
+use mathlib.Core.List.{List, ◌∷◌, ◌++◌}
 use Prim.Native.Nat.{ℕ, ◌+◌, ◌-◌, ◌≤◌, ◌<◌}
 use native.Mathlib.Nat.{zero-add}
 use native.Mathlib.Omega.{arith}
@@ -13,7 +13,7 @@ use Rattle.format.specs.Header.{Header, shut, opening_of}
 use Rattle.format.specs.State.{Record}
 use Rattle.format.specs.Sheet.{sheet_version, layout_all, header_layout, sheet_of}
 use Rattle.format.specs.Refusals.{Result}
-use Rattle.format.specs.Reading.{items_of, read_outcome, read_buffer}
+use Rattle.format.specs.Reading.{read_outcome, read_buffer}
 use Rattle.format.specs.declared.Verdict.{Verdict}
 use Rattle.format.specs.declared.Verdict.TheVariants.{Good, Refusal}
 use Rattle.format.specs.declared.Answer.{Answer}

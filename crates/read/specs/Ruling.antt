@@ -1,5 +1,5 @@
 -- A pass that judges names, or none (#108): what it is lent, what it needs and what it comes to. Assumes nothing.
-use Rattle.std.specs.Prelude.{ℕ, ◌+◌, ◌≤◌, ◌<◌, ◌≡◌, Bool, true, false, List, [], length, take}
+use Rattle.std.specs.Prelude.{ℕ, ◌≤◌, ◌<◌, ◌≡◌, Bool, true, false, List, [], length, take}
 use Rattle.format.specs.Header.{file_limit}
 use Rattle.format.specs.Label.{label_limit}
 use Rattle.format.specs.Refusals.{Result}

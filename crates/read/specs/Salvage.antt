@@ -3,7 +3,6 @@ use Rattle.std.specs.Prelude.{ℕ, ◌-◌, ◌≡◌, List, length, ltb}
 use Rattle.format.specs.Bytes.{pick, over}
 use Rattle.format.specs.Header.{Opening, shut, opened, opening_of}
 use Rattle.format.specs.Sheet.{sheet_version, sheet_of}
-use Rattle.format.specs.Refusals.{Result}
 use Rattle.format.specs.Reading.{items_of, sheet_from}
 use Rattle.format.specs.declared.Verdict.{Verdict}
 use Rattle.format.specs.declared.Verdict.TheVariants.{Good, Refusal}

@@ -1,6 +1,7 @@
 // Reading a whole file into a sheet: a first pass judges every item and measures the
 // sheet, a second lays the records in.
 #![tactic(auto)]
+
 ghost use Rattle.std.specs.Prelude.{◌≡◌, List, [], ℕ, ◌+◌, ◌^◌, ◌≤◌, ◌<◌, length, replicate};
 ghost use Rattle.format.specs.State.{start_setting};
 ghost use Rattle.format.specs.Reading.{items_of, read_outcome, read_buffer};

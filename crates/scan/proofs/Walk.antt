@@ -6,23 +6,22 @@ use native.Mathlib.Omega.{arith}
 use lib.ListN.{length, take, drop}
 use lib.Seq.{drop-drop}
 use borrow.Author.Tests.{lt-ltb, le-ltb}
-use Rattle.format.specs.Bytes.{pick}
-use Rattle.format.specs.State.{State, Record, Next, bad, end, on, made}
+use Rattle.format.specs.State.{State, Next, bad, end, on, made}
 use Rattle.format.specs.Reading.{next, ended, run}
 use Rattle.format.specs.Fields.{state_of}
 use Rattle.format.specs.declared.Fields.{Fields}
 use Rattle.format.specs.declared.Setting.{Setting}
-use Rattle.format.specs.declared.Verdict.TheVariants.{Good, Refusal}
+use Rattle.format.specs.declared.Verdict.TheVariants.{Refusal}
 use Rattle.format.proofs.Basics.{pick_true, pick_false, less_or_not}
 use Rattle.format.proofs.IterateLaws.{iter_eq}
 use Rattle.format.proofs.ReadingLaws.{SizedNext, next_sized, Within, next_there_lem, there_within, left_bad, left_after, left_done, left_on, left_made}
 use Rattle.item.specs.Seen.{seen, Tells}
 use Rattle.item.specs.declared.Step.{Step}
 use Rattle.item.specs.declared.Step.TheVariants.{Bad, End, On, Made}
-use Rattle.scan.specs.Places.{state_at, left_at, Coming, stops, makes, coming_item, coming_step, coming, ended_at, Finds}
+use Rattle.scan.specs.Places.{state_at, left_at, Coming, stops, coming_item, coming_step, coming, ended_at, Finds}
 use Rattle.scan.specs.declared.Place.{Place}
 use Rattle.scan.specs.declared.Found.{Found}
-use Rattle.scan.specs.declared.Found.TheVariants.{Refused as FoundRefused, End as FoundEnd, Record as FoundRecord}
+use Rattle.scan.specs.declared.Found.TheVariants.{Refused as FoundRefused, Record as FoundRecord}
 
 -- ---- the equation of `coming`
 

@@ -1,6 +1,7 @@
 // The records of a file, one at a time: the items are read where they lie, up to the
 // next one that makes a record.
 #![tactic(auto)]
+
 ghost use Rattle.std.specs.Prelude.{◌≡◌, ◌++◌, ◌+◌, ◌-◌, ◌≤◌, ◌<◌, length, take};
 ghost use Rattle.scan.specs.Places.{Starts, ended_at, Finds};
 ghost use Rattle.scan.specs.Keeping.{Swaps, Keeps};

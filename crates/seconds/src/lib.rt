@@ -1,5 +1,6 @@
 // The seconds since 1970 of a time line, in either of its forms.
 #![tactic(auto)]
+
 ghost use Rattle.std.specs.Prelude.{◌≡◌, ◌-◌, ◌≤◌, ◌<◌, length, drop};
 ghost use Rattle.format.specs.Bytes.{same};
 ghost use Rattle.format.specs.Times.{leap, month_length, month_days, year_days, day_number, real_date, decimal, at_form, text_marks, text_zone, text_form, text_seconds, seconds_of};

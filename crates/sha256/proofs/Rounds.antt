@@ -2,7 +2,6 @@
 use Rattle.std.proofs.Common.{◌≡◌, ℕ, ◌+◌, ◌-◌, ◌*◌, ◌<◌, ◌≤◌, List, [], ◌∷◌, ◌++◌, length, get_or, take, drop, set, sym, refl, ap, ◌∙◌, add-one, arith, length-set, length-take-le, take_all, get_or-take, take-suc, take-suc-set, le-ltb, lt-ltb}
 use borrow.Author.Rules.{part_to_end}
 use Rattle.format.specs.Bytes.{pick, be32}
-use Rattle.sha256.specs.Words.{plus, small_sigma0, small_sigma1}
 use Rattle.sha256.specs.Digest.{constants, word_at, next_word, grown, schedule, round_of, rounds, sum_of, compressed}
 use Rattle.sha256.specs.declared.Hash.{Hash}
 

@@ -1,8 +1,7 @@
 -- A message in parts has the digest of the whole, however it is cut; and what one part more comes to. Assumes nothing.
 use Rattle.std.proofs.Common.{◌≡◌, ℕ, zero, suc, ◌+◌, ◌-◌, ◌*◌, ◌/◌, ◌%◌, ◌^◌, ◌<◌, ◌≤◌, List, [], ◌∷◌, ◌++◌, length, take, drop, sym, refl, ap, ◌∙◌, ap₂, append_assoc, append-nil, add-zero, zero-add, arith, length-append, length-drop, take-append-drop, length-take-le, drop-drop, take_at, drop_at}
 use lib.Seq.{drop-append-le, take-append-le}
-use borrow.Author.Rules.{part_to_end}
-use Rattle.format.specs.Bytes.{over, to_be32}
+use Rattle.format.specs.Bytes.{over}
 use Rattle.wire.specs.Laid.{laid}
 use Rattle.wire.proofs.Laws.{laid_zero, take_laid}
 use Rattle.sha256.proofs.Padding.{laid_end}

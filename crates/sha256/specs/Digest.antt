@@ -1,5 +1,5 @@
 -- SHA-256 of a list of bytes, after FIPS 180-4; bytes and words go the highest first (3.1). Assumes nothing.
-use Rattle.std.specs.Prelude.{ℕ, zero, suc, ◌+◌, ◌-◌, ◌*◌, ◌/◌, ◌%◌, ◌^◌, List, [], ◌∷◌, ◌++◌, length, take, drop, replicate, nat_lt, slice_index}
+use Rattle.std.specs.Prelude.{ℕ, zero, suc, ◌-◌, ◌*◌, ◌/◌, ◌%◌, ◌^◌, List, [], ◌∷◌, ◌++◌, length, take, drop, replicate, nat_lt, slice_index}
 use Rattle.format.specs.Bytes.{pick, be32, to_be32}
 use Rattle.sha256.specs.Words.{plus, choose, majority, big_sigma0, big_sigma1, small_sigma0, small_sigma1}
 use Rattle.sha256.specs.declared.Hash.{Hash}

@@ -1,5 +1,6 @@
 // SHA-256 (FIPS 180-4): of bytes in one slice, and of bytes that come in parts.
 #![tactic(auto)]
+
 ghost use Rattle.std.specs.Prelude.{◌≡◌, ◌+◌, ◌-◌, ◌*◌, ◌/◌, ◌%◌, ◌^◌, ◌<◌, ◌≤◌, ◌∷◌, ◌++◌, length, take, replicate, slice_index, slice_set};
 ghost use Rattle.format.specs.Bytes.{to_be32};
 ghost use Rattle.wire.specs.Laid.{laid};

@@ -1,6 +1,7 @@
 // The sheet read back: its front, and the record at the front of the bytes that
 // follow one another behind it. Labels and texts stay where they stand.
 #![tactic(auto)]
+
 ghost use Rattle.std.specs.Prelude.{◌≡◌, ℕ, ◌+◌, ◌≤◌, length, drop};
 ghost use Rattle.format.specs.Bytes.{be32};
 ghost use Rattle.format.specs.Header.{ends_in_return};

@@ -1,26 +1,25 @@
 -- What a LINE, a LABEL and an XSECT with a label part of one byte, a LINE with the same label, a MOVE and a trim come to. The item is found by
 -- its code; what it comes to in a state is one law of the label step, once for all of them. Assumes nothing.
 use Prim.Native.Nat.{ℕ, ◌+◌, ◌-◌, ◌/◌, ◌%◌, ◌≤◌, ◌<◌}
-use mathlib.Core.Path.{◌≡◌, refl, sym, ap, ◌∙◌}
-use mathlib.Core.List.{List, [], ◌++◌, append-nil}
+use mathlib.Core.Path.{◌≡◌, ap, ◌∙◌}
+use mathlib.Core.List.{List, [], append-nil}
 use mathlib.Core.Bool.{Bool, true, false}
 use native.Mathlib.Omega.{arith}
 use lib.ListN.{length, get_or, take, drop, length-drop, length-append}
 use lib.Seq.{drop-drop, get_or-drop, length-take-le}
 use lib.Dec.{ltb}
-use borrow.Author.Tests.{lt-ltb, le-ltb, ne_eqb, eq-eqb, ltb-true, ltb-false}
+use borrow.Author.Tests.{lt-ltb, le-ltb, ne_eqb}
 use Rattle.format.specs.Bytes.{pick, le16, le32, widened}
 use Rattle.format.specs.Label.{labelled, label_step, label_limit}
-use Rattle.format.specs.Items.{Item, Shorten, Move as move_to, Xsect, whole, reserved, dimensions_of, old_part, new_part, sized, labelled_item, line_item, station_item, section_item, move_item, old_low_item, old_high_item, new_low_item, new_high_item, item_of}
-use Rattle.format.specs.State.{State, Next, on, made, leg, station, section, named, moved, apply, next_of, leg_from, on_label}
+use Rattle.format.specs.Items.{Item, Move as move_to, Xsect, whole, reserved, dimensions_of, old_part, new_part, sized, labelled_item, line_item, station_item, section_item, move_item, old_low_item, old_high_item, new_low_item, new_high_item, item_of}
+use Rattle.format.specs.State.{State, on, made, leg, station, section, named, moved}
 use Rattle.format.specs.Outline.{drop_leaves}
 use Rattle.format.specs.Reading.{next}
-use Rattle.format.specs.declared.Cut.TheVariants.{Back, Trim as trim_cut}
+use Rattle.format.specs.declared.Cut.TheVariants.{Back}
 use Rattle.format.specs.declared.LabelPart.{LabelPart}
 use Rattle.format.specs.declared.LabelPart.TheVariants.{Numbers}
 use Rattle.format.specs.declared.Point.{Point}
 use Rattle.format.specs.declared.Position.TheVariants.{Stands}
-use Rattle.format.proofs.Basics.{pick_case}
 use Rattle.format.proofs.LabelLaws.{step_fits, back_keeps}
 use Rattle.short.specs.declared.Short.{Short}
 use Rattle.short.specs.declared.Short.TheVariants.{Other, Line, Again, Place, Section, Trim, Move}

@@ -1,6 +1,6 @@
 -- A LINE, a LABEL or an XSECT with a label part of one byte, a LINE with the same label, a MOVE, and the code that drops some bytes of the
 -- label. Assumes nothing.
-use Rattle.std.specs.Prelude.{ℕ, ◌+◌, ◌-◌, ◌/◌, ◌%◌, ◌≤◌, ◌<◌, ◌≡◌, List, ◌++◌, length, get_or, take, drop, ltb}
+use Rattle.std.specs.Prelude.{ℕ, ◌+◌, ◌-◌, ◌/◌, ◌%◌, ◌≤◌, ◌<◌, ◌≡◌, List, ◌++◌, length, take, drop, ltb}
 use Rattle.format.specs.Bytes.{pick, le16, le32, widened}
 use Rattle.format.specs.Label.{label_limit}
 use Rattle.format.specs.Items.{Item, Shorten, Move as move_to, Label as label_item, Line as line_item, Xsect, whole, item_of, point_of, dimensions_of}

@@ -2,6 +2,7 @@
 // with the same label and a MOVE, with bytes enough behind them; and the code of v3 to v7 that
 // drops some bytes of the label. Anything unusual is another item's: nothing is refused here.
 #![tactic(auto)]
+
 ghost use Rattle.std.specs.Prelude.{◌≡◌, ℕ, ◌≤◌, length};
 ghost use Rattle.format.specs.Label.{label_limit};
 ghost use Rattle.short.specs.Brief.{NewPart, OldPart, Repeats, Trims, sides_of, Finds, FindsNew, FindsOld};

@@ -1,5 +1,5 @@
 -- Going on to the next record, a step at a time; and that it always comes to one, the end or a refusal. Assumes nothing.
-use Prim.Native.Nat.{ℕ, zero, suc, ◌+◌, ◌-◌, ◌≤◌, ◌<◌}
+use Prim.Native.Nat.{ℕ, zero, suc, ◌+◌, ◌-◌, ◌≤◌}
 use native.Mathlib.Omega.{arith}
 use mathlib.Core.Path.{◌≡◌, refl, sym, ap, ◌∙◌}
 use mathlib.Core.List.{List, [], ◌∷◌}
@@ -7,7 +7,7 @@ use lib.ListN.{length, drop, length-drop}
 use types.Run.{OneOf, miss}
 use borrow.Enum.Refused.{Among, opened as opened_tag}
 use denote.Enum.Declared.{tag_of}
-use Rattle.format.specs.Bytes.{pick, over}
+use Rattle.format.specs.Bytes.{over}
 use Rattle.format.specs.State.{State, Record, Next, bad, end, on, made}
 use Rattle.format.specs.Reading.{next, ended}
 use Rattle.format.specs.declared.Verdict.{Verdict}

@@ -4,7 +4,7 @@ use Prim.Native.Nat.{ℕ, ◌+◌, ◌-◌, ◌≤◌, ◌<◌}
 use native.Mathlib.Omega.{arith}
 use mathlib.Core.Path.{◌≡◌, refl, sym, ap, ap₂, ◌∙◌}
 use mathlib.Core.List.{List, [], ◌∷◌, ◌++◌}
-use lib.ListN.{length, take, drop, length-drop, length-append, length-take, drop_of_length-le}
+use lib.ListN.{length, take, drop, length-drop, length-append, drop_of_length-le}
 use lib.Seq.{length-take-le, take_all, take-length, take_at}
 use borrow.Author.Rules.{part_to_end}
 use mathlib.Core.Bool.{Bool, true, false}
@@ -12,7 +12,7 @@ use lib.Dec.{ltb}
 use borrow.Author.Tests.{ltb-true, ltb-false, lt-ltb, le-ltb}
 use Rattle.format.specs.Bytes.{pick, over}
 use Rattle.format.specs.Header.{Opening, shut, opened}
-use Rattle.format.specs.Label.{Labelled, too_short, too_long, labelled, kept_of, appended, label_step}
+use Rattle.format.specs.Label.{Labelled, too_short, too_long, labelled, kept_of, label_step}
 use Rattle.format.specs.State.{State, Record, Next, bad, end, on, made, on_label, apply, next_of}
 use Rattle.format.specs.Sheet.{sheet_version, layout}
 use Rattle.format.specs.Reading.{next, ended}
@@ -25,15 +25,13 @@ use Rattle.format.proofs.Basics.{pick_case}
 use Rattle.format.proofs.ReadingLaws.{SizedNext, next_sized}
 use Rattle.format.specs.declared.Cut.{Cut}
 use Rattle.format.specs.declared.Cut.TheVariants.{Empty, Back}
-use Rattle.format.specs.declared.Kept.{Kept}
 use Rattle.format.specs.declared.Kept.TheVariants.{Keeps, Lacks as KeptLacks}
 use Rattle.format.specs.declared.Point.{Point}
 use Rattle.format.specs.declared.Setting.{Setting}
 use Rattle.format.specs.declared.Fields.{Fields}
 use Rattle.format.specs.declared.Fields.TheVariants.{Leg as FieldsLeg, Station as FieldsStation, Section as FieldsSection, Error as FieldsError}
 use Rattle.format.proofs.ApplyLaws.{label_case, leg_case}
-use Rattle.format.specs.declared.Stepped.TheVariants.{Record as RecordStep, Nothing, End as EndStep, Refused as StepRefused}
-use Rattle.wire.specs.Laid.{laid_if}
+use Rattle.format.specs.declared.Stepped.TheVariants.{End as EndStep, Refused as StepRefused}
 use Rattle.wire.proofs.Laws.{length_over, laid_zero, laid_some}
 use Rattle.decode.specs.Seen.{item_seen, Reads}
 use Rattle.decode.specs.declared.Body.{Body}
@@ -51,9 +49,8 @@ use borrow.Enum.Refused.{Among, opened as opened_tag}
 use denote.Enum.Declared.{tag_of}
 use Rattle.item.proofs.Steps.{label_short, label_long, label_fits_lem, comes_relabelled}
 use Rattle.format.proofs.SheetLaws.{layout_size}
-use Rattle.step.specs.Standing.{stand_seen, lesser, Fresh, Opens, EndStepped, behind_item, room_of, room_for, step_room, Peeks, Recorded, Within, After, Steps}
+use Rattle.step.specs.Standing.{stand_seen, lesser, Fresh, Opens, behind_item, room_of, room_for, step_room, Peeks, Recorded, Within, After, Steps}
 use Rattle.step.specs.declared.Phase.TheVariants.{Going, Ended, Refused}
-use Rattle.step.specs.declared.Room.{Room}
 use Rattle.step.specs.declared.Room.TheVariants.{Enough, Lacks}
 use Rattle.step.specs.declared.Stand.{Stand as Held}
 use Rattle.step.specs.declared.Taken.{Taken}

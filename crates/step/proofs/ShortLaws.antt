@@ -1,6 +1,5 @@
 -- The commonest items as steps: each is the item that the general step would take, and there is room for its record. Assumes nothing.
 use Prim.Native.Nat.{ℕ, ◌+◌, ◌-◌, ◌≤◌}
-use native.Mathlib.Omega.{arith}
 use mathlib.Core.Path.{◌≡◌, refl, sym, ap, ◌∙◌}
 use mathlib.Core.List.{List}
 use lib.ListN.{length, take, drop}
@@ -17,11 +16,11 @@ use Rattle.item.specs.declared.Step.TheVariants.{On, Made}
 use Rattle.laying.specs.Quickly.{laid_by, LaidAs, Quickly}
 use Rattle.laying.specs.declared.Quick.{Quick}
 use Rattle.laying.specs.declared.Quick.TheVariants.{Other, Leg as QuickLeg, Made as QuickMade, Trim, Move}
-use Rattle.step.specs.Standing.{lesser, behind_item, Steps}
+use Rattle.step.specs.Standing.{lesser}
 use Rattle.step.specs.Shortly.{Took, Shortly}
 use Rattle.step.specs.declared.Phase.TheVariants.{Going}
 use Rattle.step.specs.declared.Stand.{Stand as Held}
-use Rattle.step.proofs.Laws.{there, step_within, step_after_lem, ample_room}
+use Rattle.step.proofs.Laws.{step_within, step_after_lem, ample_room}
 
 module _ (h : Held) (label file old : List ℕ) (g : h.phase ≡ Going) (full : length label ≡ 4096) (ample : 4130 ≤ length old) (few : length file ≤ 9223372036854775807) where
   abbrev at : ℕ

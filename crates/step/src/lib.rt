@@ -1,6 +1,7 @@
 // Stepping through a file, an item at a time. Where a reader stands is a small value: the
 // label's bytes stand in a buffer beside it, which is lent to each step and never copied.
 #![tactic(auto)]
+
 ghost use Rattle.std.specs.Prelude.{◌≡◌, ℕ, ◌+◌, ◌≤◌, length, take};
 ghost use Rattle.format.specs.Header.{opening_of};
 ghost use Rattle.format.specs.Stepping.{open_stand, step_of, step_buffer};

@@ -1,6 +1,7 @@
 // Prints the sheet of a 3d file as text, as the lister does, by steps: the records that
 // they answer are laid one behind the other. The file is standard input.
 #![tactic(auto)]
+
 ghost use Rattle.std.specs.Prelude.{◌≡◌, ◌∷◌, ◌+◌, ◌≤◌, length, take};
 ghost use Rattle.format.specs.Bytes.{over};
 ghost use Rattle.format.specs.Header.{title_limit, time_limit};

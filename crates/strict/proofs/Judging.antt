@@ -6,7 +6,7 @@ use mathlib.Core.List.{List, [], ◌∷◌, ◌++◌}
 use mathlib.Core.Bool.{Bool, true, false, ◌&&◌}
 use native.Mathlib.Omega.{arith}
 use lib.ListN.{length}
-use lib.Dec.{eqb, ltb}
+use lib.Dec.{eqb}
 use borrow.Author.Tests.{lt-ltb, le-ltb, eq-eqb, eqb-true}
 use Rattle.format.specs.Bytes.{pick, same}
 use Rattle.format.specs.State.{Record, leg, station, section, error}
@@ -17,12 +17,12 @@ use Rattle.format.specs.declared.Section.{Section}
 use Rattle.format.specs.declared.Traverse.{Traverse}
 use Rattle.format.proofs.Basics.{both, and_true, same_true}
 use Rattle.table.specs.Entries.{Entry, Answer, somewhere, nowhere, lookup, room_of, entries_of}
-use Rattle.table.specs.Told.{Holds, FindTold, seen, KnownTold, MovedTold, FullTold, KeptTold}
+use Rattle.table.specs.Told.{Holds, FindTold, KnownTold, MovedTold, FullTold, KeptTold}
 use Rattle.table.specs.declared.Index.{Index}
 use Rattle.table.specs.declared.Found.{Found}
 use Rattle.table.specs.declared.Found.TheVariants.{At, Missing}
 use Rattle.table.proofs.Lookups.{lookup_front, lookup_last, room_last}
-use Rattle.strict.specs.Strict.{Searched, found, unknown, searched, taken, Judgement, fine, faulty, same_place, judge_section, judge_station, judged}
+use Rattle.strict.specs.Strict.{found, unknown, searched, taken, Judgement, same_place, judged}
 use Rattle.strict.specs.Indexed.{as_searched, Knows, JudgedTo}
 use Rattle.strict.specs.declared.Judged.TheVariants.{Faulty, Fine}
 

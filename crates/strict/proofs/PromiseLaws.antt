@@ -2,7 +2,7 @@
 -- refuses, it refuses too, and in an item no later; with room for all different names it never answers 22. Each law goes item by item: both readings
 -- make the same records until a record is refused, and the room that names take only grows. Assumes nothing.
 use Prim.Native.Nat.{ℕ, zero, suc, ◌+◌, ◌≤◌, ◌<◌}
-use mathlib.Core.Path.{◌≡◌, refl, sym, ap, ◌∙◌, subst}
+use mathlib.Core.Path.{◌≡◌, refl, sym, ap, ◌∙◌}
 use mathlib.Core.Bool.{Bool, true, false}
 use mathlib.Core.List.{List, [], ◌∷◌}
 use native.Mathlib.Omega.{arith}
@@ -13,8 +13,8 @@ use Rattle.format.specs.Bytes.{pick}
 use Rattle.format.specs.Header.{Header, Opening, shut, opened, opening_of}
 use Rattle.format.specs.State.{State, Record, leg, station, section, error, Next, bad, end, on, made}
 use Rattle.format.specs.Sheet.{sheet_version, sheet_of}
-use Rattle.format.specs.Refusals.{reader_number, Result, stop, also, Outcome, accepted, refused, outcome_of}
-use Rattle.format.specs.Reading.{next, ended, after_item, run, items_of, read_from, read_outcome, read_buffer}
+use Rattle.format.specs.Refusals.{reader_number, Result, also, Outcome, accepted, refused, outcome_of}
+use Rattle.format.specs.Reading.{next, ended, after_item, run, items_of, read_outcome, read_buffer}
 use Rattle.format.specs.declared.Point.{Point}
 use Rattle.format.specs.declared.Verdict.{Verdict}
 use Rattle.format.specs.declared.Verdict.TheVariants.{Good, Refusal}

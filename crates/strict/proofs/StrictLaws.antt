@@ -1,15 +1,14 @@
 -- The equation of strict reading, and what it has to do with ordinary reading: as long as no record is refused, both make the same records from
 -- the same items, so they stop at the same place or strict reading stops sooner. Assumes nothing.
 use Prim.Native.Nat.{ℕ, zero, suc, ◌+◌, ◌-◌, ◌≤◌, ◌<◌}
-use mathlib.Core.Path.{◌≡◌, refl, sym, ap, ◌∙◌, subst}
-use mathlib.Core.List.{List, [], ◌∷◌}
+use mathlib.Core.Path.{◌≡◌, refl, ap, ◌∙◌}
+use mathlib.Core.List.{List, ◌∷◌}
 use native.Mathlib.Omega.{arith}
 use lib.ListN.{length, take, drop, length-drop}
 use lib.Seq.{drop-drop}
 use Rattle.format.specs.State.{State, Record, Next, bad, end, on, made}
 use Rattle.format.specs.Refusals.{Result, stop, also}
-use Rattle.format.specs.Reading.{next, ended, after_item, run, items_of}
-use Rattle.format.specs.declared.Verdict.{Verdict}
+use Rattle.format.specs.Reading.{next, after_item, run, items_of}
 use Rattle.format.specs.declared.Verdict.TheVariants.{Good, Refusal}
 use Rattle.format.proofs.IterateLaws.{iter_eq}
 use Rattle.format.proofs.ReadingLaws.{SizedNext, next_sized, next_there_lem, run_eq}

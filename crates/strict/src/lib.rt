@@ -1,6 +1,7 @@
 // What strict reading adds to reading, request #108: each station and cross-section is judged
 // by an index of names in lent room.
 #![tactic(auto)]
+
 ghost use Rattle.std.specs.Prelude.{◌≡◌, ◌≤◌, ◌<◌, length, take};
 ghost use Rattle.format.specs.Fields.{record_of, state_of};
 ghost use Rattle.format.specs.Reading.{next};

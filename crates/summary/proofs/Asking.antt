@@ -1,9 +1,9 @@
 -- Questions: the rank from totals, and the least marked record. Assumes nothing.
-use Rattle.std.proofs.Common.{◌≡◌, ℕ, zero, suc, ◌+◌, ◌-◌, ◌*◌, ◌/◌, ◌%◌, ◌^◌, ◌<◌, ◌≤◌, Bool, true, false, ◌||◌, T, ltb, List, [], ◌∷◌, length, get_or, drop, sym, refl, ap, ◌∙◌, subst, ap₂, suc-le-suc, zero-le, le_of_suc-le-suc, not-suc-le-zero, add-zero, add-suc, suc-add, div-one, add-one, one-add, arith, lit<, length-drop, get_or-drop, shr_lt, le-ltb, lt-ltb, eq-eqb, ne_eqb}
+use Rattle.std.proofs.Common.{◌≡◌, ℕ, zero, suc, ◌+◌, ◌-◌, ◌*◌, ◌/◌, ◌%◌, ◌^◌, ◌<◌, ◌≤◌, Bool, true, false, ◌||◌, T, ltb, List, [], ◌∷◌, length, get_or, drop, sym, refl, ap, ◌∙◌, subst, ap₂, suc-le-suc, zero-le, le_of_suc-le-suc, not-suc-le-zero, add-zero, add-suc, suc-add, add-one, one-add, arith, lit<, length-drop, get_or-drop, shr_lt, le-ltb, lt-ltb, eq-eqb, ne_eqb}
 use lib.Bits.{bit_and}
 use lib.Count.{ones, count_trailing_zeros, under}
 use Rattle.format.specs.Bytes.{pick}
-use Rattle.format.specs.Summary.{one, count_of, words_for, needed, bit, bit_at, marks_of, rank_in, count_in, first_from, next_of, holds, unheld, outside, entrances_outcome}
+use Rattle.format.specs.Summary.{one, count_of, words_for, needed, bit, bit_at, marks_of, rank_in, count_in, first_from, next_of, holds, unheld, entrances_outcome}
 use Rattle.format.specs.declared.NextEntrance.{NextEntrance}
 use Rattle.format.specs.declared.NextEntrance.TheVariants.{At, Nowhere}
 use Rattle.format.proofs.Basics.{less_or_not, pick_true, pick_false}

@@ -1,18 +1,16 @@
 -- Making the summary, and bringing it up to date. Marks that stand in the first words, with spare bits cleared and totals behind them, are the
 -- summary of those marks (Whole); so it is enough to know the bits: of a sheet's records in making, and of the three parts of the edited
 -- records in bringing up to date. Assumes nothing.
-use Rattle.std.proofs.Common.{◌≡◌, ℕ, ◌+◌, ◌-◌, ◌*◌, ◌<◌, ◌≤◌, max, Bool, true, false, ltb, List, ◌++◌, length, get_or, take, drop, sym, refl, ap, ◌∙◌, subst, ap₂, zero-add, arith, length-append, length-drop, length-take-le, get_or-drop, get_or-take, get_or-append-add, le-ltb, lt-ltb}
+use Rattle.std.proofs.Common.{◌≡◌, ℕ, ◌+◌, ◌-◌, ◌*◌, ◌<◌, ◌≤◌, max, Bool, false, List, ◌++◌, length, get_or, take, drop, sym, refl, ap, ◌∙◌, subst, ap₂, zero-add, arith, length-take-le, get_or-drop, get_or-take, get_or-append-add, le-ltb, lt-ltb}
 use lib.ListN.{get_or-append}
 use Rattle.format.specs.Bytes.{pick, over}
-use Rattle.format.specs.State.{Record}
-use Rattle.format.specs.Refusals.{Result, or_else}
+use Rattle.format.specs.Refusals.{Result}
 use Rattle.format.specs.Sheet.{good_front, version_of, version_result, sheet_version, sheet_result, records_of}
-use Rattle.format.specs.Summary.{one, marks_in, words_for, needed, summary, bit_at, marks_of, SummaryOutcome, takes, untaken, summed_from, words_by, made_outcome, made_words, summary_outcome, summary_words, edited_marks, count_verdict, updated_outcome, update_outcome, update_words}
-use Rattle.format.specs.declared.Verdict.{Verdict}
+use Rattle.format.specs.Summary.{one, marks_in, words_for, needed, summary, bit_at, marks_of, takes, untaken, made_outcome, made_words, summary_outcome, summary_words, edited_marks, count_verdict, updated_outcome, update_outcome, update_words}
 use Rattle.format.specs.declared.Verdict.TheVariants.{Good, Refusal}
 use Rattle.format.proofs.Basics.{less_or_not, pick_true, pick_false}
 use Rattle.format.proofs.SummaryWords.{marks_ext, mark_of_bit, length_marks_of, length_summary}
-use Rattle.format.proofs.SummaryLaws.{length_marks, length_edited}
+use Rattle.format.proofs.SummaryLaws.{length_edited}
 use Rattle.sheet.specs.Seen.{Fronted}
 use Rattle.summary.specs.Bits.{Put}
 use Rattle.summary.proofs.Whole.{over_agree}

@@ -1,5 +1,5 @@
 -- Sums of bits, and the totals. Assumes nothing.
-use Rattle.std.proofs.Common.{◌≡◌, ℕ, zero, suc, ◌+◌, ◌*◌, ◌<◌, ◌≤◌, List, length, get_or, set, sym, refl, ap, ◌∙◌, ap₂, add-zero, add_assoc, add-suc, arith, get_or-set_other, get_or-set_same}
+use Rattle.std.proofs.Common.{◌≡◌, ℕ, zero, suc, ◌+◌, ◌*◌, ◌<◌, List, length, get_or, set, sym, refl, ap, ◌∙◌, ap₂, add-zero, add_assoc, add-suc, arith, get_or-set_other, get_or-set_same}
 use Rattle.format.specs.Summary.{bit, bit_at}
 use Rattle.format.proofs.SummaryWords.{at_word_lem}
 use Rattle.summary.specs.Bits.{sum_to, Totalled}

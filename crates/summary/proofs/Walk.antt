@@ -1,18 +1,17 @@
 -- The walk over the records of a sheet, for both passes of making a summary: the records that are left, from where the walk stands, are all
 -- records but so many. The first pass judges 12 and counts; in the second, where all records are known to be well-formed, the size of the next one is
 -- what its length bytes say and its mark is read from its kind and its flags. Assumes nothing.
-use Rattle.std.proofs.Common.{◌≡◌, ℕ, zero, suc, ◌+◌, ◌-◌, ◌*◌, ◌/◌, ◌%◌, ◌<◌, ◌≤◌, Bool, true, false, ◌&&◌, eqb, List, [], ◌∷◌, map, length, get_or, take, drop, sym, refl, ap, ◌∙◌, ap₂, add-zero, add-suc, add-one, arith, length-drop, drop_of_length-le, get_or-take, drop-drop}
+use Rattle.std.proofs.Common.{◌≡◌, ℕ, zero, suc, ◌+◌, ◌<◌, ◌≤◌, Bool, true, false, ◌&&◌, eqb, List, [], ◌∷◌, map, length, get_or, drop, sym, refl, ap, ◌∙◌, arith, length-drop, drop_of_length-le, get_or-take, drop-drop}
 use Rattle.format.specs.Bytes.{pick, be16, to_be16, Bytes}
 use Rattle.format.specs.State.{Record, leg, station, section, error}
 use Rattle.format.specs.Refusals.{Result, stop, also}
-use Rattle.format.specs.Sheet.{layout, undated_section_body, section_body, undated_version, prefixed, Entry, flawed, entry, entry_of, entry_step, records_from, records_of}
+use Rattle.format.specs.Sheet.{layout, undated_section_body, section_body, undated_version, prefixed, Entry, flawed, entry, entry_of, records_from, records_of}
 use Rattle.format.specs.Summary.{entrance, marks_in, one, bit}
-use Rattle.format.specs.declared.Verdict.{Verdict}
 use Rattle.format.specs.declared.Verdict.TheVariants.{Good, Refusal}
 use Rattle.format.proofs.Basics.{pick_case}
 use Rattle.format.proofs.SheetLaws.{entry_sized, entry_read, records_none, records_more, layout_station}
 use Rattle.reach.specs.Reaching.{size_of}
-use Rattle.reach.proofs.Turn.{There, there, none_there}
+use Rattle.reach.proofs.Turn.{There, none_there}
 use Rattle.summary.specs.Bits.{Wrote, Put}
 use Rattle.summary.specs.Records.{mark_at, RecordsIn}
 use Rattle.summary.proofs.Words.{put_up}

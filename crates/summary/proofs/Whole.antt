@@ -1,5 +1,5 @@
 -- The summary as a list of words. Assumes nothing.
-use Rattle.std.proofs.Common.{◌≡◌, ℕ, zero, suc, ◌+◌, ◌-◌, ◌*◌, ◌/◌, ◌%◌, ◌^◌, ◌<◌, ◌≤◌, Bool, true, false, eqb, List, [], ◌∷◌, ◌++◌, length, get_or, take, drop, sym, refl, ap, ◌∙◌, subst, ap₂, le_of_suc-le-suc, pow-suc, div-one, one-add, arith, lit<, length-append, length-drop, length-take, get_or-drop, get_or-take, get_or-append-add, ext_get_or, pow_pos}
+use Rattle.std.proofs.Common.{◌≡◌, ℕ, zero, suc, ◌+◌, ◌-◌, ◌*◌, ◌^◌, ◌<◌, ◌≤◌, Bool, false, List, [], ◌∷◌, ◌++◌, length, get_or, take, drop, sym, refl, ap, ◌∙◌, subst, le_of_suc-le-suc, pow-suc, arith, length-append, length-drop, length-take, get_or-drop, get_or-append-add, ext_get_or, pow_pos}
 use lib.ListN.{get_or-append, get_or-eq_default}
 use Rattle.format.specs.Bytes.{over}
 use Rattle.format.specs.Summary.{one, marked, count_of, word_of, words_for, needed, summary, bit, bit_at, marks_of}

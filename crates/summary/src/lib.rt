@@ -2,6 +2,7 @@
 // and spare bits 0, then as many words with a running total at each word's start. It is
 // made of a sheet, asked, and brought up to date in its place after an edit.
 #![tactic(auto)]
+
 ghost use Rattle.std.specs.Prelude.{◌≡◌, ℕ, ◌+◌, ◌-◌, ◌*◌, ◌^◌, ◌<◌, ◌≤◌, max, length, drop, slice_index};
 ghost use Rattle.format.specs.Bytes.{over};
 ghost use Rattle.format.specs.Sheet.{sheet_version, records_of};

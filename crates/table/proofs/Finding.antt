@@ -1,17 +1,15 @@
 -- A turn of `find`, and its answers, on plain values. Assumes nothing.
-use Prim.Native.Nat.{ℕ, ◌+◌, ◌*◌, ◌/◌, ◌%◌, ◌-◌, ◌≤◌, ◌<◌}
-use mathlib.Core.Path.{◌≡◌, refl, sym, ap, subst, ◌∙◌}
+use Prim.Native.Nat.{ℕ, ◌+◌, ◌*◌, ◌%◌, ◌≤◌, ◌<◌}
+use mathlib.Core.Path.{◌≡◌, sym, ap, subst, ◌∙◌}
 use mathlib.Core.List.{List}
 use mathlib.Core.Bool.{Bool, true, false}
 use native.Mathlib.Omega.{arith}
-use lib.ListN.{length}
 use Rattle.table.specs.Hash.{hash_of}
 use Rattle.table.specs.Room.{hash_at, next_at, head_at, name_at, point_at}
-use Rattle.table.specs.Entries.{Answer, somewhere, nowhere, lookup, entries_of}
-use Rattle.table.specs.Good.{Hit, In, Inside, Body, Chained, Good}
+use Rattle.table.specs.Entries.{somewhere}
+use Rattle.table.specs.Good.{Hit, In, Good}
 use Rattle.table.specs.Told.{Says, FindTold}
 use Rattle.format.specs.declared.Point.{Point}
-use Rattle.table.specs.declared.Found.{Found}
 use Rattle.table.specs.declared.Found.TheVariants.{At, Missing}
 use Rattle.table.proofs.Lookups.{none, one}
 use Rattle.table.proofs.Chains.{in_none, in_past}

@@ -1,15 +1,14 @@
 -- What a change of a node's links leaves of the room. Assumes nothing.
 use Prim.Native.Nat.{ℕ, zero, suc, ◌+◌, ◌-◌, ◌*◌, ◌/◌, ◌%◌, ◌≤◌, ◌<◌}
-use mathlib.Core.Path.{◌≡◌, refl, sym, ap, ap₂, subst, ◌∙◌}
-use mathlib.Core.List.{List, [], ◌∷◌, ◌++◌}
+use mathlib.Core.Path.{◌≡◌, refl, ◌∙◌}
+use mathlib.Core.List.{List, [], ◌∷◌}
 use mathlib.Core.Logic.{◌⊎◌, inl, inr}
 use native.Mathlib.Omega.{arith}
 use native.Mathlib.Nat.{add-zero}
 use native.Mathlib.Decide.{dec_lt}
-use lib.ListN.{length, drop, take}
-use Rattle.format.specs.Bytes.{le16, le32}
+use lib.ListN.{length, drop}
 use Rattle.wire.specs.Laid.{laid}
-use Rattle.piece.specs.Pieces.{le24, le40, to_le24, piece}
+use Rattle.piece.specs.Pieces.{le24, to_le24, piece}
 use Rattle.wire.proofs.Laws.{length_laid}
 use Rattle.piece.proofs.Laws.{piece_before, piece_behind, piece_of, le16_piece, le24_piece, le32_piece, le40_piece}
 use Rattle.table.specs.Room.{start_at, size_at, hash_at, next_at, point_at, name_at, head_spot, head_at, hung_at, blank}

@@ -1,6 +1,6 @@
 -- One name more: the room stays good, and the entries are one more. Assumes nothing.
-use Prim.Native.Nat.{ℕ, zero, suc, ◌+◌, ◌-◌, ◌*◌, ◌/◌, ◌%◌, ◌≤◌, ◌<◌}
-use mathlib.Core.Path.{◌≡◌, refl, sym, ap, ap₂, subst, ◌∙◌}
+use Prim.Native.Nat.{ℕ, ◌+◌, ◌-◌, ◌*◌, ◌/◌, ◌%◌, ◌≤◌, ◌<◌}
+use mathlib.Core.Path.{◌≡◌, refl, sym, ap, subst, ◌∙◌}
 use mathlib.Core.List.{List, [], ◌∷◌, ◌++◌}
 use mathlib.Core.Logic.{◌⊎◌, inl, inr}
 use native.Mathlib.Omega.{arith}
@@ -9,16 +9,15 @@ use lib.ListN.{length, drop}
 use lib.Seq.{take-length}
 use Rattle.format.specs.Bytes.{le16, le32, to_le32}
 use Rattle.wire.specs.Laid.{laid}
-use Rattle.piece.specs.Pieces.{le24, le40, piece}
+use Rattle.piece.specs.Pieces.{le40, piece}
 use Rattle.wire.proofs.Laws.{length_laid}
 use Rattle.piece.proofs.Laws.{piece_before, piece_behind, piece_of, le16_piece, le24_piece, le32_piece, le40_piece}
 use Rattle.table.specs.Hash.{hash_of}
 use Rattle.table.specs.Room.{start_at, size_at, hash_at, next_at, point_at, name_at, head_spot, head_at, front_of, node_of, hung_at}
-use Rattle.table.specs.Entries.{Entry, Answer, somewhere, nowhere, lookup, room_of, entries_of}
+use Rattle.table.specs.Entries.{nowhere, lookup, room_of, entries_of}
 use Rattle.table.specs.Good.{In, here, there, Inside, Body, Chained, Good, Links, Rehung}
 use Rattle.table.specs.Told.{NodeTold, Grew}
 use Rattle.format.specs.declared.Point.{Point}
-use Rattle.table.specs.declared.Index.{Index}
 use Rattle.table.proofs.Lookups.{one, room_last, entries_same, entries_more}
 use Rattle.table.proofs.Frames.{start_kept, size_kept, hash_kept, point_kept, name_kept}
 use Rattle.table.proofs.Chains.{last_or, hang_kept, hang_chained}

@@ -1,6 +1,6 @@
 -- A search through the entries of n nodes, and the entries after one more. Assumes nothing.
-use Prim.Native.Nat.{ℕ, zero, suc, ◌+◌, ◌*◌, ◌≤◌, ◌<◌}
-use mathlib.Core.Path.{◌≡◌, refl, sym, ap, ap₂, subst, ◌∙◌}
+use Prim.Native.Nat.{ℕ, zero, suc, ◌+◌, ◌≤◌, ◌<◌}
+use mathlib.Core.Path.{◌≡◌, refl, ◌∙◌}
 use mathlib.Core.List.{List, [], ◌∷◌, ◌++◌}
 use mathlib.Core.Bool.{Bool, true, false}
 use mathlib.Core.Logic.{⊎_elim}
@@ -12,7 +12,7 @@ use Rattle.format.specs.Bytes.{pick, same}
 use Rattle.format.proofs.Basics.{same_refl}
 use Rattle.wire.proofs.Laws.{same_false}
 use Rattle.table.specs.Room.{name_at, point_at}
-use Rattle.table.specs.Entries.{Entry, Answer, somewhere, nowhere, lookup, room_of, entry_at, entries_of}
+use Rattle.table.specs.Entries.{Entry, somewhere, nowhere, lookup, room_of, entry_at, entries_of}
 use Rattle.format.specs.declared.Point.{Point}
 
 -- ---- one more entry at the end

@@ -1,12 +1,11 @@
 -- What the code reads of a node. Assumes nothing.
-use Prim.Native.Nat.{ℕ, ◌+◌, ◌-◌, ◌*◌, ◌≤◌, ◌<◌}
-use mathlib.Core.Path.{◌≡◌, refl, sym, ap, ap₂, ◌∙◌}
+use Prim.Native.Nat.{ℕ, ◌+◌, ◌-◌, ◌*◌}
+use mathlib.Core.Path.{◌≡◌, refl, sym, ◌∙◌}
 use mathlib.Core.List.{List}
 use mathlib.Core.Bool.{Bool, true, false}
 use native.Mathlib.Omega.{arith}
-use native.Mathlib.Nat.{add-zero}
-use lib.ListN.{length, drop, take, get_or}
-use lib.Seq.{drop-drop, get_or-drop}
+use lib.ListN.{length, drop, take}
+use lib.Seq.{drop-drop}
 use Rattle.format.specs.Bytes.{le16, le32, same}
 use Rattle.piece.specs.Pieces.{le40, piece}
 use Rattle.format.proofs.Basics.{same_true, same_refl}

@@ -1,12 +1,12 @@
 -- The answers of `take` and `empty`, on plain values. Assumes nothing.
-use Prim.Native.Nat.{ℕ, ◌+◌, ◌*◌, ◌≤◌, ◌<◌}
+use Prim.Native.Nat.{ℕ}
 use mathlib.Core.Path.{◌≡◌, refl, sym, ap, subst, ◌∙◌}
 use mathlib.Core.List.{List, []}
 use native.Mathlib.Omega.{arith}
 use Rattle.table.specs.Hash.{hash_of}
-use Rattle.table.specs.Entries.{Answer, somewhere, nowhere, lookup, room_of, entries_of}
+use Rattle.table.specs.Entries.{somewhere, nowhere, lookup, room_of, entries_of}
 use Rattle.table.specs.Good.{Good}
-use Rattle.table.specs.Told.{FindTold, Grew, Stuck, AddTold, KnownTold, MovedTold, FullTold, KeptTold}
+use Rattle.table.specs.Told.{FindTold, AddTold, KnownTold, MovedTold, FullTold, KeptTold}
 use Rattle.format.specs.declared.Point.{Point}
 use Rattle.table.specs.declared.Index.{Index}
 use Rattle.table.specs.declared.Found.{Found}

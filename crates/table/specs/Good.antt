@@ -1,5 +1,5 @@
 -- The invariant of the room: whoever calls `find` and `add` hands it on and looks into none of it. Assumes nothing.
-use Rattle.std.specs.Prelude.{ℕ, ◌+◌, ◌*◌, ◌/◌, ◌%◌, ◌≤◌, ◌<◌, ◌≡◌, List, length}
+use Rattle.std.specs.Prelude.{ℕ, ◌+◌, ◌*◌, ◌%◌, ◌≤◌, ◌<◌, ◌≡◌, List, length}
 use Rattle.piece.specs.Pieces.{piece}
 use Rattle.table.specs.Hash.{hash_of}
 use Rattle.table.specs.Room.{start_at, size_at, hash_at, next_at, head_at, name_at}

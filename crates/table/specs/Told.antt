@@ -1,5 +1,5 @@
 -- What the answers of `find`, `add` and `take` say. Assumes nothing.
-use Rattle.std.specs.Prelude.{ℕ, ◌+◌, ◌*◌, ◌≤◌, ◌<◌, ◌≡◌, List, [], ◌∷◌, ◌++◌, Bool, true, false, length}
+use Rattle.std.specs.Prelude.{ℕ, ◌+◌, ◌≤◌, ◌<◌, ◌≡◌, List, [], ◌∷◌, ◌++◌, Bool, true, false, length}
 use Rattle.format.specs.Bytes.{to_le32}
 use Rattle.table.specs.Hash.{hash_of}
 use Rattle.table.specs.Room.{front_of, node_of}

@@ -3,6 +3,7 @@
 // node has the heads of two chains, and all nodes are hung anew where the names outgrow
 // the heads in use.
 #![tactic(auto)]
+
 ghost use Rattle.std.specs.Prelude.{◌≡◌, [], ◌+◌, ◌*◌, ◌/◌, ◌%◌, ◌≤◌, ◌<◌, length};
 ghost use Rattle.format.specs.Bytes.{to_le32};
 ghost use Rattle.table.specs.Hash.{factor_of, mix_of, hash_from, hash_of};

@@ -1,5 +1,6 @@
 // Which of two files was written later, by the time lines of their headers.
 #![tactic(auto)]
+
 ghost use Rattle.std.specs.Prelude.{◌≡◌, ◌+◌, ◌≤◌, length, take, drop};
 ghost use Rattle.format.specs.Times.{seconds_of, stamp_of, judged, compare_of, part_of, handed, later_part};
 ghost use Rattle.format.specs.Answers.{later_of};

@@ -3,9 +3,8 @@ use Prim.Native.Nat.{ℕ, zero, suc, ◌+◌, ◌-◌, ◌/◌, ◌%◌, ◌≤�
 use mathlib.Core.Path.{◌≡◌, refl, sym, ap, ◌∙◌}
 use mathlib.Core.List.{List, [], ◌∷◌, ◌++◌}
 use native.Mathlib.Omega.{arith}
-use lib.ListN.{length}
 use borrow.Author.Tests.{lt-ltb, le-ltb, eq-eqb, ne_eqb}
-use Rattle.format.specs.Bytes.{pick, to_le16}
+use Rattle.format.specs.Bytes.{to_le16}
 use Rattle.format.specs.V7Codes.{sixteens, trim_codes, shorten_codes, old_length_codes}
 use Rattle.format.proofs.Basics.{pick_true, pick_false}
 use Rattle.part.specs.Lays.{Lays}

@@ -1,6 +1,7 @@
 // The v7 codes of one record, of the header and of the end. Each piece is written where it
 // fits, so the same code measures when it is lent no bytes.
 #![tactic(auto)]
+
 ghost use Rattle.std.specs.Prelude.{◌≡◌, [], ◌∷◌, ℕ, ◌+◌, ◌≤◌, length};
 ghost use Rattle.format.specs.Bytes.{to_le32};
 ghost use Rattle.format.specs.Fields.{record_of, state_of};

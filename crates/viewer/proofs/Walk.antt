@@ -2,21 +2,20 @@
 -- the first of them. Two loops walk: one looks for a leg too far, the other writes the legs' numbers; what is left comes to the same as the
 -- whole. Assumes nothing.
 use Prim.Native.Nat.{ℕ, ◌+◌, ◌-◌, ◌≤◌, ◌<◌}
-use mathlib.Core.Path.{◌≡◌, refl, sym, ap, ap₂, ◌∙◌, subst}
+use mathlib.Core.Path.{◌≡◌, refl, sym, ap, ◌∙◌}
 use mathlib.Core.List.{List, [], ◌∷◌, ◌++◌}
 use mathlib.Core.Bool.{Bool, true, false, ◌&&◌}
-use native.Mathlib.Nat.{add-zero}
 use native.Mathlib.Omega.{arith}
 use lib.ListN.{length, get_or, take, drop, take-append-drop, length-append, length-drop, drop_of_length-le}
 use lib.Seq.{drop-drop}
 use lib.Dec.{eqb, leb}
 use lib.IntN.{ℤ}
 use lib.Ieee.{Float}
-use borrow.Author.Tests.{eqb-true, eqb-false, eq-eqb, ne_eqb}
+use borrow.Author.Tests.{eqb-true, eqb-false, eq-eqb}
 use Rattle.format.specs.Bytes.{pick, be16, be32, Bytes}
 use Rattle.format.specs.Items.{point_of}
 use Rattle.format.specs.State.{Record, leg, station, section, error}
-use Rattle.format.specs.Refusals.{Result, stop, also}
+use Rattle.format.specs.Refusals.{Result, stop}
 use Rattle.format.specs.Sheet.{leg_fields, good_header, good_front, behind_front, version_of, version_result, sheet_result, Entry, flawed, entry, entry_of, framed, records_from, records_of}
 use Rattle.format.specs.Reach.{legs_of}
 use Rattle.format.specs.Viewer.{place_of, less_origin, six_of, differences, all_legs, too_far, far_verdict, numbers_over, view_differences}
@@ -27,7 +26,7 @@ use Rattle.format.proofs.Basics.{pick_case, pick_true, pick_false, both, neither
 use Rattle.format.proofs.SheetLaws.{frame, entry_sized, records_none, records_more}
 use Rattle.format.proofs.ViewerLaws.{far_append, legs_leg, near_all}
 use Rattle.reach.proofs.Turn.{leg_there, other_there, turned}
-use Rattle.viewer.specs.Viewing.{six_at, far_at, Near, Fits}
+use Rattle.viewer.specs.Viewing.{six_at, far_at, Fits}
 use Rattle.viewer.proofs.Numbers.{length_behind, over_next}
 
 -- ---- what is left

@@ -2,7 +2,7 @@
 -- Assumes nothing.
 use Prim.Native.Nat.{ℕ, ◌*◌, ◌≤◌, ◌<◌}
 use mathlib.Core.Path.{◌≡◌, refl, sym, ap, ◌∙◌, subst}
-use mathlib.Core.List.{List, [], ◌∷◌}
+use mathlib.Core.List.{List, []}
 use mathlib.Core.Bool.{false}
 use native.Mathlib.Omega.{arith}
 use borrow.Author.Tests.{le-ltb}
@@ -18,7 +18,7 @@ use Rattle.format.specs.declared.Verdict.TheVariants.{Good, Refusal}
 use Rattle.format.proofs.Basics.{pick_false}
 use Rattle.format.proofs.ReachLaws.{reach_spans}
 use Rattle.format.proofs.ViewerLaws.{differences_length, legs_few, all_near, box_near, view_none, view_refused, view_far, view_short, view_exact}
-use Rattle.viewer.specs.Viewing.{Boxed, Near, Counted, Fits}
+use Rattle.viewer.specs.Viewing.{Boxed, Counted, Fits}
 
 -- ---- the box of all legs
 

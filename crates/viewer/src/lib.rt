@@ -1,6 +1,7 @@
 // Legs for the viewer: six f32 a leg, less an origin. The box of all legs says whether one
 // of them is too far; the numbers are written in a second pass over the sheet.
 #![tactic(auto)]
+
 ghost use Rattle.std.specs.Prelude.{◌≡◌, ◌++◌, false, ◌+◌, ◌≤◌, length, get_or, drop, ltb, ◌-ℤ◌, nat_abs};
 ghost use Rattle.format.specs.Bytes.{be16, be32};
 ghost use Rattle.format.specs.Items.{point_of};

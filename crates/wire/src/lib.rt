@@ -1,5 +1,6 @@
 // Slices of bytes: copied, compared and searched.
 #![tactic(auto)]
+
 ghost use Rattle.std.specs.Prelude.{◌≡◌, ◌≤◌, ◌<◌, min, length, take};
 ghost use Rattle.format.specs.Bytes.{same, over};
 ghost use Rattle.format.specs.Header.{line_end};

@@ -1,6 +1,7 @@
 // The v8 file of a sheet, in two passes. The codes are written where they fit, so the
 // same pass measures when it is lent no bytes.
 #![tactic(auto)]
+
 ghost use Rattle.std.specs.Prelude.{◌≡◌, ◌≤◌, ◌<◌, length, drop};
 ghost use Rattle.format.specs.Sheet.{records_of, front_header, sheet_result};
 ghost use Rattle.format.specs.Answers.{answer_of};

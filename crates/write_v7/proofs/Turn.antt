@@ -28,9 +28,9 @@ use Rattle.part.proofs.Laying.{lays_as, lays_within, lays_then, puts_front}
 use Rattle.plain.specs.Plainly.{label_at, tail_of, v7_code, unsaid, Goes, Plainly}
 use Rattle.plain.specs.declared.Form.{Form}
 use Rattle.plain.proofs.Placing.{plain_v7_codes}
-use Rattle.plain.proofs.InSheet.{last_long, plain_sizes, name_is, added_is, added_long}
+use Rattle.plain.proofs.InSheet.{last_long, name_is, added_is, added_long}
 use Rattle.counts.specs.Tallies.{bounded, Adds, rest_outcome}
-use Rattle.counts.proofs.Left.{Left, written, written_length, written_there, adds_one, left_stopped}
+use Rattle.counts.proofs.Left.{Left, written_length, written_there, adds_one, left_stopped}
 use Rattle.write.proofs.Standing.{counted, Standing, standing_none, standing_end, standing_flawed, standing_more}
 use Rattle.write_v7.specs.Passing.{hand_of, carried_style, hand_after, hand_found, state_in, Named, Turns}
 use Rattle.write_v7.specs.declared.Hand.{Hand}

@@ -1,6 +1,7 @@
 // The v7 file of a sheet, in two passes, as the v8 file is written: what differs are the
 // codes, the closing and what cannot be written.
 #![tactic(auto)]
+
 ghost use Rattle.std.specs.Prelude.{◌≡◌, ◌∷◌, ◌++◌, ◌+◌, ◌≤◌, ◌<◌, eqb, length, drop};
 ghost use Rattle.format.specs.Answers.{answer_of};
 ghost use Rattle.format.specs.Header.{file_limit};

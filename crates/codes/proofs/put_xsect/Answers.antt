@@ -30,7 +30,7 @@ put_label-b-requires c =
 pub returns-then-all_short : goal.returns-then-all_short
 unfolding section_codes to_le16 label_codes
 returns-then-all_short c =
-            lays_within
+    lays_within
     (lays_as (lays_then c.put-a.ensures (lays_then
     (rw c.kept_bytes-kept.ensures at c.put_label-b.ensures) (rw c.short_bytes-bytes.ensures at
     c.put.ensures)))
@@ -60,7 +60,7 @@ put_label-b-requires-2 c =
 pub returns : goal.returns
 unfolding section_codes to_le32 label_codes
 returns c =
-            lays_as (lays_then c.put-a-2.ensures (lays_then
+    lays_as (lays_then c.put-a-2.ensures (lays_then
     (rw c.kept_bytes-kept.ensures at c.put_label-b-2.ensures) (rw c.long_bytes-bytes.ensures at
     c.put-2.ensures)))
     (sym (pick_false _ _ (sym

@@ -20,12 +20,12 @@ slice_bounds-write-end-in-Done c =
 
 pub returns-in-Refused : goal.returns-in-Refused
 returns-in-Refused c =
-        let e = rw c.in-Refused.is at c.read-a.ensures.answer in
+    let e = rw c.in-Refused.is at c.read-a.ensures.answer in
     let r = convert_refused c.args.file.now c.args.sheet.now _ _ (sym e) c.args.out.now in record { answer = sym r.0; sheet = c.read-a.ensures.sheet; file = sym r.1 }
 
 pub returns-in-Done : goal.returns-in-Done
 returns-in-Done c =
-            let R = c.read-a.ensures in
+    let R = c.read-a.ensures in
     let e = rw c.in-Done.is at R.answer in
     let r = convert_written c.args.file.now c.args.sheet.now (λ i. (c.shared_slice_known-1.given i).fits) _ _ _ (sym e) c.args.out.now in
     let W = c.write.ensures in record { answer = rw R.sheet at W.answer ∙ sym r.0; sheet = R.sheet; file = rw R.sheet at W.file ∙ sym r.1 }

@@ -57,7 +57,7 @@ overflow_add-result-in-Numbers-2 c = omega (arith, (let it : 1 + (c.in-Numbers.s
 
 pub returns-in-Unfinished : goal.returns-in-Unfinished
 returns-in-Unfinished c =
-        record { same = labelled_short c.args.s.now c.args.bare c.args.tail (part_at c.args.version) (part_at_lem c.args.s.now c.args.bare c.args.tail c.args.version _ _ _ _ (simp part_to_end at c.part_of-p.ensures.0) c.tail_size-n.ensures.0 (simp part_to_end at c.whole_part-q.ensures) c.in-Unfinished.is); sound = tt }
+    record { same = labelled_short c.args.s.now c.args.bare c.args.tail (part_at c.args.version) (part_at_lem c.args.s.now c.args.bare c.args.tail c.args.version _ _ _ _ (simp part_to_end at c.part_of-p.ensures.0) c.tail_size-n.ensures.0 (simp part_to_end at c.whole_part-q.ensures) c.in-Unfinished.is); sound = tt }
 
 pub returns-in-Numbers : goal.returns-in-Numbers
 returns-in-Numbers c =

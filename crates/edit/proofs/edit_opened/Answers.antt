@@ -21,18 +21,18 @@ edit_house-requires c =
 
 pub returns-in-Refused : goal.returns-in-Refused
 returns-in-Refused c =
-        edits_unread c.args.file.now c.args.old c.requires c.args.run c.args.new.now
+    edits_unread c.args.file.now c.args.old c.requires c.args.run c.args.new.now
     c.args.out.now _ _ (rw c.in-Refused.is at c.judge-judged.ensures)
 
 pub returns-in-Foreign : goal.returns-in-Foreign
 returns-in-Foreign c =
-        let T = rw c.in-Foreign.is at c.judge-judged.ensures in
+    let T = rw c.in-Foreign.is at c.judge-judged.ensures in
     edits_foreign c.args.file.now c.args.old c.requires c.args.run c.args.new.now
     c.args.out.now T.0 T.1
 
 pub returns-in-Short : goal.returns-in-Short
 returns-in-Short c =
-        let T = rw c.in-Short.is at c.judge-judged.ensures in
+    let T = rw c.in-Short.is at c.judge-judged.ensures in
     edits_past c.args.file.now c.args.old c.requires c.args.run c.args.new.now
     c.args.out.now T.0 _ T.1 T.2
 

@@ -1,6 +1,6 @@
 -- `edit::first_flaw` meets its contract. Assumes nothing.
 use native.Mathlib.Omega.{arith}
-use Prim.Native.Nat.{◌+◌, ◌-◌, ◌≤◌}
+use Prim.Native.Nat.{◌+◌, ◌≤◌}
 use lib.ListN.{length}
 use Rattle.sheet.proofs.EntryAt.{found_size}
 use Rattle.edit.proofs.NewRun.{judging_first, flaw_none, flaw_here, judging_more}
@@ -25,18 +25,25 @@ overflow_add-number c =
 
 pub overflow_add-at : goal.overflow_add-at
 overflow_add-at c =
-    omega (arith, (let it : (3 ≤ c.in-Whole.size)
-    × (c.loop-at.at + c.in-Whole.size
-    ≤ length c.args.new.now) = let T = rw c.in-Whole.is at c.read_entry-entry.ensures in
-    found_size _ c.args.new.now c.loop-at.at
-    c.loop-at-test.true _ _ _ T in it), c.well_formed)
+    omega (
+      arith,
+      (let it : (3 ≤ c.in-Whole.size)
+          × (c.loop-at.at + c.in-Whole.size
+          ≤ length c.args.new.now) = let T = rw c.in-Whole.is at c.read_entry-entry.ensures in
+          found_size _ c.args.new.now c.loop-at.at
+          c.loop-at-test.true _ _ _ T in it),
+      c.well_formed,
+    )
 
 pub loop-at-smaller : goal.loop-at-smaller
-loop-at-smaller c = omega (arith, (let it : (3 ≤ c.in-Whole.size)
-    × (c.loop-at.at + c.in-Whole.size
-    ≤ length c.args.new.now) = let T = rw c.in-Whole.is at c.read_entry-entry.ensures in
-    found_size _ c.args.new.now c.loop-at.at
-    c.loop-at-test.true _ _ _ T in it))
+loop-at-smaller c = omega (
+  arith,
+  (let it : (3 ≤ c.in-Whole.size)
+      × (c.loop-at.at + c.in-Whole.size
+      ≤ length c.args.new.now) = let T = rw c.in-Whole.is at c.read_entry-entry.ensures in
+      found_size _ c.args.new.now c.loop-at.at
+      c.loop-at-test.true _ _ _ T in it),
+)
 
 pub loop-at-preserved : goal.loop-at-preserved
 loop-at-preserved c =

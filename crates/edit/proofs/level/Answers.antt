@@ -1,6 +1,5 @@
 -- `edit::level` meets its contract. Assumes nothing.
 use native.Mathlib.Omega.{arith}
-use borrow.Author.Tests.{not-false}
 use mathlib.Core.Path.{sym, ◌∙◌}
 use lib.Seq.{length-take-le}
 use Rattle.scan.specs.Places.{state_at}
@@ -10,22 +9,22 @@ use Rattle.edit.proofs.level.Goals as goal
 
 pub returns-then-read-written : goal.returns-then-read-written
 returns-then-read-written c =
-        state_style (state_at c.args.place c.args.name.now) (pen_state c.args.pen c.args.last.now) c.if-read-written.true
+    state_style (state_at c.args.place c.args.name.now) (pen_state c.args.pen c.args.last.now) c.if-read-written.true
 
 pub returns-then-not-same_date : goal.returns-then-not-same_date
 returns-then-not-same_date c =
-        state_date (state_at c.args.place c.args.name.now) (pen_state c.args.pen c.args.last.now) c.if-read-written.false
+    state_date (state_at c.args.place c.args.name.now) (pen_state c.args.pen c.args.last.now) c.if-read-written.false
     (sym c.same_date.ensures ∙ c.if-not-same_date.true)
 
 pub returns-then-not-same_position : goal.returns-then-not-same_position
 returns-then-not-same_position c =
-        state_position (state_at c.args.place c.args.name.now) (pen_state c.args.pen c.args.last.now) c.if-read-written.false
+    state_position (state_at c.args.place c.args.name.now) (pen_state c.args.pen c.args.last.now) c.if-read-written.false
     (sym c.same_date.ensures ∙ c.if-not-same_date.false)
     (sym c.same_position.ensures ∙ c.if-not-same_position.true)
 
 pub slice_bounds-same_bytes-end : goal.slice_bounds-same_bytes-end
 slice_bounds-same_bytes-end c =
-        sym (length-take-le _ _ (omega (arith, c.requires.0, c.requires.1)))
+    sym (length-take-le _ _ (omega (arith, c.requires.0, c.requires.1)))
 
 pub slice_bounds-same_bytes-end-2 : goal.slice_bounds-same_bytes-end-2
 slice_bounds-same_bytes-end-2 c =
@@ -34,7 +33,7 @@ slice_bounds-same_bytes-end-2 c =
 
 pub returns : goal.returns
 returns c =
-        state_label (state_at c.args.place c.args.name.now) (pen_state c.args.pen c.args.last.now)
+    state_label (state_at c.args.place c.args.name.now) (pen_state c.args.pen c.args.last.now)
     c.if-read-written.false
     (sym c.same_date.ensures ∙ c.if-not-same_date.false)
     (sym c.same_position.ensures ∙ c.if-not-same_position.false)

@@ -11,20 +11,19 @@ slice_bounds-lay-end c =
 
 pub lay-requires : goal.lay-requires
 lay-requires c =
-            let i = c.requires.at.cuts.before.inside.place_inside in
+    let i = c.requires.at.cuts.before.inside.place_inside in
     let l = length-take-le c.args.cut.front.at c.args.file.now i in
     (omega arith, omega (arith, l, i, c.requires.at.opens.room.file_fits))
 
 pub put_edited-requires : goal.put_edited-requires
-put_edited-requires c =
-        (
-      c.requires,
-      rw c.lay.ensures (front_laid c.requires.at
-          (λ i. omega (arith, c.type_inv.file i)) c.args.new.now c.args.out.now),
-    )
+put_edited-requires c = (
+  c.requires,
+  rw c.lay.ensures (front_laid c.requires.at
+      (λ i. omega (arith, c.type_inv.file i)) c.args.new.now c.args.out.now),
+)
 
 pub returns : goal.returns
 returns c =
-        pass_spliced c.requires.at
+    pass_spliced c.requires.at
     (λ i. omega (arith, c.type_inv.file i)) c.args.new.now
     c.args.out.now _ _ (rw c.lay.ensures at c.put_edited.ensures)

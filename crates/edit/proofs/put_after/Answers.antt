@@ -11,5 +11,5 @@ slice_bounds-put_next-end c =
 
 pub put_next-requires : goal.put_next-requires
 put_next-requires c =
-            let l = length-take-le c.args.pen.len c.args.last.now (omega (arith, c.requires.0.label_short, c.requires.0.label_whole)) in
+    let l = length-take-le c.args.pen.len c.args.last.now (omega (arith, c.requires.0.label_short, c.requires.0.label_whole)) in
     (c.requires.1, omega (arith, l, c.requires.0.label_short), c.requires.2)

@@ -49,7 +49,7 @@ pub put_one-pen-requires : goal.put_one-pen-requires
 put_one-pen-requires c =
     let G =
     c.loop-left.invariant in
-        let T = rw c.in-Record.is at c.take_record-taken.ensures in (
+    let T = rw c.in-Record.is at c.take_record-taken.ensures in (
       G.behind.fits,
       putting_fits G ((let it : 0 < c.loop-left.left = c.loop-left-test.true in it)),
       found_formed G c.in-Record.to c.in-Record.fields _ T.0,
@@ -66,7 +66,7 @@ loop-left-smaller c =
 
 pub loop-left-preserved : goal.loop-left-preserved
 loop-left-preserved c =
-        let T = rw c.in-Record.is at c.take_record-taken.ensures in
+    let T = rw c.in-Record.is at c.take_record-taken.ensures in
     putting_more
     c.loop-left.invariant
     c.in-Record.to c.in-Record.fields _ T.0

@@ -5,7 +5,7 @@ use Rattle.edit.proofs.put_changed.Goals as goal
 
 pub put_behind-requires : goal.put_behind-requires
 put_behind-requires c =
-            behind_ready c.requires.at
+    behind_ready c.requires.at
     (λ i. omega (arith, c.type_inv.file i))
     c.args.new.now c.put_new-replaced.ensures
     (omega (arith, c.well_formed))

@@ -14,7 +14,7 @@ close-requires c =
 
 pub returns-then-left-eq0 : goal.returns-then-left-eq0
 returns-then-left-eq0 c =
-            ends_closed c.requires.0.at
+    ends_closed c.requires.0.at
     (λ i. omega (arith, c.type_inv.file i))
     c.args.new.now c.args.out.now c.requires.1 c.put_changed-met.ensures
     c.if-left-eq0.true c.close.ensures
@@ -26,7 +26,7 @@ put_tail-requires c =
 
 pub returns : goal.returns
 returns c =
-            ends_copied c.requires.0.at
+    ends_copied c.requires.0.at
     (λ i. omega (arith, c.type_inv.file i))
     c.args.new.now c.args.out.now c.requires.1 c.put_changed-met.ensures
     c.if-left-eq0.false c.put_tail.ensures

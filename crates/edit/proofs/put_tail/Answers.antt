@@ -15,6 +15,6 @@ lay-requires c = (
 
 pub returns : goal.returns
 returns c =
-        tail_finished c.args.out.now (drop c.args.at c.args.file.now)
+    tail_finished c.args.out.now (drop c.args.at c.args.file.now)
     (record { bytes = c.args.count.bytes; records = c.args.count.records + c.args.left; fault = c.args.count.fault })
     (simp part_to_end at c.lay.ensures) _ (simp part_to_end at c.settle.ensures)

@@ -13,7 +13,7 @@ pass-answer-requires c = c.requires
 
 pub returns-then-out-bytes : goal.returns-then-out-bytes
 returns-then-out-bytes c =
-        let p = c.pass-answer.ensures in
+    let p = c.pass-answer.ensures in
     let x = passes_small v8 (old_header c.args.file.now c.args.cut.old) (edited_at c.args.file.now c.args.cut c.args.new.now) c.args.out.now
     c.pass-answer.new.out c.pass-answer.result p.kept
     p.answer c.in-Done.is c.if-out-bytes.true in
@@ -33,7 +33,7 @@ pass-requires c =
 
 pub returns-in-Refused : goal.returns-in-Refused
 returns-in-Refused c =
-        let p = c.pass-answer.ensures in
+    let p = c.pass-answer.ensures in
     let x = passes_refused v8 (old_header c.args.file.now c.args.cut.old) (edited_at c.args.file.now c.args.cut c.args.new.now) c.args.out.now
     c.pass-answer.new.out c.pass-answer.result p.kept p.answer
     c.in-Refused.is in
@@ -41,7 +41,7 @@ returns-in-Refused c =
 
 pub returns-else-out-bytes : goal.returns-else-out-bytes
 returns-else-out-bytes c =
-        let p = c.pass-answer.ensures in
+    let p = c.pass-answer.ensures in
     let x = passes_done v8 (old_header c.args.file.now c.args.cut.old) (edited_at c.args.file.now c.args.cut c.args.new.now) c.args.out.now
     c.pass-answer.new.out
     c.pass-answer.result p.kept p.answer

@@ -11,7 +11,7 @@ use Rattle.header.proofs.magic_ok.Goals as goal
 pub returns-then-file-lt21 : goal.returns-then-file-lt21
 unfolding magic
 returns-then-file-lt21 c =
-        sym (same_false (take 21 c.args.file.now) magic (λ e. omega (arith, ap (λ (l : List ℕ). length l) e ∙ refl, length-take 21 c.args.file.now)))
+    sym (same_false (take 21 c.args.file.now) magic (λ e. omega (arith, ap (λ (l : List ℕ). length l) e ∙ refl, length-take 21 c.args.file.now)))
 
 pub returns : goal.returns
 unfolding magic

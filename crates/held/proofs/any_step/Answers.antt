@@ -4,5 +4,5 @@ use Rattle.held.proofs.any_step.Goals as goal
 
 pub returns : goal.returns
 returns c =
-        let S = rw c.held_of-stand.ensures at c.step_at-t.ensures in
+    let S = rw c.held_of-stand.ensures at c.step_at-t.ensures in
     steps_on c.args.s.now c.args.bytes.now c.args.file.now c.args.out.now _ _ _ _ S c.numbers_of-numbers.ensures

@@ -6,7 +6,7 @@ use Rattle.held.proofs.short_step.Goals as goal
 
 pub returns-in-Leg : goal.returns-in-Leg
 returns-in-Leg c =
-        rw c.leg_record.ensures
+    rw c.leg_record.ensures
     (took c.held_of-stand.ensures c.in-Leg.ensures c.lead_on.ensures)
 
 pub overflow_add-stand : goal.overflow_add-stand

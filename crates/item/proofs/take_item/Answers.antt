@@ -18,20 +18,20 @@ reads_at version s r it R e = rw e at R
 
 pub returns-then-len-eq0 : goal.returns-then-len-eq0
 returns-then-len-eq0 c =
-        (comes_end _ _ _ c.args.len _ c.requires.1 c.requires.0 (reads_at c.args.version c.args.s.now _ _ c.decode-it.ensures c.in-Stop.is) c.if-len-eq0.true, tt)
+    (comes_end _ _ _ c.args.len _ c.requires.1 c.requires.0 (reads_at c.args.version c.args.s.now _ _ c.decode-it.ensures c.in-Stop.is) c.if-len-eq0.true, tt)
 
 pub returns-in-Faulty : goal.returns-in-Faulty
 returns-in-Faulty c =
-        (comes_faulty _ _ _ c.args.len _ c.requires.1 c.requires.0 _ (reads_at c.args.version c.args.s.now _ _ c.decode-it.ensures c.in-Faulty.is), tt)
+    (comes_faulty _ _ _ c.args.len _ c.requires.1 c.requires.0 _ (reads_at c.args.version c.args.s.now _ _ c.decode-it.ensures c.in-Faulty.is), tt)
 
 pub returns-else-len-eq0 : goal.returns-else-len-eq0
 returns-else-len-eq0 c =
-        let R = reads_at c.args.version c.args.s.now _ _ c.decode-it.ensures c.in-Stop.is in
+    let R = reads_at c.args.version c.args.s.now _ _ c.decode-it.ensures c.in-Stop.is in
     rw c.on_step.ensures (comes_emptied _ _ _ c.args.len _ c.requires.1 c.requires.0 R c.if-len-eq0.false, tt)
 
 pub returns-in-Style : goal.returns-in-Style
 returns-in-Style c =
-        let l = take c.args.len c.args.bytes.now in
+    let l = take c.args.len c.args.bytes.now in
     let D = c.style_step.ensures in (
       comes_does _ _ _ c.args.len _ c.requires.1 c.requires.0 _ _ _ _ refl (reads_at c.args.version c.args.s.now _ _ c.decode-it.ensures c.in-Style.is) D,
       style_kept c.style_step.result c.args.bytes.now l c.args.setting c.in-Style.style
@@ -40,17 +40,17 @@ returns-in-Style c =
 
 pub returns-in-Move : goal.returns-in-Move
 returns-in-Move c =
-        let R = reads_at c.args.version c.args.s.now _ _ c.decode-it.ensures c.in-Move.is in
+    let R = reads_at c.args.version c.args.s.now _ _ c.decode-it.ensures c.in-Move.is in
     rw c.on_step-in-Move.ensures (comes_moved _ _ _ c.args.len _ c.requires.1 c.requires.0 _ _ R c.with_position.ensures, tt)
 
 pub returns-in-NoDate : goal.returns-in-NoDate
 returns-in-NoDate c =
-        let R = reads_at c.args.version c.args.s.now _ _ c.decode-it.ensures c.in-NoDate.is in
+    let R = reads_at c.args.version c.args.s.now _ _ c.decode-it.ensures c.in-NoDate.is in
     rw c.on_step-in-NoDate.ensures (comes_undated _ _ _ c.args.len _ c.requires.1 c.requires.0 _ R c.with_date.ensures, tt)
 
 pub returns-in-Date : goal.returns-in-Date
 returns-in-Date c =
-        let l = take c.args.len c.args.bytes.now in
+    let l = take c.args.len c.args.bytes.now in
     let D = c.date_step.ensures in (
       comes_does _ _ _ c.args.len _ c.requires.1 c.requires.0 _ _ _ _ refl (reads_at c.args.version c.args.s.now _ _ c.decode-it.ensures c.in-Date.is) D,
       date_kept c.date_step.result c.args.bytes.now l c.args.setting c.in-Date.size c.in-Date.first c.in-Date.last
@@ -59,7 +59,7 @@ returns-in-Date c =
 
 pub returns-in-Error : goal.returns-in-Error
 returns-in-Error c =
-        let R = reads_at c.args.version c.args.s.now _ _ c.decode-it.ensures c.in-Error.is in
+    let R = reads_at c.args.version c.args.s.now _ _ c.decode-it.ensures c.in-Error.is in
     rw c.error_step.ensures (comes_error _ _ _ c.args.len _ c.requires.1 c.requires.0 _ R, error_kept _ _ _ _ R)
 
 pub returns-in-Relabel : goal.returns-in-Relabel

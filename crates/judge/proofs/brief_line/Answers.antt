@@ -5,7 +5,7 @@ use Rattle.judge.proofs.brief_line.Goals as goal
 
 pub returns-else-label-keep : goal.returns-else-label-keep
 returns-else-label-keep c =
-            brief_line_is c.args.s.now c.args.label.now c.args.len c.index-part.result c.requires.0 c.requires.1
+    brief_line_is c.args.s.now c.args.label.now c.args.len c.index-part.result c.requires.0 c.requires.1
     c.if-s-lt29.false
     c.if-code-lt64.false
     c.if-code-gt71.false
@@ -16,7 +16,7 @@ returns-else-label-keep c =
 
 pub returns-else-add-ne0 : goal.returns-else-add-ne0
 returns-else-add-ne0 c =
-            let z = c.if-add-ne0.false in
+    let z = c.if-add-ne0.false in
     brief_line_is c.args.s.now c.args.label.now c.args.len c.index-part.result c.requires.0 c.requires.1
     c.if-s-lt29.false
     c.if-code-lt64.false c.if-code-gt71.false
@@ -25,7 +25,7 @@ returns-else-add-ne0 c =
 
 pub returns-else-off-ne0 : goal.returns-else-off-ne0
 returns-else-off-ne0 c =
-            let z = c.if-off-ne0.false in
+    let z = c.if-off-ne0.false in
     brief_line_is c.args.s.now c.args.label.now c.args.len c.index-part.result c.requires.0 c.requires.1
     c.if-s-lt29.false
     c.if-code-lt64.false c.if-code-gt71.false

@@ -6,11 +6,11 @@ use Rattle.judge.proofs.copy_label.Goals as goal
 
 pub slice_bounds-swap_label-end : goal.slice_bounds-swap_label-end
 slice_bounds-swap_label-end c =
-            sym (length-take-le c.args.len c.args.label.now (omega (arith, c.requires.0, c.requires.1)))
+    sym (length-take-le c.args.len c.args.label.now (omega (arith, c.requires.0, c.requires.1)))
 
 pub swap_label-requires : goal.swap_label-requires
 swap_label-requires c =
-            let l = length-take-le c.args.len c.args.label.now (omega (arith, c.requires.0, c.requires.1)) in
+    let l = length-take-le c.args.len c.args.label.now (omega (arith, c.requires.0, c.requires.1)) in
     (omega arith, c.requires.2, omega (arith, l, c.requires.0))
 
 pub returns : goal.returns

@@ -1,7 +1,6 @@
 -- `judge::foreign` meets its contract. Assumes nothing.
 use native.Mathlib.Omega.{arith}
 use borrow.Author.Rules.{rules}
-use Prim.Native.Nat.{◌-◌}
 use mathlib.Core.Path.{◌≡◌}
 use lib.ListN.{length}
 use Rattle.judge.proofs.Whole.{reading_first, reading_refused, reading_end, reading_more}

@@ -1,6 +1,5 @@
 -- `judge::judge_records` meets its contract. Assumes nothing.
 use native.Mathlib.Omega.{arith}
-use Prim.Native.Nat.{◌-◌}
 use mathlib.Core.Path.{◌≡◌, sym}
 use lib.ListN.{length}
 use Rattle.judge.proofs.Walk.{Judging, judging_first, judging_ready, judging_same, judging_brief, judging_refused, judging_foreign, judging_end}
@@ -67,11 +66,11 @@ pub returns-in-End : goal.returns-in-End
 returns-in-End c =
     let T = rw c.in-End.is at c.take_record-taken.ensures in (
       judging_end ((let it : Judging c.args.file.now
-    c.args.from
-    c.args.label.now
-    c.args.limit c.loop-passed.place
-    c.take_brief-brief.new.label c.loop-passed.passed
-    c.loop-passed.spare.bytes c.loop-passed.room = judging_same c.loop-passed.invariant _ (rw c.in_default.is at c.take_brief-brief.ensures) in it))
+          c.args.from
+          c.args.label.now
+          c.args.limit c.loop-passed.place
+          c.take_brief-brief.new.label c.loop-passed.passed
+          c.loop-passed.spare.bytes c.loop-passed.room = judging_same c.loop-passed.invariant _ (rw c.in_default.is at c.take_brief-brief.ensures) in it))
           T.0,
       c.loop-passed-test.true,
     )

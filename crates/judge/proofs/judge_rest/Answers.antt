@@ -14,7 +14,7 @@ copy_label-len-requires c =
 
 pub judge_records-three-requires : goal.judge_records-three-requires
 judge_records-three-requires c =
-        ready_copied c.args.back c.args.behind.now _ _ c.copy_label-len.ensures c.args.file.now
+    ready_copied c.args.back c.args.behind.now _ _ c.copy_label-len.ensures c.args.file.now
     (begins_ready c.requires (λ i. omega (arith, c.type_inv.file i)))
 
 pub foreign-requires : goal.foreign-requires
@@ -27,24 +27,24 @@ foreign-requires-in-Passed c =
 
 pub returns-in-Refused : goal.returns-in-Refused
 returns-in-Refused c =
-        let T = rw c.in-Refused.is at c.judge_records-three.ensures in
+    let T = rw c.in-Refused.is at c.judge_records-three.ensures in
     λ b B. begins_refused c.requires _ _
     (rw (same_state_lem c.args.back c.args.behind.now _ _ c.copy_label-len.ensures) at T)
 
 pub returns-in-Foreign : goal.returns-in-Foreign
 returns-in-Foreign c =
-        let T = rw c.in-Foreign.is at c.judge_records-three.ensures in
+    let T = rw c.in-Foreign.is at c.judge_records-three.ensures in
     λ b B. fails_judges c.args.file.now c.args.old c.requires.opens c.args.run
     c.foreign.result _ _ c.foreign.ensures (begins_foreign c.requires
     (rw (same_state_lem c.args.back c.args.behind.now _ _ c.copy_label-len.ensures) at T))
 
 pub returns-in-End : goal.returns-in-End
 returns-in-End c =
-        let T = rw c.in-End.is at c.judge_records-three.ensures in
+    let T = rw c.in-End.is at c.judge_records-three.ensures in
     λ b B. begins_cuts c.args.run B c.requires
     (rw (same_state_lem c.args.back c.args.behind.now _ _ c.copy_label-len.ensures) at T.0)
 
 pub returns-in-Passed : goal.returns-in-Passed
 returns-in-Passed c =
     let T = rw c.in-Passed.is at c.judge_records-three.ensures in
-        λ b C. absurd (never_all (omega (arith, c.requires.walks.few, c.requires.opens.room.place_least)) T)
+    λ b C. absurd (never_all (omega (arith, c.requires.walks.few, c.requires.opens.room.place_least)) T)

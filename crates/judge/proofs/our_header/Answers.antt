@@ -19,7 +19,7 @@ slice_bounds-same_bytes-end-2 c =
 
 pub returns : goal.returns
 returns c =
-        let P = c.put_header-n.ensures in
+    let P = c.put_header-n.ensures in
     let w = c.room-room.ensures in
     let f = front_of_lem P (omega (arith, P.most, w)) in
     header_told c.args.file.now c.args.old (c.same_bytes.ensures ∙ ap (same _) f)

@@ -6,11 +6,11 @@ use Rattle.judge.proofs.put_codes.Goals as goal
 
 pub slice_bounds-put_record-end : goal.slice_bounds-put_record-end
 slice_bounds-put_record-end c =
-        sym (length-take-le _ _ (omega (arith, c.requires.0, c.requires.1)))
+    sym (length-take-le _ _ (omega (arith, c.requires.0, c.requires.1)))
 
 pub put_record-requires : goal.put_record-requires
 put_record-requires c =
-            let l = length-take-le c.args.from.len c.args.last.now (omega (arith, c.requires.0, c.requires.1)) in
+    let l = length-take-le c.args.from.len c.args.last.now (omega (arith, c.requires.0, c.requires.1)) in
     (omega (arith, l, c.requires.0), c.requires.2)
 
 pub returns : goal.returns

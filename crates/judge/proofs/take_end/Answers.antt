@@ -13,7 +13,7 @@ slice_bounds-same_bytes-end-3 c =
 
 pub returns : goal.returns
 returns c =
-        let P = c.put_closing-size.ensures in
+    let P = c.put_closing-size.ensures in
     let f = front_of_lem P (omega (arith, P.most, c.requires.1)) in
     let e = c.same_bytes.ensures in
     (rw (part_to_end, f) at e, P.kept ∙ c.requires.1)

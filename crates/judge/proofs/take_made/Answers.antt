@@ -7,7 +7,7 @@ use Rattle.judge.proofs.take_made.Goals as goal
 
 pub put_codes-size-requires : goal.put_codes-size-requires
 put_codes-size-requires c =
-        (c.requires.0.inside.label_short, c.requires.0.inside.label_whole, met_formed _ _ _ c.requires.0 _ c.requires.1)
+    (c.requires.0.inside.label_short, c.requires.0.inside.label_whole, met_formed _ _ _ c.requires.0 _ c.requires.1)
 
 pub slice_bounds-stands-end : goal.slice_bounds-stands-end
 slice_bounds-stands-end c =
@@ -22,20 +22,20 @@ slice_bounds-stands-end-2 c =
 pub stands-requires : goal.stands-requires
 stands-requires c =
     let P = c.put_codes-size.ensures in
-        let l = length-take-le c.put_codes-size.result c.put_codes-size.new.room
+    let l = length-take-le c.put_codes-size.result c.put_codes-size.new.room
     (omega (arith, P.most, P.kept, c.requires.3)) in
     (c.requires.0.inside.place_inside, c.requires.0.small, omega (arith, l, P.most))
 
 pub returns-then-not-stands : goal.returns-then-not-stands
 returns-then-not-stands c =
-        let P = c.put_codes-size.ensures in
-        let f = front_of_lem P (omega (arith, P.most, c.requires.3)) in
+    let P = c.put_codes-size.ensures in
+    let f = front_of_lem P (omega (arith, P.most, c.requires.3)) in
     let e = sym c.stands.ensures ∙ c.if-not-stands.true in
     (foreign_codes c.args.file.now c.args.from c.args.label.now c.requires.0 _ c.requires.1 (rw f at e), P.kept ∙ c.requires.3)
 
 pub keep_label-m-requires : goal.keep_label-m-requires
 keep_label-m-requires c =
-        (c.requires.0.inside.label_short, c.requires.0.inside.label_whole, c.requires.2)
+    (c.requires.0.inside.label_short, c.requires.0.inside.label_whole, c.requires.2)
 
 pub overflow_add-place : goal.overflow_add-place
 overflow_add-place c =
@@ -49,8 +49,8 @@ overflow_add-place c =
 
 pub returns : goal.returns
 returns c =
-        let P = c.put_codes-size.ensures in
-        let f = front_of_lem P (omega (arith, P.most, c.requires.3)) in
+    let P = c.put_codes-size.ensures in
+    let f = front_of_lem P (omega (arith, P.most, c.requires.3)) in
     let e = sym c.stands.ensures ∙ c.if-not-stands.false in (
       rw c.setting_after.ensures (takes_made c.args.file.now c.args.from c.args.label.now c.requires.0 c.args.name.now c.args.fields c.requires.1 (rw f at e) _ _ _ P.size
           c.keep_label-m.ensures),

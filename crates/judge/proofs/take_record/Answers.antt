@@ -8,7 +8,7 @@ use Rattle.judge.proofs.take_record.Goals as goal
 
 pub copy_label-len-requires : goal.copy_label-len-requires
 copy_label-len-requires c =
-        (c.requires.0.inside.label_short, c.requires.0.inside.label_whole, c.requires.1)
+    (c.requires.0.inside.label_short, c.requires.0.inside.label_whole, c.requires.1)
 
 pub next_record-found-requires : goal.next_record-found-requires
 next_record-found-requires c =
@@ -23,7 +23,7 @@ take_end-requires c = (
 
 pub returns-then-take_end : goal.returns-then-take_end
 returns-then-take_end c =
-        let T = rw c.in-End.is at
+    let T = rw c.in-End.is at
     c.next_record-found.ensures in
     let E = c.take_end.ensures in (
       found_end c.args.file.now c.args.from c.args.label.now _ _ _
@@ -40,9 +40,8 @@ slice_bounds-take_made-end c =
 
 pub take_made-requires : goal.take_made-requires
 take_made-requires c =
-        let T = rw c.in-Record.is at
-    c.next_record-found.ensures in
-    (
+    let T = rw c.in-Record.is at
+    c.next_record-found.ensures in (
       c.requires.0,
       found_met c.args.file.now c.args.from c.args.label.now _ _ _
           c.copy_label-len.ensures T,
@@ -53,7 +52,7 @@ take_made-requires c =
 
 pub returns-in-Refused : goal.returns-in-Refused
 returns-in-Refused c =
-        let T = rw c.in-Refused.is at c.next_record-found.ensures in (
+    let T = rw c.in-Refused.is at c.next_record-found.ensures in (
       found_refused c.args.file.now c.args.from c.args.label.now _ _ _
           c.copy_label-len.ensures T,
       T.further,
@@ -62,7 +61,7 @@ returns-in-Refused c =
 
 pub returns-else-take_end : goal.returns-else-take_end
 returns-else-take_end c =
-        let T = rw c.in-End.is at
+    let T = rw c.in-End.is at
     c.next_record-found.ensures in
     let E = c.take_end.ensures in (
       found_foreign c.args.file.now c.args.from c.args.label.now _ _ _

@@ -1,7 +1,7 @@
 -- `label::append` meets its contract. What is laid in so far is a paste of as many bytes as are passed. Assumes nothing.
 use native.Mathlib.Omega.{arith}
 use native.Mathlib.Numerals.{add-one}
-use Prim.Native.Nat.{ℕ, ◌+◌, ◌-◌, ◌<◌}
+use Prim.Native.Nat.{ℕ, ◌+◌, ◌<◌}
 use mathlib.Core.Path.{◌≡◌, ◌∙◌}
 use mathlib.Core.List.{List}
 use lib.ListN.{length, get_or, set, length-set}
@@ -19,7 +19,7 @@ loop-i-init c =
 pub loop-i-preserved : goal.loop-i-preserved
 loop-i-preserved c =
     let l = c.loop-i in
-        (omega arith, simp length-set (omega arith), one_more c.args.bytes.now c.args.added.now l.bytes c.args.keep l.i (omega arith) (omega arith) l.invariant.2)
+    (omega arith, simp length-set (omega arith), one_more c.args.bytes.now c.args.added.now l.bytes c.args.keep l.i (omega arith) (omega arith) l.invariant.2)
 
 pub returns : goal.returns
 returns c =

@@ -13,10 +13,10 @@ returns-in-ToDot c =
 
 pub returns-in-Trim : goal.returns-in-Trim
 returns-in-Trim c =
-        let e = c.kept_after.ensures in
+    let e = c.kept_after.ensures in
     rw c.in-Trim.is (e.0 ∙ trim_after c.args.bytes.now c.args.len _ (omega (arith, c.requires)), e.1)
 
 pub returns-in-Back : goal.returns-in-Back
 returns-in-Back c =
-        let e = c.kept_after-in-Back.ensures in
+    let e = c.kept_after-in-Back.ensures in
     rw c.in-Back.is (e.0 ∙ back_after c.args.bytes.now c.args.len _ (omega (arith, c.requires)), e.1)

@@ -6,18 +6,18 @@ use Rattle.label.proofs.kept_to_dot.Goals as goal
 
 pub returns-then-len-lt16 : goal.returns-then-len-lt16
 returns-then-len-lt16 c =
-        (dot_short c.args.bytes.now c.args.len c.args.n (omega (arith, c.requires)) c.if-len-lt16.true, tt)
+    (dot_short c.args.bytes.now c.args.len c.args.n (omega (arith, c.requires)) c.if-len-lt16.true, tt)
 
 pub returns-in-At : goal.returns-in-At
 returns-in-At c =
-        let e = rw c.in-At.is at c.nth_dot-found.ensures in (
+    let e = rw c.in-At.is at c.nth_dot-found.ensures in (
       e.0 ∙ dot_from_lem c.args.bytes.now c.args.len c.args.n (omega (arith, c.requires)) c.if-len-lt16.false,
       omega (arith, e.1),
     )
 
 pub returns-in-Missing : goal.returns-in-Missing
 returns-in-Missing c =
-        let e = rw c.in-Missing.is at c.nth_dot-found.ensures in
+    let e = rw c.in-Missing.is at c.nth_dot-found.ensures in
     (e.0 ∙ dot_from_lem c.args.bytes.now c.args.len c.args.n (omega (arith, c.requires)) c.if-len-lt16.false, tt)
 
 pub overflow_add-result : goal.overflow_add-result

@@ -13,12 +13,12 @@ overflow_sub-keep c =
 pub returns-then-keep-added : goal.returns-then-keep-added
 returns-then-keep-added c =
     let e = rw c.in-Keeps.is at c.kept_of-kept.ensures in
-        (record { same = sym (step_long _ _ _ _ (sym e.0) (omega (arith, c.if-keep-added.true))); whole = c.requires.1; short = tt }, tt)
+    (record { same = sym (step_long _ _ _ _ (sym e.0) (omega (arith, c.if-keep-added.true))); whole = c.requires.1; short = tt }, tt)
 
 pub append-requires : goal.append-requires
 append-requires c =
     let e = rw c.in-Keeps.is at c.kept_of-kept.ensures in
-        (omega (arith, e.1, c.requires, c.if-keep-added.false), c.requires.1)
+    (omega (arith, e.1, c.requires, c.if-keep-added.false), c.requires.1)
 
 pub returns-in-Lacks : goal.returns-in-Lacks
 returns-in-Lacks c =
@@ -28,7 +28,7 @@ returns-in-Lacks c =
 pub returns-else-keep-added : goal.returns-else-keep-added
 returns-else-keep-added c =
     let e = rw c.in-Keeps.is at c.kept_of-kept.ensures in
-        let h = c.if-keep-added.false in
+    let h = c.if-keep-added.false in
     rw c.append.ensures (
       record {
         same = step_laid c.args.bytes.now c.args.len _ c.args.added.now c.requires.1 e.1 (omega (arith, h, e.1, c.requires)) _ e.0;

@@ -1,12 +1,10 @@
 -- `layout::put_date` meets its contract. Assumes nothing.
-use mathlib.Core.List.{[]}
-use Prim.Native.Nat.{ℕ}
 use Rattle.layout.proofs.Laws.{date_laid}
 use Rattle.layout.proofs.put_date.Goals as goal
 
 pub returns : goal.returns
 returns c =
-        let d = c.days_of-days.ensures in
+    let d = c.days_of-days.ensures in
     let f = c.wide_day-day.ensures in
     let l = c.wide_day-last.ensures in
     date_laid c.args.out.now c.args.k c.args.date _ _ c.requires

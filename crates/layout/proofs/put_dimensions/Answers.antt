@@ -9,7 +9,7 @@ use Rattle.layout.proofs.put_dimensions.Goals as goal
 
 pub returns : goal.returns
 returns c =
-                let e1 = c.put_word.ensures in
+    let e1 = c.put_word.ensures in
     let e2 = c.put_word-2.ensures ∙ ap (λ (s : List ℕ). laid s
     (c.args.k + 4) (to_be32 c.args.d.right)) e1 in
     let e3 = c.put_word-3.ensures ∙ ap (λ (s : List ℕ). laid s (c.args.k + 8) (to_be32 c.args.d.up)) e2 in

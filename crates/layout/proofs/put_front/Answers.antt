@@ -11,7 +11,7 @@ use Rattle.layout.proofs.put_front.Goals as goal
 
 pub returns : goal.returns
 returns c =
-                let head = c.front_head-head.result in
+    let head = c.front_head-head.result in
     let n : length head ≡ 7 = search rules in
     let e = c.put_at-2.ensures ∙ ap (λ (x : List ℕ). laid x (7 + length c.args.title.now) c.args.time.now)
     (c.put_at.ensures ∙ ap (λ (x : List ℕ). laid x 7 c.args.title.now)

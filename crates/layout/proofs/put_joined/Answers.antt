@@ -13,8 +13,8 @@ use Rattle.layout.proofs.put_joined.Goals as goal
 
 pub returns : goal.returns
 returns c =
-                let l = take c.args.keep c.args.bytes.now in
-        let t : length l ≡ c.args.keep = length-take-le c.args.keep c.args.bytes.now (omega (arith, c.requires.0, c.requires.1.few, c.requires.1.whole)) in
+    let l = take c.args.keep c.args.bytes.now in
+    let t : length l ≡ c.args.keep = length-take-le c.args.keep c.args.bytes.now (omega (arith, c.requires.0, c.requires.1.few, c.requires.1.whole)) in
     let y = c.put_kept.new.out in
     let h : length y ≡ length c.args.out.now = search rules in
     part_laid y c.args.added.now _ (c.args.k + c.args.keep) (omega (arith, c.requires.0)) c.copy_short.ensures

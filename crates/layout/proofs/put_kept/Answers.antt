@@ -8,7 +8,7 @@ use Rattle.layout.proofs.put_kept.Goals as goal
 
 pub slice_bounds-copy_words-end : goal.slice_bounds-copy_words-end
 slice_bounds-copy_words-end c =
-        sym (length-take-le c.args.len c.args.bytes.now (omega (arith, c.requires)))
+    sym (length-take-le c.args.len c.args.bytes.now (omega (arith, c.requires)))
 
 pub copy_words-requires : goal.copy_words-requires
 copy_words-requires c =

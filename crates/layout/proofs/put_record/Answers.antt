@@ -60,15 +60,15 @@ put_error-requires c =
 
 pub returns-in-Leg : goal.returns-in-Leg
 returns-in-Leg c =
-        search (rules, put c.args.out.now c.args.bytes.now c.args.len c.args.fields _ (omega (arith, c.requires)) (search rules) c.in-Leg.is)
+    search (rules, put c.args.out.now c.args.bytes.now c.args.len c.args.fields _ (omega (arith, c.requires)) (search rules) c.in-Leg.is)
 
 pub returns-in-Station : goal.returns-in-Station
 returns-in-Station c =
-        search (rules, put c.args.out.now c.args.bytes.now c.args.len c.args.fields _ (omega (arith, c.requires)) (search rules) c.in-Station.is)
+    search (rules, put c.args.out.now c.args.bytes.now c.args.len c.args.fields _ (omega (arith, c.requires)) (search rules) c.in-Station.is)
 
 pub returns-in-Section : goal.returns-in-Section
 returns-in-Section c =
-        search (rules, put c.args.out.now c.args.bytes.now c.args.len c.args.fields _ (omega (arith, c.requires)) (search rules) c.in-Section.is)
+    search (rules, put c.args.out.now c.args.bytes.now c.args.len c.args.fields _ (omega (arith, c.requires)) (search rules) c.in-Section.is)
 
 pub returns-in-Error : goal.returns-in-Error
 returns-in-Error c =

@@ -8,7 +8,7 @@ use Rattle.layout.proofs.put_start.Goals as goal
 
 pub returns : goal.returns
 returns c =
-        let k = c.wide-k.ensures in
+    let k = c.wide-k.ensures in
     let b = c.wide-b.ensures in
     c.put_be32.ensures ∙ ap (λ (x : List ℕ). over x c.args.out.now)
     (rw (k.0, b.0) (start_word _ _ _ c.requires.0 (rw k.0 at k.1) (rw b.0 at b.1)))

@@ -4,5 +4,5 @@ use Rattle.layout.proofs.put_station.Goals as goal
 
 pub returns : goal.returns
 returns c =
-        station_laid c.args.out.now c.args.fields c.args.len _ _ c.requires.1 c.put_start.ensures
+    station_laid c.args.out.now c.args.fields c.args.len _ _ c.requires.1 c.put_start.ensures
     c.put_point.ensures

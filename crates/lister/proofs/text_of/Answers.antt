@@ -15,7 +15,7 @@ slice_bounds-file-end c =
 
 pub returns-then-n-gt-INPUT_LIMIT : goal.returns-then-n-gt-INPUT_LIMIT
 returns-then-n-gt-INPUT_LIMIT c =
-        let l = length-take-le c.args.n c.args.input.now c.requires.1 in
+    let l = length-take-le c.args.n c.args.input.now c.requires.1 in
     let W = c.list.ensures in
     (omega (arith, W.1), wrote_front _ _ _ _ W.0 (omega (arith, W.1, c.requires.3)) ∙ sym (prints_too_long (take c.args.n c.args.input.now) (omega (arith, l, c.if-n-gt-INPUT_LIMIT.true))))
 
@@ -33,14 +33,14 @@ slice_bounds-list-end-in-Done-2 c =
 
 pub returns-in-Refused : goal.returns-in-Refused
 returns-in-Refused c =
-        let l = length-take-le c.args.n c.args.input.now c.requires.1 in
+    let l = length-take-le c.args.n c.args.input.now c.requires.1 in
     let W = c.list-in-Refused.ensures in
     let e = rw c.in-Refused.is at c.read-a.ensures.answer in
     (omega (arith, W.1), wrote_front _ _ _ _ W.0 (omega (arith, W.1, c.requires.3)) ∙ text_refused (take c.args.n c.args.input.now) c.args.sheet.now c.requires.2 (omega (arith, l, c.if-n-gt-INPUT_LIMIT.false)) e)
 
 pub returns-in-Done : goal.returns-in-Done
 returns-in-Done c =
-        let l = length-take-le c.args.n c.args.input.now c.requires.1 in
+    let l = length-take-le c.args.n c.args.input.now c.requires.1 in
     let W = c.list-in-Done.ensures in
     let e = rw c.in-Done.is at c.read-a.ensures.answer in
     let k = c.read-a.auto.sheet in

@@ -1,5 +1,4 @@
 -- `listing::escape` meets its contract: the bytes passed so far are put, each at most three bytes long. Assumes nothing.
-use Prim.Native.Nat.{◌-◌}
 use mathlib.Core.Path.{◌≡◌}
 use lib.ListN.{length}
 use lib.Seq.{take-length}

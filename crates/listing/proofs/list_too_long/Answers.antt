@@ -12,8 +12,7 @@ returns-then-out-lt9 c =
 
 pub returns : goal.returns
 unfolding too_long_line
-returns c =
-    (
-      wrote_all _ _ refl c.if-out-lt9.false c.word.ensures,
-      omega (arith, c.word.ensures.few),
-    )
+returns c = (
+  wrote_all _ _ refl c.if-out-lt9.false c.word.ensures,
+  omega (arith, c.word.ensures.few),
+)

@@ -1,7 +1,6 @@
 -- `listing::records_verdict` meets its contract: the verdict on what is left is that on all. Assumes nothing.
 use native.Mathlib.Omega.{arith}
 use borrow.Author.Rules.{rules}
-use Prim.Native.Nat.{◌-◌}
 use Rattle.sheet.specs.declared.Entry.TheVariants.{Whole}
 use Rattle.listing.proofs.Sheets.{EntryAt, EntryPlace, entry_none, entry_at, entry_place, judged_none, judged_more, judged_good, judged_bad}
 use Rattle.listing.proofs.records_verdict.Goals as goal
@@ -46,14 +45,22 @@ slice_bounds-read_entry-end c =
 
 pub overflow_add-at : goal.overflow_add-at
 overflow_add-at c =
-    omega (arith, (let it : EntryPlace c.args.sheet.now c.loop-at.at
-    c.in-Whole.size c.in-Whole.from = entry_place _ _ _ _ _ _ ((let it : EntryAt c.args.layout
-    c.args.sheet.now c.loop-at.at
-    (Whole c.in-Whole.size c.in-Whole.fields c.in-Whole.from) = rw c.in-Whole.is at c.read_entry-found.ensures in it)) c.loop-at.invariant.inside in it), c.well_formed)
+    omega (
+      arith,
+      (let it : EntryPlace c.args.sheet.now c.loop-at.at
+          c.in-Whole.size c.in-Whole.from = entry_place _ _ _ _ _ _ ((let it : EntryAt c.args.layout
+          c.args.sheet.now c.loop-at.at
+          (Whole c.in-Whole.size c.in-Whole.fields c.in-Whole.from) = rw c.in-Whole.is at c.read_entry-found.ensures in it)) c.loop-at.invariant.inside in it),
+      c.well_formed,
+    )
 
 pub loop-at-smaller : goal.loop-at-smaller
 loop-at-smaller c =
-    omega (arith, (let it : EntryPlace c.args.sheet.now c.loop-at.at
-    c.in-Whole.size c.in-Whole.from = entry_place _ _ _ _ _ _ ((let it : EntryAt c.args.layout
-    c.args.sheet.now c.loop-at.at
-    (Whole c.in-Whole.size c.in-Whole.fields c.in-Whole.from) = rw c.in-Whole.is at c.read_entry-found.ensures in it)) c.loop-at.invariant.inside in it), c.well_formed)
+    omega (
+      arith,
+      (let it : EntryPlace c.args.sheet.now c.loop-at.at
+          c.in-Whole.size c.in-Whole.from = entry_place _ _ _ _ _ _ ((let it : EntryAt c.args.layout
+          c.args.sheet.now c.loop-at.at
+          (Whole c.in-Whole.size c.in-Whole.fields c.in-Whole.from) = rw c.in-Whole.is at c.read_entry-found.ensures in it)) c.loop-at.invariant.inside in it),
+      c.well_formed,
+    )

@@ -1,7 +1,6 @@
 -- `listing::rest_lines` meets its contract: what is put so far and what is left of the sheet come to all lines. Assumes nothing.
 use native.Mathlib.Omega.{arith}
 use borrow.Author.Rules.{rules}
-use Prim.Native.Nat.{◌-◌}
 use mathlib.Core.Path.{◌∙◌}
 use Rattle.listing.proofs.Stores.{put_length}
 use Rattle.sheet.specs.declared.Entry.TheVariants.{Whole}
@@ -32,9 +31,9 @@ record_line-k-requires c =
     let i = c.loop-out.invariant in (
       omega (arith, i.put.few, i.inside, c.requires),
       ((let it : EntryPlace c.args.sheet.now c.loop-out.at
-    c.in-Whole.size c.in-Whole.label = entry_place _ _ _ _ _ _ ((let it : EntryAt c.args.layout
-    c.args.sheet.now c.loop-out.at
-    (Whole c.in-Whole.size c.in-Whole.fields c.in-Whole.label) = rw c.in-Whole.is at c.read_entry-found.ensures in it)) c.loop-out.invariant.inside in it)).label_short,
+          c.in-Whole.size c.in-Whole.label = entry_place _ _ _ _ _ _ ((let it : EntryAt c.args.layout
+          c.args.sheet.now c.loop-out.at
+          (Whole c.in-Whole.size c.in-Whole.fields c.in-Whole.label) = rw c.in-Whole.is at c.read_entry-found.ensures in it)) c.loop-out.invariant.inside in it)).label_short,
     )
 
 pub overflow_add-records : goal.overflow_add-records
@@ -87,9 +86,9 @@ overflow_add-at c =
     omega (
       arith,
       ((let it : EntryPlace c.args.sheet.now c.loop-out.at
-    c.in-Whole.size c.in-Whole.label = entry_place _ _ _ _ _ _ ((let it : EntryAt c.args.layout
-    c.args.sheet.now c.loop-out.at
-    (Whole c.in-Whole.size c.in-Whole.fields c.in-Whole.label) = rw c.in-Whole.is at c.read_entry-found.ensures in it)) c.loop-out.invariant.inside in it)).behind,
+          c.in-Whole.size c.in-Whole.label = entry_place _ _ _ _ _ _ ((let it : EntryAt c.args.layout
+          c.args.sheet.now c.loop-out.at
+          (Whole c.in-Whole.size c.in-Whole.fields c.in-Whole.label) = rw c.in-Whole.is at c.read_entry-found.ensures in it)) c.loop-out.invariant.inside in it)).behind,
       c.requires,
     )
 

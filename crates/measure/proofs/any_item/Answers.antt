@@ -37,11 +37,10 @@ returns-in-Shorten c =
     absurd (rw c.in-Shorten.is at c.new_kind-kind.ensures.1)
 
 pub returns-in-Style : goal.returns-in-Style
-returns-in-Style c =
-    (
-      c.styled.ensures.0,
-      kind_at c.args.s.now c.args.len c.args.style c.args.placed _ _ c.in-Style.is c.new_kind-kind.ensures.0 c.if-s-lt1.false c.styled.result (c.styled.ensures.1 _ _),
-    )
+returns-in-Style c = (
+  c.styled.ensures.0,
+  kind_at c.args.s.now c.args.len c.args.style c.args.placed _ _ c.in-Style.is c.new_kind-kind.ensures.0 c.if-s-lt1.false c.styled.result (c.styled.ensures.1 _ _),
+)
 
 pub returns-in-Move : goal.returns-in-Move
 returns-in-Move c =
@@ -76,8 +75,7 @@ returns-in-Error c =
     (c.error.ensures.0, kind_at c.args.s.now c.args.len c.args.style c.args.placed _ _ c.in-Error.is c.new_kind-kind.ensures.0 c.if-s-lt1.false c.error.result (c.error.ensures.1 _ _))
 
 pub returns-in-Labelled : goal.returns-in-Labelled
-returns-in-Labelled c =
-    (
-      c.labelled.ensures.0,
-      kind_at c.args.s.now c.args.len c.args.style c.args.placed _ _ c.in-Labelled.is c.new_kind-kind.ensures.0 c.if-s-lt1.false c.labelled.result (c.labelled.ensures.1 _),
-    )
+returns-in-Labelled c = (
+  c.labelled.ensures.0,
+  kind_at c.args.s.now c.args.len c.args.style c.args.placed _ _ c.in-Labelled.is c.new_kind-kind.ensures.0 c.if-s-lt1.false c.labelled.result (c.labelled.ensures.1 _),
+)

@@ -15,7 +15,7 @@ told s len r q e f = rw e at (f 8 (omega arith))
 
 pub returns-in-Again : goal.returns-in-Again
 returns-in-Again c =
-        rw c.count_leg-in-Again.ensures
+    rw c.count_leg-in-Again.ensures
     (rw (add-zero c.args.len) at (count_leg _ _ _ _ _ _ c.args.placed _ (told c.args.s.now c.args.len _ _ c.in-Again.is c.new_item-it.ensures)))
 
 pub overflow_add-add : goal.overflow_add-add

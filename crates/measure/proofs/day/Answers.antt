@@ -11,9 +11,8 @@ returns-then-s-lt3 c =
 
 pub returns : goal.returns
 unfolding day_item
-returns c =
-    (
-      c.dated.ensures.0,
-      sized_comes 3 _ _ c.dated.result c.if-s-lt3.false
-          (simp (c.get_le16-day.ensures.0, part_to_end) at c.dated.ensures.1),
-    )
+returns c = (
+  c.dated.ensures.0,
+  sized_comes 3 _ _ c.dated.result c.if-s-lt3.false
+      (simp (c.get_le16-day.ensures.0, part_to_end) at c.dated.ensures.1),
+)

@@ -11,9 +11,8 @@ returns-then-s-lt5 c =
 
 pub returns : goal.returns
 unfolding days_item
-returns c =
-    (
-      c.dated.ensures.0,
-      sized_comes 5 _ _ c.dated.result c.if-s-lt5.false
-          (simp (c.get_le16-first.ensures.0, c.get_le16-last.ensures.0, part_to_end) at c.dated.ensures.1),
-    )
+returns c = (
+  c.dated.ensures.0,
+  sized_comes 5 _ _ c.dated.result c.if-s-lt5.false
+      (simp (c.get_le16-first.ensures.0, c.get_le16-last.ensures.0, part_to_end) at c.dated.ensures.1),
+)

@@ -15,5 +15,5 @@ returns-then-s-lt21 c =
 pub returns : goal.returns
 unfolding error_item
 returns c =
-        let t = traverse_of le32 (drop 1 c.args.s.now) in
+    let t = traverse_of le32 (drop 1 c.args.s.now) in
     ((c.requires, omega arith), λ style placed. sized_whole 21 c.args.s.now (error_of t) (Made 21 c.args.len 23) c.args.len style placed c.if-s-lt21.false (comes_error t c.args.len style placed))

@@ -33,11 +33,11 @@ fits s bare tail x r n k d a ex en e is h =
 
 pub returns-then-len-drop : goal.returns-then-len-drop
 returns-then-len-drop c =
-        (tt, λ style. label_six c.args.s.now c.args.bare c.args.tail c.args.len style c.args.placed _ _ _ (part_at_lem c.args.s.now c.args.bare c.args.tail _ _ _ _ (simp part_to_end at c.part_of-p.ensures.0) c.tail_size-n.ensures.0 (simp part_to_end at c.whole_part-q.ensures) c.in-Numbers.is) c.if-len-drop.true)
+    (tt, λ style. label_six c.args.s.now c.args.bare c.args.tail c.args.len style c.args.placed _ _ _ (part_at_lem c.args.s.now c.args.bare c.args.tail _ _ _ _ (simp part_to_end at c.part_of-p.ensures.0) c.tail_size-n.ensures.0 (simp part_to_end at c.whole_part-q.ensures) c.in-Numbers.is) c.if-len-drop.true)
 
 pub returns-then-keep-add : goal.returns-then-keep-add
 returns-then-keep-add c =
-        (tt, λ style. label_seven c.args.s.now c.args.bare c.args.tail c.args.len style c.args.placed _ _ _ (part_at_lem c.args.s.now c.args.bare c.args.tail _ _ _ _ (simp part_to_end at c.part_of-p.ensures.0) c.tail_size-n.ensures.0 (simp part_to_end at c.whole_part-q.ensures) c.in-Numbers.is) c.if-len-drop.false (omega arith))
+    (tt, λ style. label_seven c.args.s.now c.args.bare c.args.tail c.args.len style c.args.placed _ _ _ (part_at_lem c.args.s.now c.args.bare c.args.tail _ _ _ _ (simp part_to_end at c.part_of-p.ensures.0) c.tail_size-n.ensures.0 (simp part_to_end at c.whole_part-q.ensures) c.in-Numbers.is) c.if-len-drop.false (omega arith))
 
 pub overflow_add-size : goal.overflow_add-size
 overflow_add-size c = omega (arith, (let it : 1 + (c.in-Numbers.size + c.in-Numbers.add + c.tail_size-n.result) ≤ length c.args.s.now = fits c.args.s.now c.args.bare c.args.tail _ _ _ _ _ _ (simp part_to_end at c.part_of-p.ensures.0) c.tail_size-n.ensures.0 (simp part_to_end at c.whole_part-q.ensures) c.in-Numbers.is (omega (arith, c.requires)) in it))
@@ -50,10 +50,10 @@ overflow_add-size-in-Numbers-2 c = omega (arith, (let it : 1 + (c.in-Numbers.siz
 
 pub returns-in-Unfinished : goal.returns-in-Unfinished
 returns-in-Unfinished c =
-        (tt, λ style. label_unfinished c.args.s.now c.args.bare c.args.tail c.args.len style c.args.placed (part_at_lem c.args.s.now c.args.bare c.args.tail _ _ _ _ (simp part_to_end at c.part_of-p.ensures.0) c.tail_size-n.ensures.0 (simp part_to_end at c.whole_part-q.ensures) c.in-Unfinished.is))
+    (tt, λ style. label_unfinished c.args.s.now c.args.bare c.args.tail c.args.len style c.args.placed (part_at_lem c.args.s.now c.args.bare c.args.tail _ _ _ _ (simp part_to_end at c.part_of-p.ensures.0) c.tail_size-n.ensures.0 (simp part_to_end at c.whole_part-q.ensures) c.in-Unfinished.is))
 
 pub returns-else-keep-add : goal.returns-else-keep-add
 returns-else-keep-add c =
-        let e = part_at_lem c.args.s.now c.args.bare c.args.tail _ _ _ _ (simp part_to_end at c.part_of-p.ensures.0) c.tail_size-n.ensures.0 (simp part_to_end at c.whole_part-q.ensures) c.in-Numbers.is in
+    let e = part_at_lem c.args.s.now c.args.bare c.args.tail _ _ _ _ (simp part_to_end at c.part_of-p.ensures.0) c.tail_size-n.ensures.0 (simp part_to_end at c.whole_part-q.ensures) c.in-Numbers.is in
     let T = rw c.tail_size-n.ensures.0 at c.tailed.ensures in
     (T.0, λ style. label_tailed c.args.s.now c.args.bare c.args.tail c.args.len style c.args.placed _ _ _ e c.if-len-drop.false (omega (arith, c.if-keep-add.false)) c.tailed.result T.1)

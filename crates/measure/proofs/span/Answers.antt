@@ -11,9 +11,8 @@ returns-then-s-lt4 c =
 
 pub returns : goal.returns
 unfolding span_item
-returns c =
-    (
-      c.dated.ensures.0,
-      sized_comes 4 _ _ c.dated.result c.if-s-lt4.false
-          (simp (c.get_le16-first.ensures.0, c.wide-days.ensures.0, part_to_end) at c.dated.ensures.1),
-    )
+returns c = (
+  c.dated.ensures.0,
+  sized_comes 4 _ _ c.dated.result c.if-s-lt4.false
+      (simp (c.get_le16-first.ensures.0, c.wide-days.ensures.0, part_to_end) at c.dated.ensures.1),
+)

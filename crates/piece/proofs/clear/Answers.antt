@@ -1,5 +1,5 @@
 -- `piece::clear` meets its contract. Assumes nothing.
-use Prim.Native.Nat.{ℕ, ◌-◌}
+use Prim.Native.Nat.{ℕ}
 use mathlib.Core.Path.{◌≡◌, refl, ap, ◌∙◌}
 use mathlib.Core.List.{List, append-nil}
 use lib.ListN.{length, set, length-set}
@@ -13,7 +13,7 @@ loop-at-init c = (omega arith, refl, refl)
 
 pub loop-at-preserved : goal.loop-at-preserved
 loop-at-preserved c =
-        let l = c.loop-at in
+    let l = c.loop-at in
     (omega arith, simp length-set l.invariant.1, ap (λ (x : List ℕ). set x l.at 0) l.invariant.2 ∙ clear_step c.args.s.now l.at (omega arith))
 
 pub returns : goal.returns

@@ -6,4 +6,4 @@ use Rattle.piece.proofs.lay_words.Goals as goal
 
 pub returns : goal.returns
 returns c =
-        rw c.copy_words.ensures (laid_part c.args.dst.now c.args.src.now c.args.at (omega (arith, c.requires)) _ refl)
+    rw c.copy_words.ensures (laid_part c.args.dst.now c.args.src.now c.args.at (omega (arith, c.requires)) _ refl)

@@ -12,7 +12,7 @@ with_label-requires c =
 
 pub returns : goal.returns
 returns c =
-        found_by ((let it : Framed c.args.s.now c.size_of-n.result = framed_of c.is_framed.ensures c.if-not-is_framed.false c.get_be16.ensures.0 c.size_of-n.ensures in it)) c.args.mark c.args.position c.args.version c.with_label.result c.head_of-found.result c.args.last.now
+    found_by ((let it : Framed c.args.s.now c.size_of-n.result = framed_of c.is_framed.ensures c.if-not-is_framed.false c.get_be16.ensures.0 c.size_of-n.ensures in it)) c.args.mark c.args.position c.args.version c.with_label.result c.head_of-found.result c.args.last.now
     c.head_of-found.ensures c.with_label.ensures
 
 pub get_be16-requires : goal.get_be16-requires

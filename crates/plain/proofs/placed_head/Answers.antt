@@ -9,7 +9,7 @@ bounds-s-2 c = omega (arith, frame _ c.requires.1)
 
 pub returns-then-kind-eq1 : goal.returns-then-kind-eq1
 returns-then-kind-eq1 c =
-        leg_placed c.leg_head.result c.args.s.now c.args.mark c.args.position c.leg_head.ensures
+    leg_placed c.leg_head.result c.args.s.now c.args.mark c.args.position c.leg_head.ensures
 
 pub bounds-s-3 : goal.bounds-s-3
 bounds-s-3 c =
@@ -22,4 +22,4 @@ bounds-s-3 c =
 
 pub returns : goal.returns
 returns c =
-        station_placed_lem c.station_head.result c.args.s.now c.args.mark c.args.position c.station_head.ensures c.if-s-gt31.false
+    station_placed_lem c.station_head.result c.args.s.now c.args.mark c.args.position c.station_head.ensures c.if-s-gt31.false

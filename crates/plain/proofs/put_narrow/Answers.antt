@@ -9,7 +9,7 @@ use Rattle.plain.proofs.put_narrow.Goals as goal
 
 pub returns : goal.returns
 returns c =
-        let p = c.dimensions-d.result in
+    let p = c.dimensions-d.result in
     let h = c.requires.1 in
     let a = c.pair-first.ensures in
     let b = c.pair-second.ensures in

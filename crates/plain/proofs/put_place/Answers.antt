@@ -10,7 +10,7 @@ use Rattle.plain.proofs.put_place.Goals as goal
 
 pub returns : goal.returns
 returns c =
-        let p = c.point-p.result in
+    let p = c.point-p.result in
     let h = c.requires.1 in
     over_next c.args.out.now _ _ (to_le32 p.x ++ to_le32 p.y) (to_le32 p.z) 8
     (over_next c.args.out.now _ _ (to_le32 p.x) (to_le32 p.y) 4 c.put_le32.ensures

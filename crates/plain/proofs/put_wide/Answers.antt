@@ -10,7 +10,7 @@ use Rattle.plain.proofs.put_wide.Goals as goal
 
 pub returns : goal.returns
 returns c =
-        let p = c.dimensions-d.result in
+    let p = c.dimensions-d.result in
     let h = c.requires.1 in
     over_next c.args.out.now _ _ ((to_le32 p.left ++ to_le32 p.right) ++ to_le32 p.up) (to_le32 p.down) 12
     (over_next c.args.out.now _ _ (to_le32 p.left ++ to_le32 p.right) (to_le32 p.up) 8

@@ -54,7 +54,7 @@ returns-then-all_short c position =
       mark_is = c.if-word-mark.false;
     } in
     let short : c.all_short.result ≡ all_short (dimensions_of 4 be32 (drop 9 c.args.s.now)) =
-        rw (simp part_to_end at c.dimensions-size.ensures) at c.all_short.ensures in
+    rw (simp part_to_end at c.dimensions-size.ensures) at c.all_short.ensures in
     narrow_leads _ z position (sym short ∙ c.if-all_short.true)
 
 pub returns : goal.returns
@@ -67,5 +67,5 @@ returns c position =
       mark_is = c.if-word-mark.false;
     } in
     let short : c.all_short.result ≡ all_short (dimensions_of 4 be32 (drop 9 c.args.s.now)) =
-        rw (simp part_to_end at c.dimensions-size.ensures) at c.all_short.ensures in
+    rw (simp part_to_end at c.dimensions-size.ensures) at c.all_short.ensures in
     wide_leads _ z position (sym short ∙ c.if-all_short.false)

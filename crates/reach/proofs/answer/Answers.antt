@@ -9,7 +9,7 @@ returns-then-legs-eq0 c = none_taken _ c.args.b c.if-legs-eq0.true
 
 pub returns : goal.returns
 returns c =
-        some_taken c.args.legs c.args.b c.if-legs-eq0.false _
+    some_taken c.args.legs c.args.b c.if-legs-eq0.false _
     (box_read c.args.b
     (read _ (omega arith))
     (read _ (omega arith))

@@ -31,12 +31,12 @@ slice_bounds-same_word-start-in-loop-i c =
 
 pub same_word-requires : goal.same_word-requires
 same_word-requires c =
-        let i = c.loop-i-test.true in
+    let i = c.loop-i-test.true in
     (simp (part_to_end, length-drop) (omega (arith, c.requires.0, c.requires.1, i)), simp (part_to_end, length-drop) (omega (arith, c.requires.0, c.requires.1, i)))
 
 pub returns-then-not-same_word : goal.returns-then-not-same_word
 returns-then-not-same_word c =
-        let e = simp part_to_end at c.same_word.ensures in
+    let e = simp part_to_end at c.same_word.ensures in
     sym (word_other c.args.s.now c.args.name.now c.loop-i.i (omega (arith, c.loop-i-test.true, c.requires.0)) (sym e ∙ c.if-not-same_word.true))
 
 pub overflow_add-i : goal.overflow_add-i
@@ -49,7 +49,7 @@ loop-i-smaller c =
 
 pub loop-i-preserved : goal.loop-i-preserved
 loop-i-preserved c =
-        let e = simp part_to_end at c.same_word.ensures in
+    let e = simp part_to_end at c.same_word.ensures in
     (omega (arith, c.loop-i-test.true), words_more c.args.s.now c.args.name.now c.loop-i.i c.loop-i.invariant.1 (sym e ∙ c.if-not-same_word.false))
 
 pub slice_bounds-same_word-count-2 : goal.slice_bounds-same_word-count-2
@@ -70,9 +70,9 @@ slice_bounds-same_word-start-3 c =
 
 pub same_word-requires-2 : goal.same_word-requires-2
 same_word-requires-2 c =
-        (simp (part_to_end, length-drop) (omega (arith, c.requires.0, c.requires.1)), simp (part_to_end, length-drop) (omega (arith, c.requires.0, c.requires.1)))
+    (simp (part_to_end, length-drop) (omega (arith, c.requires.0, c.requires.1)), simp (part_to_end, length-drop) (omega (arith, c.requires.0, c.requires.1)))
 
 pub returns : goal.returns
 returns c =
-        let e = simp part_to_end at c.same_word-2.ensures in
+    let e = simp part_to_end at c.same_word-2.ensures in
     e ∙ words_all c.args.s.now c.args.name.now c.loop-i.i (length c.args.name.now - 8) (omega (arith, c.loop-i-test.false)) (omega (arith, c.requires.0)) c.loop-i.invariant.1

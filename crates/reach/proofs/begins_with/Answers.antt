@@ -14,5 +14,5 @@ returns-then-s-n c = sym (short_begins _ _ c.if-s-n.true)
 pub returns : goal.returns
 unfolding begins
 returns c =
-        let z : length c.args.name.now - 0 ≡ length c.args.name.now = omega arith in
+    let z : length c.args.name.now - 0 ≡ length c.args.name.now = omega arith in
     subst (λ (n : ℕ). c.same_bytes.result ≡ same (take n c.args.s.now) c.args.name.now) z c.same_bytes.ensures

@@ -10,14 +10,14 @@ use Rattle.reach.proofs.leg_size.Goals as goal
 
 pub returns-then-not-label_fits : goal.returns-then-not-label_fits
 returns-then-not-label_fits c =
-        ap size_of (leg_long c.args.s.now c.args.n (sym c.label_fits.ensures ∙ c.if-not-label_fits.true)).same
+    ap size_of (leg_long c.args.s.now c.args.n (sym c.label_fits.ensures ∙ c.if-not-label_fits.true)).same
 
 pub bounds-s-3 : goal.bounds-s-3
 bounds-s-3 c = omega (arith, (let it : (32 ≤ c.args.n) × (2 + c.args.n ≤ length c.args.s.now) = (((let it : Fitting c.args.s.now c.args.n 32 = fitted c.label_fits.ensures c.if-not-label_fits.false c.requires in it)).least, ((let it : Fitting c.args.s.now c.args.n 32 = fitted c.label_fits.ensures c.if-not-label_fits.false c.requires in it)).there) in it))
 
 pub returns-then-s-gt7 : goal.returns-then-s-gt7
 returns-then-s-gt7 c =
-        let e = (let it : Fitting c.args.s.now c.args.n 32 = fitted c.label_fits.ensures c.if-not-label_fits.false c.requires in it) in
+    let e = (let it : Fitting c.args.s.now c.args.n 32 = fitted c.label_fits.ensures c.if-not-label_fits.false c.requires in it) in
     ap size_of (leg_flags c.args.s.now c.args.n e c.if-s-gt7.true).same
 
 pub bounds-s-4 : goal.bounds-s-4
@@ -25,7 +25,7 @@ bounds-s-4 c = omega (arith, (let it : (32 ≤ c.args.n) × (2 + c.args.n ≤ le
 
 pub returns-then-s-gt5 : goal.returns-then-s-gt5
 returns-then-s-gt5 c =
-        let e = (let it : Fitting c.args.s.now c.args.n 32 = fitted c.label_fits.ensures c.if-not-label_fits.false c.requires in it) in
+    let e = (let it : Fitting c.args.s.now c.args.n 32 = fitted c.label_fits.ensures c.if-not-label_fits.false c.requires in it) in
     ap size_of (leg_style c.args.s.now c.args.n e c.if-s-gt7.false c.if-s-gt5.true).same
 
 pub slice_bounds-get_be16-count : goal.slice_bounds-get_be16-count
@@ -53,7 +53,7 @@ bounds-s-5 c = omega (arith, (let it : (32 ≤ c.args.n) × (2 + c.args.n ≤ le
 
 pub returns-then-not-good_date : goal.returns-then-not-good_date
 returns-then-not-good_date c =
-        let e = (let it : Fitting c.args.s.now c.args.n 32 = fitted c.label_fits.ensures c.if-not-label_fits.false c.requires in it) in
+    let e = (let it : Fitting c.args.s.now c.args.n 32 = fitted c.label_fits.ensures c.if-not-label_fits.false c.requires in it) in
     let d1 = c.day_of-first.ensures ∙ simp part_to_end at c.get_be16.ensures.0 in
     let d2 = c.day_of-last.ensures ∙ simp part_to_end at c.get_be16-2.ensures.0 in
     let g = rw (d1, d2) at (sym c.good_date.ensures ∙ c.if-not-good_date.true) in
@@ -61,7 +61,7 @@ returns-then-not-good_date c =
 
 pub returns : goal.returns
 returns c =
-        let e = (let it : Fitting c.args.s.now c.args.n 32 = fitted c.label_fits.ensures c.if-not-label_fits.false c.requires in it) in
+    let e = (let it : Fitting c.args.s.now c.args.n 32 = fitted c.label_fits.ensures c.if-not-label_fits.false c.requires in it) in
     let d1 = c.day_of-first.ensures ∙ simp part_to_end at c.get_be16.ensures.0 in
     let d2 = c.day_of-last.ensures ∙ simp part_to_end at c.get_be16-2.ensures.0 in
     let g = rw (d1, d2) at (sym c.good_date.ensures ∙ c.if-not-good_date.false) in

@@ -1,6 +1,5 @@
 -- `reach::records_reach` meets its contract. Assumes nothing.
 use native.Mathlib.Omega.{arith}
-use Prim.Native.Nat.{◌-◌}
 use mathlib.Core.Path.{◌≡◌, refl, sym, ◌∙◌}
 use borrow.Author.Rules.{part_to_end}
 use lib.ListN.{drop}

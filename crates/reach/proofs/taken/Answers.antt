@@ -4,4 +4,4 @@ use Rattle.reach.proofs.taken.Goals as goal
 
 pub returns : goal.returns
 returns c =
-        box_made c.args.b c.args.p c.lower.ensures c.upper.ensures
+    box_made c.args.b c.args.p c.lower.ensures c.upper.ensures

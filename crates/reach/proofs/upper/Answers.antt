@@ -8,7 +8,7 @@ use Rattle.reach.proofs.upper.Goals as goal
 
 pub returns : goal.returns
 returns c =
-                row_made greater c.args.row c.args.p
+    row_made greater c.args.row c.args.p
     (came (λ x. greater x (axis_x c.args.p)) (get_or c.args.row 0 (pos 0)) c.greater_of.result (omega arith) c.greater_of.type_inv c.greater_of.ensures)
     (came (λ x. greater x (axis_y c.args.p)) (get_or c.args.row 1 (pos 0)) c.greater_of-2.result (omega arith) c.greater_of-2.type_inv c.greater_of-2.ensures)
     (came (λ x. greater x (axis_z c.args.p)) (get_or c.args.row 2 (pos 0)) c.greater_of-3.result (omega arith) c.greater_of-3.type_inv c.greater_of-3.ensures)

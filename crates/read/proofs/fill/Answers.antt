@@ -9,7 +9,7 @@ use Rattle.read.proofs.fill.Goals as goal
 
 pub put_front-requires : goal.put_front-requires
 put_front-requires c =
-            let O = c.requires.0 in
+    let O = c.requires.0 in
     let t = c.args.head.title in
     let n = c.args.head.time in
     let r = O.room in
@@ -21,7 +21,7 @@ put_front-requires c =
 
 pub slice_bounds-pass-end-2 : goal.slice_bounds-pass-end-2
 slice_bounds-pass-end-2 c =
-        let s = c.put_front.new.sheet in
+    let s = c.put_front.new.sheet in
     let h : c.args.bytes ≤ length s = omega (arith, c.requires.1.fits, c.put_front.auto) in
     let e = length-take-le c.args.bytes s h in
     omega (arith, e)
@@ -32,7 +32,7 @@ pass-requires c =
 
 pub returns : goal.returns
 returns c =
-            let t = c.args.head.title in
+    let t = c.args.head.title in
     let n = c.args.head.time in
     let z1 : 24 + t - 24 ≡ t = omega arith in
     let z2 : 24 + t + 1 + n - (24 + t + 1) ≡ n = omega arith in

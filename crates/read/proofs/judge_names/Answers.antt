@@ -10,7 +10,7 @@ course_of-course-requires c = (c.requires.room.title_fits, c.requires.room.time_
 
 pub pass-total-requires : goal.pass-total-requires
 pass-total-requires c =
-        let e = c.empty-index.ensures in
+    let e = c.empty-index.ensures in
     rw c.course_of-course.ensures
     (begins_head _ _ c.requires, record { ready = (knows_none _ _ e.0 e.1 e.2, omega (arith, c.requires.room.place_least)) })
 
@@ -23,4 +23,4 @@ slice_bounds-clear-end-2 c =
 
 pub returns : goal.returns
 returns c =
-        let P = rw c.course_of-course.ensures at c.pass-total.ensures in record { total = P.answer; room = rw c.cleared-end.ensures (all_cleared c.pass-total.new.lent _ _ (rw c.cleared-end.ensures at c.clear.ensures) P.lent) }
+    let P = rw c.course_of-course.ensures at c.pass-total.ensures in record { total = P.answer; room = rw c.cleared-end.ensures (all_cleared c.pass-total.new.lent _ _ (rw c.cleared-end.ensures at c.clear.ensures) P.lent) }

@@ -11,5 +11,5 @@ measured-requires c =
 
 pub returns : goal.returns
 returns c =
-        let m = rw c.course_of-course.ensures at c.measured.ensures in
+    let m = rw c.course_of-course.ensures at c.measured.ensures in
     (judges c.args.file.now c.args.head c.requires _ m.answer, m.sheet)

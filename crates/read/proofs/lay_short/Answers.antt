@@ -12,7 +12,7 @@ overflow_add-add c =
 
 pub turn_line-requires : goal.turn_line-requires
 turn_line-requires c =
-        let B = rw c.in-Line.is at c.find_short-it.ensures in
+    let B = rw c.in-Line.is at c.find_short-it.ensures in
     rw c.joint_of-joint.ensures
     (joined _ _ _ B c.requires.whole (omega (arith, c.requires.few.out_few)), c.requires.few, record { few = omega (arith, B.few, B.add_few); small = omega (arith, B.add_few) })
 
@@ -34,7 +34,7 @@ station_at-station-requires c =
 
 pub lay_station_freely-requires : goal.lay_station_freely-requires
 lay_station_freely-requires c =
-        let B = rw c.in-Place.is at c.find_short-it.ensures in
+    let B = rw c.in-Place.is at c.find_short-it.ensures in
     rw c.joint_of-joint-in-Place.ensures (joined _ _ _ B c.requires.whole (omega (arith, c.requires.few.out_few)))
 
 pub behind-requires : goal.behind-requires
@@ -62,7 +62,7 @@ section_at-section-requires c =
 
 pub lay_section_freely-requires : goal.lay_section_freely-requires
 lay_section_freely-requires c =
-        let B = rw c.in-Section.is at c.find_short-it.ensures in
+    let B = rw c.in-Section.is at c.find_short-it.ensures in
     rw c.joint_of-joint-in-Section.ensures (joined _ _ _ B c.requires.whole (omega (arith, c.requires.few.out_few)))
 
 pub behind-requires-in-Section : goal.behind-requires-in-Section
@@ -77,25 +77,25 @@ turn_move-requires c =
 
 pub returns-in-Line : goal.returns-in-Line
 returns-in-Line c =
-        let B = rw c.in-Line.is at c.find_short-it.ensures in
+    let B = rw c.in-Line.is at c.find_short-it.ensures in
     let L = rw c.joint_of-joint.ensures at c.turn_line.ensures in
     line_turns _ _ _ _ _ _ _ _ c.requires.whole c.requires.short refl _ _ B L
 
 pub returns-in-Again : goal.returns-in-Again
 returns-in-Again c =
-        let B = rw c.in-Again.is at c.find_short-it.ensures in
+    let B = rw c.in-Again.is at c.find_short-it.ensures in
     again_turns _ _ _ _ _ _ _ c.requires.whole c.requires.short _ _ B c.turn_again.ensures
 
 pub returns-in-Place : goal.returns-in-Place
 returns-in-Place c =
-        let B = rw c.in-Place.is at c.find_short-it.ensures in
+    let B = rw c.in-Place.is at c.find_short-it.ensures in
     let j = c.joint_of-joint-in-Place.ensures in
     let L = rw j at c.lay_station_freely.ensures in
     place_turns _ _ _ _ _ _ _ _ c.requires.whole c.requires.short refl _ _ _ B c.station_at-station.ensures L.label L.sheet (c.went.ensures ∙ rw (c.behind.ensures, j))
 
 pub returns-in-Section : goal.returns-in-Section
 returns-in-Section c =
-        let B = rw (c.in-Section.is, ← c.sides.ensures.0) at c.find_short-it.ensures in
+    let B = rw (c.in-Section.is, ← c.sides.ensures.0) at c.find_short-it.ensures in
     let j = c.joint_of-joint-in-Section.ensures in
     let L = rw j at c.lay_section_freely.ensures in
     section_turns _ _ _ _ _ _ _ _ c.requires.whole c.requires.short refl _ _ _ B c.section_at-section.ensures L.label L.sheet (c.went-in-Section.ensures ∙ rw (c.behind-in-Section.ensures, j))
@@ -107,5 +107,5 @@ returns-in-Trim c =
 
 pub returns-in-Move : goal.returns-in-Move
 returns-in-Move c =
-        let M = rw c.in-Move.is at c.find_short-it.ensures in
+    let M = rw c.in-Move.is at c.find_short-it.ensures in
     move_turns _ _ _ _ _ c.requires.whole c.requires.short M _ c.turn_move.ensures

@@ -10,7 +10,7 @@ pass-requires c = (c.requires.0, record { ready = tt })
 
 pub returns-then-course-lt8 : goal.returns-then-course-lt8
 returns-then-course-lt8 c =
-        let y = c.pass.new.lent in
+    let y = c.pass.new.lent in
     let hy : length y ≡ 0 = omega (arith, c.pass.auto.lent) in record { answer = c.pass.ensures.answer; sheet = none_before y c.args.sheet.now hy }
 
 pub measure-requires : goal.measure-requires

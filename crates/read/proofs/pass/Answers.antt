@@ -1,6 +1,5 @@
 -- `read::pass` meets its contract. Assumes nothing.
 use native.Mathlib.Omega.{arith}
-use Prim.Native.Nat.{◌-◌}
 use mathlib.Core.Path.{◌≡◌, ap, ◌∙◌}
 use lib.ListN.{length}
 use Rattle.read.proofs.Ruling.{on_first, on_stood, on_ready, on_other, on_went, on_trim, on_bad, on_end, on_item}

@@ -9,7 +9,7 @@ returns-in_default c = line_unset _ _ _ _ _ _ _ _ c.in_default.is
 
 pub behind-here-requires : goal.behind-here-requires
 behind-here-requires c =
-        rw c.joint_of-joint.ensures (c.requires.1.few, record { few = omega (arith, c.requires.2); small = omega arith }, omega arith)
+    rw c.joint_of-joint.ensures (c.requires.1.few, record { few = omega (arith, c.requires.2); small = omega arith }, omega arith)
 
 pub returns : goal.returns
 returns c =

@@ -16,4 +16,4 @@ returns-in-Section c =
 
 pub returns-in-Error : goal.returns-in-Error
 returns-in-Error c =
-        rw c.in-Error.is (record { label_is = refl; label_short = c.requires.0; label_whole = c.requires.1 })
+    rw c.in-Error.is (record { label_is = refl; label_short = c.requires.0; label_whole = c.requires.1 })

@@ -1,6 +1,5 @@
 -- `scan::next_record` meets its contract. Assumes nothing.
 use Prim.Native.Nat.{◌-◌}
-use mathlib.Core.List.{[]}
 use lib.ListN.{length}
 use Rattle.scan.proofs.Walk.{Going}
 use Rattle.scan.proofs.next_record.Given as goal

@@ -8,18 +8,24 @@ use Rattle.seconds.proofs.month_length.Goals as goal
 
 pub overflow_sub-result : goal.overflow_sub-result
 overflow_sub-result c =
-    omega (arith, (let it : c.days_before-next.result ≡ c.days_before.result + month_length c.args.extra
-    c.args.month =     let e : c.args.month + 1 - 1 ≡ c.args.month = omega arith in
-    c.days_before-next.ensures
-    ∙ ap (month_days c.args.extra) e
-    ∙ months_next c.args.extra c.args.month c.requires.1
-    ∙ rw (← c.days_before.ensures) in it))
+    omega (
+      arith,
+      (let it : c.days_before-next.result ≡ c.days_before.result + month_length c.args.extra
+          c.args.month = let e : c.args.month + 1 - 1 ≡ c.args.month = omega arith in
+          c.days_before-next.ensures
+          ∙ ap (month_days c.args.extra) e
+          ∙ months_next c.args.extra c.args.month c.requires.1
+          ∙ rw (← c.days_before.ensures) in it),
+    )
 
 pub returns : goal.returns
 returns c =
-    omega (arith, (let it : c.days_before-next.result ≡ c.days_before.result + month_length c.args.extra
-    c.args.month =     let e : c.args.month + 1 - 1 ≡ c.args.month = omega arith in
-    c.days_before-next.ensures
-    ∙ ap (month_days c.args.extra) e
-    ∙ months_next c.args.extra c.args.month c.requires.1
-    ∙ rw (← c.days_before.ensures) in it))
+    omega (
+      arith,
+      (let it : c.days_before-next.result ≡ c.days_before.result + month_length c.args.extra
+          c.args.month = let e : c.args.month + 1 - 1 ≡ c.args.month = omega arith in
+          c.days_before-next.ensures
+          ∙ ap (month_days c.args.extra) e
+          ∙ months_next c.args.extra c.args.month c.requires.1
+          ∙ rw (← c.days_before.ensures) in it),
+    )

@@ -1,5 +1,5 @@
 -- `number` meets its contract: what is left spells, from the number so far, what the whole spells. Assumes nothing.
-use Prim.Native.Nat.{ℕ, ◌≤◌, ◌-◌}
+use Prim.Native.Nat.{◌≤◌, ◌-◌}
 use mathlib.Core.Path.{◌≡◌}
 use lib.ListN.{length, drop}
 use Rattle.seconds.specs.Reading.{number_from}

@@ -1,5 +1,5 @@
 -- `sha256::absorb` meets its contract. Assumes nothing.
-use Rattle.std.proofs.Common.{◌-◌, arith}
+use Rattle.std.proofs.Common.{arith}
 use Rattle.sha256.proofs.StreamLaws.{absorb_first, absorb_turn, absorb_done, block_length}
 use Rattle.sha256.proofs.absorb.Goals as goal
 

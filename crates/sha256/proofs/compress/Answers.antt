@@ -1,5 +1,5 @@
 -- `sha256::compress` meets its contract. Assumes nothing.
-use Rattle.std.proofs.Common.{◌+◌, ◌-◌, ◌≤◌, length, refl, ap, ◌∙◌, arith}
+use Rattle.std.proofs.Common.{◌+◌, ◌≤◌, length, refl, ap, ◌∙◌, arith}
 use Rattle.sha256.proofs.Rounds.{constants_length, going_first, going_on, rounds_done}
 use Rattle.sha256.proofs.compress.Goals as goal
 
@@ -9,7 +9,7 @@ early_rounds-s-requires c =
 
 pub loop-t-init : goal.loop-t-init
 loop-t-init c =
-        let e = c.spread-w.ensures in
+    let e = c.spread-w.ensures in
     (omega arith, omega arith, refl, going_first c.args.k.now c.args.b.now _ c.args.h _ c.requires.0 e.0 e.1 c.early_rounds-s.ensures)
 
 pub late_round-s1-requires : goal.late_round-s1-requires
@@ -83,8 +83,8 @@ loop-t-smaller c =
 
 pub loop-t-preserved : goal.loop-t-preserved
 loop-t-preserved c =
-        let L = c.loop-t in
-        let k = c.args.k.now in
+    let L = c.loop-t in
+    let k = c.args.k.now in
     let m = c.args.b.now in
     let h = c.args.h in
     let q = c.requires.0 in

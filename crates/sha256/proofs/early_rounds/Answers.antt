@@ -1,5 +1,5 @@
 -- `sha256::early_rounds` meets its contract. Assumes nothing.
-use Rattle.std.proofs.Common.{◌≡◌, ◌+◌, ◌-◌, refl, arith}
+use Rattle.std.proofs.Common.{◌≡◌, ◌+◌, refl, arith}
 use Rattle.sha256.proofs.Rounds.{no_rounds, one_round}
 use Rattle.sha256.proofs.early_rounds.Goals as goal
 
@@ -9,7 +9,7 @@ loop-t-init c = (omega arith, refl, no_rounds c.args.k.now c.args.w.now _)
 pub loop-t-preserved : goal.loop-t-preserved
 loop-t-preserved c =
     let L = c.loop-t in
-        let k = c.args.k.now in
+    let k = c.args.k.now in
     let w = c.args.w.now in
     let t = L.t in
     let p = c.requires in

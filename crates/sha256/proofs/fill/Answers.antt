@@ -5,4 +5,4 @@ use Rattle.sha256.proofs.fill.Goals as goal
 
 pub returns : goal.returns
 returns c =
-        rw c.copy.ensures (laid_part c.args.block.now c.args.bytes.now c.args.held (omega (arith, c.requires)) _ refl)
+    rw c.copy.ensures (laid_part c.args.block.now c.args.bytes.now c.args.held (omega (arith, c.requires)) _ refl)

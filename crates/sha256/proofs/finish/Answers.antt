@@ -12,5 +12,5 @@ close-last-requires c = (
 
 pub returns : goal.returns
 returns c =
-            finish_held c.args.run c.args.block.now _ _ _ c.waiting-held.result c.waiting-held.ensures.0 (rest_front c.args.block.now c.waiting-held.result) c.close-last.ensures
+    finish_held c.args.run c.args.block.now _ _ _ c.waiting-held.result c.waiting-held.ensures.0 (rest_front c.args.block.now c.waiting-held.result) c.close-last.ensures
     c.lay_digest.ensures

@@ -6,4 +6,4 @@ use Rattle.sha256.proofs.lay_word.Goals as goal
 
 pub returns : goal.returns
 returns c =
-        rw c.put_be32.ensures (laid_part c.args.out.now (to_be32 c.args.n) c.args.at (omega (arith, c.requires)) _ refl)
+    rw c.put_be32.ensures (laid_part c.args.out.now (to_be32 c.args.n) c.args.at (omega (arith, c.requires)) _ refl)

@@ -1,5 +1,5 @@
 -- `sha256::spread` meets its contract. Assumes nothing.
-use Rattle.std.proofs.Common.{◌≡◌, ◌-◌, refl, arith, length-set, rules}
+use Rattle.std.proofs.Common.{◌≡◌, refl, arith, length-set, rules}
 use Rattle.sha256.specs.Digest.{schedule}
 use Rattle.sha256.proofs.Rounds.{early_word}
 use Rattle.sha256.proofs.spread.Goals as goal

@@ -6,7 +6,7 @@ use Rattle.sha256.proofs.take_in.Goals as goal
 
 pub returns-then-bytes-room : goal.returns-then-bytes-room
 returns-then-bytes-room c =
-        taken_short _ c.args.block.now _ c.args.bytes.now c.args.held c.requires.0 c.requires.1 (omega arith) c.fill.ensures
+    taken_short _ c.args.block.now _ c.args.bytes.now c.args.held c.requires.0 c.requires.1 (omega arith) c.fill.ensures
 
 pub overflow_mul-at : goal.overflow_mul-at
 overflow_mul-at c =
@@ -14,7 +14,7 @@ overflow_mul-at c =
 
 pub returns : goal.returns
 returns c =
-                let r = 64 - c.args.held in
+    let r = 64 - c.args.held in
     let g = take (length c.args.bytes.now - r) (drop r c.args.bytes.now) in
     taken_done _ _ _ c.args.block.now _ c.args.bytes.now _ g _ _ c.args.held c.requires.0 c.requires.1
     (omega (arith, c.before.before.before.before.before.before.before.before.before.before.before.before.before.before.before.before.before))

@@ -4,5 +4,5 @@ use Rattle.sha256.proofs.update.Goals as goal
 
 pub returns : goal.returns
 returns c =
-            update_held c.args.run _ _ c.args.block.now _ c.args.bytes.now c.waiting-held.result c.full_block.ensures.1 c.waiting-held.ensures.0
+    update_held c.args.run _ _ c.args.block.now _ c.args.bytes.now c.waiting-held.result c.full_block.ensures.1 c.waiting-held.ensures.0
     c.take_in-hash.ensures c.wrapping_add_u64-length.ensures.value

@@ -10,7 +10,7 @@ use Rattle.sheet.proofs.version_of.Goals as goal
 pub returns-then-sheet-eq0 : goal.returns-then-sheet-eq0
 unfolding version_of pick
 returns-then-sheet-eq0 c =
-        let e : get_or c.args.sheet.now 0 0 ≡ 0 = get_or-eq_default c.args.sheet.now 0 {n = 0} (omega arith) in
+    let e : get_or c.args.sheet.now 0 0 ≡ 0 = get_or-eq_default c.args.sheet.now 0 {n = 0} (omega arith) in
     rw e
 
 pub returns-then-sheet-eq-UNDATED_VERSION : goal.returns-then-sheet-eq-UNDATED_VERSION

@@ -8,7 +8,7 @@ use Rattle.step.proofs.peek.Goals as goal
 
 pub returns-in_default-kept : goal.returns-in_default-kept
 returns-in_default-kept c =
-        let R = c.in-Relabel.ensures in
+    let R = c.in-Relabel.ensures in
     peek_short _ _ _ c.args.len _ c.requires.1 c.requires.0 _ _ _ _ _ R (sym c.kept_of-kept.ensures.0 ∙ c.in_default-kept.is)
 
 pub overflow_sub-keep : goal.overflow_sub-keep
@@ -18,20 +18,20 @@ overflow_sub-keep c =
 
 pub returns-then-keep-count : goal.returns-then-keep-count
 returns-then-keep-count c =
-        let R = c.in-Relabel.ensures in
+    let R = c.in-Relabel.ensures in
     let W = rw c.in-Keeps.is at c.kept_of-kept.ensures.1 in
     peek_long _ _ _ c.args.len _ c.requires.1 c.requires.0 _ _ _ _ _ R _ (sym c.kept_of-kept.ensures.0 ∙ c.in-Keeps.is) (omega (arith, W, c.requires.0)) c.if-keep-count.true
 
 pub returns-in-Error : goal.returns-in-Error
 returns-in-Error c =
-        tells_room _ _ _ (comes_error _ _ _ c.args.len _ c.requires.1 c.requires.0 _ c.in-Error.ensures)
+    tells_room _ _ _ (comes_error _ _ _ c.args.len _ c.requires.1 c.requires.0 _ c.in-Error.ensures)
 
 pub returns-else-keep-count : goal.returns-else-keep-count
 returns-else-keep-count c =
-        let R = c.in-Relabel.ensures in
+    let R = c.in-Relabel.ensures in
     let W = rw c.in-Keeps.is at c.kept_of-kept.ensures.1 in
     peek_fits _ _ _ c.args.len _ c.requires.1 c.requires.0 _ _ _ _ _ R _ _ (sym c.kept_of-kept.ensures.0 ∙ c.in-Keeps.is) W c.if-keep-count.false c.made_step.ensures.0
 
 pub returns-in_default : goal.returns-in_default
 returns-in_default c =
-        none_among _ _ _ c.decode-it.result (search rules) c.decode-it.ensures
+    none_among _ _ _ c.decode-it.result (search rules) c.decode-it.ensures

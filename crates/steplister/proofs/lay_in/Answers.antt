@@ -12,7 +12,7 @@ returns-then-sheet-at-2 c = sym (laid_none _ _ _ (omega (arith, c.if-sheet-at-2.
 
 pub returns : goal.returns
 returns c =
-        let i = c.if-sheet-at.false in
+    let i = c.if-sheet-at.false in
     let j = c.if-sheet-at-2.false in
     rw c.copy.ensures
     (laid_part c.args.sheet.now c.args.part.now c.args.at (omega (arith, i)) _ refl

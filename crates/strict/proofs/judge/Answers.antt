@@ -11,7 +11,7 @@ slice_bounds-name-end c =
 
 pub judge_station-requires : goal.judge_station-requires
 judge_station-requires c =
-        let e = length-take-le c.args.len c.args.bytes.now (omega (arith, c.requires.1, c.requires.2)) in
+    let e = length-take-le c.args.len c.args.bytes.now (omega (arith, c.requires.1, c.requires.2)) in
     (c.requires.0, omega (arith, e, c.requires.1), c.requires.3)
 
 pub returns-in-Leg : goal.returns-in-Leg

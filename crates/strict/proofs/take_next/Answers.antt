@@ -37,6 +37,6 @@ overflow_add-result-2 c =
 pub returns : goal.returns
 returns c =
     let B = rw c.in-Place.is at c.short_item-it.ensures in
-        let e = rw (part_to_end c.args.s.now 2) at c.extend.ensures in
+    let e = rw (part_to_end c.args.s.now 2) at c.extend.ensures in
     rw (e, c.station_at-station.ensures)
     (station_told _ c.args.s.now c.args.len _ _ _ _ c.args.bytes.now c.args.setting c.requires.1 c.requires.0 _ B)

@@ -1,5 +1,5 @@
 -- `summary::count_records` meets its contract. Assumes nothing.
-use Rattle.std.proofs.Common.{◌-◌, drop, arith}
+use Rattle.std.proofs.Common.{drop, arith}
 use borrow.Author.Rules.{part_to_end}
 use Rattle.reach.proofs.Turn.{There, there}
 use Rattle.summary.proofs.Walk.{walked_none, walked_end, walked_flawed, walked_size, walked_next}

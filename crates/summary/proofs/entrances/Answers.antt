@@ -12,9 +12,9 @@ returns-then-to-from c =
 
 pub returns-then-n-to : goal.returns-then-n-to
 returns-then-n-to c =
-        past c.args.words.now c.args.records c.args.from c.args.to c.words_for-least.result c.words_for-least.ensures c.if-words-least.false c.if-to-from.false c.if-n-to.true
+    past c.args.words.now c.args.records c.args.from c.args.to c.words_for-least.result c.words_for-least.ensures c.if-words-least.false c.if-to-from.false c.if-n-to.true
 
 pub returns : goal.returns
 returns c =
-        held c.args.words.now c.args.records c.args.from c.args.to c.words_for-least.result c.words_for-least.ensures c.if-words-least.false
+    held c.args.words.now c.args.records c.args.from c.args.to c.words_for-least.result c.words_for-least.ensures c.if-words-least.false
     c.count_marks-count.result c.next_mark-next.result c.if-to-from.false c.if-n-to.false c.count_marks-count.ensures c.next_mark-next.ensures

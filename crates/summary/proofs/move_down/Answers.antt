@@ -1,6 +1,6 @@
 -- `summary::move_down` meets its contract. Assumes nothing.
 use Rattle.summary.proofs.Words.{put_to, put_none, moved_down}
-use Rattle.std.proofs.Common.{◌≡◌, ◌+◌, ◌-◌, refl, ◌∙◌, arith}
+use Rattle.std.proofs.Common.{◌≡◌, ◌+◌, refl, ◌∙◌, arith}
 use Rattle.format.specs.Summary.{bit_at}
 use Rattle.summary.proofs.Words.{put_none, moved_down}
 use Rattle.summary.proofs.move_down.Goals as goal

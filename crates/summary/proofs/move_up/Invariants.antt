@@ -1,5 +1,5 @@
 -- `summary::move_up` meets its contract. Assumes nothing.
-use Rattle.std.proofs.Common.{◌≡◌, ◌+◌, ◌-◌, ◌≤◌, length}
+use Rattle.std.proofs.Common.{◌≡◌, ◌+◌, ◌≤◌, length}
 use Rattle.format.specs.Summary.{bit_at}
 use Rattle.summary.specs.Bits.{Put}
 use Rattle.summary.proofs.move_up.Given as goal

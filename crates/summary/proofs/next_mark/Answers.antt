@@ -1,5 +1,5 @@
 -- `summary::next_mark` meets its contract. Assumes nothing.
-use Rattle.std.proofs.Common.{◌≡◌, ◌+◌, ◌-◌, ◌*◌, ◌/◌, ◌^◌, ◌<◌, ◌≤◌, get_or, sym, arith}
+use Rattle.std.proofs.Common.{◌≡◌, ◌+◌, ◌*◌, ◌/◌, ◌^◌, ◌<◌, ◌≤◌, get_or, sym, arith}
 use Rattle.summary.proofs.Asking.{next_at_lem, next_none, turn_none, turn_in, turn_set, turn_clear}
 use Rattle.summary.proofs.next_mark.Goals as goal
 

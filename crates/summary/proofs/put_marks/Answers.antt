@@ -1,5 +1,5 @@
 -- `summary::put_marks` meets its contract. Assumes nothing.
-use Rattle.std.proofs.Common.{◌≡◌, ℕ, ◌+◌, ◌-◌, ◌≤◌, false, length, drop, sym, refl, ap, ◌∙◌, arith}
+use Rattle.std.proofs.Common.{◌≡◌, ◌+◌, ◌≤◌, length, drop, sym, refl, ap, ◌∙◌, arith}
 use borrow.Author.Rules.{part_to_end}
 use Rattle.format.specs.Bytes.{be16, Bytes}
 use Rattle.format.specs.Sheet.{records_of}

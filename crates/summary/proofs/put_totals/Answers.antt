@@ -1,5 +1,5 @@
 -- `summary::put_totals` meets its contract. Assumes nothing.
-use Rattle.std.proofs.Common.{◌≡◌, ℕ, ◌+◌, ◌-◌, ◌*◌, ◌<◌, ◌≤◌, length, refl, ◌∙◌, subst, arith, length-set, lt-length-set}
+use Rattle.std.proofs.Common.{◌≡◌, ℕ, ◌+◌, ◌*◌, ◌<◌, ◌≤◌, length, refl, ◌∙◌, subst, arith, length-set, lt-length-set}
 use Rattle.summary.proofs.Sums.{totalled_none, totalled_next, totalled_sum}
 use Rattle.summary.specs.Bits.{sum_to, Totalled}
 use Rattle.summary.proofs.Sums.{totalled_none, totalled_next}

@@ -1,5 +1,5 @@
 -- `summary::put_totals` meets its contract. Assumes nothing.
-use Rattle.std.proofs.Common.{◌≡◌, ℕ, ◌-◌, ◌*◌, ◌≤◌, length}
+use Rattle.std.proofs.Common.{◌≡◌, ◌-◌, ◌*◌, ◌≤◌, length}
 use Rattle.format.specs.Summary.{bit_at}
 use Rattle.summary.specs.Bits.{sum_to, Totalled}
 use Rattle.summary.proofs.put_totals.Given as goal

@@ -18,6 +18,6 @@ overflow_cast-part c =
 
 pub returns : goal.returns
 returns c =
-        c.wrapping_add_u64.ensures.value
+    c.wrapping_add_u64.ensures.value
     ∙ rank_at c.args.words.now c.args.n c.args.k c.words_for.result c.low_bits-low.result c.if-k-eq0.false c.requires.0
     c.words_for.ensures c.low_bits-low.ensures

@@ -1,5 +1,5 @@
 -- `table::find` meets its contract. Assumes nothing.
-use Prim.Native.Nat.{ℕ, ◌-◌, ◌≤◌}
+use Prim.Native.Nat.{◌≤◌}
 use Rattle.table.proofs.Finding.{Ahead}
 use Rattle.table.proofs.find.Given as goal
 

@@ -1,5 +1,4 @@
 -- `table::hang` meets its contract. Assumes nothing.
-use Prim.Native.Nat.{ℕ}
 use Rattle.table.specs.Room.{hung_at}
 use Rattle.table.proofs.hang.Goals as goal
 

@@ -1,5 +1,5 @@
 -- `table::hang_all` meets its contract. Assumes nothing.
-use Prim.Native.Nat.{ℕ, ◌-◌, ◌<◌}
+use Prim.Native.Nat.{◌<◌}
 use native.Mathlib.Omega.{arith}
 use mathlib.Core.Path.{◌≡◌, ◌∙◌}
 use lib.ListN.{length}
@@ -21,7 +21,7 @@ hang-requires c =
 pub loop-i-preserved : goal.loop-i-preserved
 loop-i-preserved c =
     let l = c.loop-i in
-        let e = (let it : length c.loop-i.room ≡ length c.args.room.now = c.loop-i.invariant.1.same_length ∙ c.wipe_all.ensures.links.same_length in it) in
+    let e = (let it : length c.loop-i.room ≡ length c.args.room.now = c.loop-i.invariant.1.same_length ∙ c.wipe_all.ensures.links.same_length in it) in
     let m : l.i < c.args.n = omega arith in (
       omega arith,
       rw c.hang.ensures (links_trans _ l.room _ c.args.n l.invariant.1 (hang_kept l.room c.args.n c.args.n l.i l.invariant.2 c.requires.0 (omega arith) m c.requires.1 (omega (arith, c.requires)))),

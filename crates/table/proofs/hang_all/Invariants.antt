@@ -1,5 +1,5 @@
 -- `table::hang_all` meets its contract. Assumes nothing.
-use Prim.Native.Nat.{ℕ, ◌-◌, ◌≤◌}
+use Prim.Native.Nat.{◌-◌, ◌≤◌}
 use Rattle.table.specs.Good.{Links, Chained}
 use Rattle.table.proofs.hang_all.Given as goal
 

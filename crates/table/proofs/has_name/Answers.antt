@@ -23,6 +23,6 @@ slice_bounds-same_name-end c =
 
 pub returns : goal.returns
 returns c =
-            says c.args.room.now c.args.i c.args.h c.args.name.now c.same_name.result
+    says c.args.room.now c.args.i c.args.h c.args.name.now c.same_name.result
     (sym ((let it : c.get_le32-g.result ≡ hash_at c.args.room.now c.args.i = (simp part_to_end at c.get_le32-g.ensures.0) ∙ hash_here _ _ in it)) ∙ c.if-g-h.false)
     (c.same_name.ensures ∙ ap (λ (l : List ℕ). same l c.args.name.now) (name_here c.args.room.now c.args.i _ _ (let it : c.get_le40-start.result ≡ start_at c.args.room.now c.args.i = (simp part_to_end at c.get_le40-start.ensures) ∙ start_here _ _ in it) (let it : c.get_le16-size.result ≡ size_at c.args.room.now c.args.i = (simp part_to_end at c.get_le16-size.ensures.0) ∙ size_here _ _ in it)))

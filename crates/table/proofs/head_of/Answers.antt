@@ -1,7 +1,6 @@
 -- `table::head_of` meets its contract. Assumes nothing.
 use borrow.Author.Rules.{part_to_end}
 use mathlib.Core.Path.{◌∙◌}
-use Prim.Native.Nat.{ℕ}
 use Rattle.table.specs.Room.{head_at}
 use Rattle.table.proofs.head_of.Goals as goal
 

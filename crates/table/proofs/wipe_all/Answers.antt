@@ -1,5 +1,4 @@
 -- `table::wipe_all` meets its contract. Assumes nothing.
-use Prim.Native.Nat.{ℕ, ◌-◌}
 use native.Mathlib.Omega.{arith}
 use mathlib.Core.Path.{◌≡◌}
 use Rattle.table.proofs.Chains.{blank_none, blank_more}
@@ -15,7 +14,7 @@ wipe-requires c =
 pub loop-i-preserved : goal.loop-i-preserved
 loop-i-preserved c =
     let l = c.loop-i in
-        (omega arith, rw c.wipe.ensures (blank_more c.args.room.now l.room c.args.n l.i c.requires (omega arith) l.invariant.1))
+    (omega arith, rw c.wipe.ensures (blank_more c.args.room.now l.room c.args.n l.i c.requires (omega arith) l.invariant.1))
 
 pub shape_of-room : goal.shape_of-room
 shape_of-room c = c.loop-i.invariant.1.links.same_length

@@ -1,5 +1,5 @@
 -- `table::wipe_all` meets its contract. Assumes nothing.
-use Prim.Native.Nat.{ℕ, ◌-◌, ◌≤◌}
+use Prim.Native.Nat.{◌-◌, ◌≤◌}
 use Rattle.table.specs.Good.{Blank}
 use Rattle.table.proofs.wipe_all.Given as goal
 

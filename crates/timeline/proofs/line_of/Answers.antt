@@ -19,7 +19,7 @@ slice_bounds-result-end-in-Stamped c =
 
 pub returns-in-Unstamped : goal.returns-in-Unstamped
 returns-in-Unstamped c =
-        let e = sym c.in-Unstamped.is in record { result_value = ap (λ (r : Stamp). line_in r c.args.file.now) e; ref_ptr_value = ap (λ (r : Stamp). place_in r c.args.file.ref_ptr) e }
+    let e = sym c.in-Unstamped.is in record { result_value = ap (λ (r : Stamp). line_in r c.args.file.now) e; ref_ptr_value = ap (λ (r : Stamp). place_in r c.args.file.ref_ptr) e }
 
 pub returns-in-Stamped : goal.returns-in-Stamped
 returns-in-Stamped c =

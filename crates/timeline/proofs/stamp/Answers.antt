@@ -28,7 +28,7 @@ unfolding stamp_of
 returns-in-Whole c =
     let l = c.line_stamp.ensures in (
       l.same ∙ (stamp_whole _ _ _ _ _ _ ((let it : Room c.in-Whole.version c.in-Whole.place c.in-Whole.extended c.in-Whole.title
-    c.in-Whole.time c.args.file.now = (told_at c.in-Whole.is c.opening-head.ensures).room in it))
+          c.in-Whole.time c.args.file.now = (told_at c.in-Whole.is c.opening-head.ensures).room in it))
           ∙ ap stamp_opened (told_at c.in-Whole.is c.opening-head.ensures).same),
       l.room,
     )

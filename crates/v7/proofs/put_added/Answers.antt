@@ -8,10 +8,10 @@ use Rattle.v7.proofs.put_added.Goals as goal
 
 pub put-requires : goal.put-requires
 put-requires c =
-        (omega (arith, c.put_length-next.ensures.most, c.requires), simp (part_to_end, length-drop) (omega (arith, c.requires)))
+    (omega (arith, c.put_length-next.ensures.most, c.requires), simp (part_to_end, length-drop) (omega (arith, c.requires)))
 
 pub returns : goal.returns
 unfolding added_codes
 returns c =
-        lays_within (lays_then c.put_length-next.ensures (simp part_to_end at
+    lays_within (lays_then c.put_length-next.ensures (simp part_to_end at
     c.put.ensures)) 4099 (simp length-drop (omega (arith, c.requires)))

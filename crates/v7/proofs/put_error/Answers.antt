@@ -8,5 +8,5 @@ use Rattle.v7.proofs.put_error.Goals as goal
 pub returns : goal.returns
 unfolding to_le32
 returns c =
-        lays_within (lays_then c.put-a.ensures (rw c.traverse_bytes-bytes.ensures at
+    lays_within (lays_then c.put-a.ensures (rw c.traverse_bytes-bytes.ensures at
     c.put.ensures)) v7_codes_limit (omega arith)

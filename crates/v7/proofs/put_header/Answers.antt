@@ -10,47 +10,44 @@ put-b-requires c =
     (omega (arith, c.put-a.ensures.most), c.requires.0)
 
 pub put-c-requires : goal.put-c-requires
-put-c-requires c =
-    (
-      omega (
-        arith,
-        c.put-a.ensures.most,
-        c.put-b.ensures.most,
-        c.requires,
-      ),
-      omega arith,
-    )
+put-c-requires c = (
+  omega (
+    arith,
+    c.put-a.ensures.most,
+    c.put-b.ensures.most,
+    c.requires,
+  ),
+  omega arith,
+)
 
 pub put-d-requires : goal.put-d-requires
-put-d-requires c =
-        (
-      omega (
-        arith,
-        c.put-a.ensures.most,
-        c.put-b.ensures.most,
-        c.put-c.ensures.most,
-        c.requires,
-      ),
-      omega (arith, c.requires),
-    )
+put-d-requires c = (
+  omega (
+    arith,
+    c.put-a.ensures.most,
+    c.put-b.ensures.most,
+    c.put-c.ensures.most,
+    c.requires,
+  ),
+  omega (arith, c.requires),
+)
 
 pub put-requires : goal.put-requires
-put-requires c =
-        (
-      omega (
-        arith,
-        c.put-a.ensures.most,
-        c.put-b.ensures.most,
-        c.put-c.ensures.most,
-        c.put-d.ensures.most,
-        c.requires,
-      ),
-      omega arith,
-    )
+put-requires c = (
+  omega (
+    arith,
+    c.put-a.ensures.most,
+    c.put-b.ensures.most,
+    c.put-c.ensures.most,
+    c.put-d.ensures.most,
+    c.requires,
+  ),
+  omega arith,
+)
 
 pub returns : goal.returns
 unfolding v7_header_codes magic
 returns c =
-                puts_front (lays_within (lays_then c.put-a.ensures (lays_then c.put-b.ensures (lays_then
+    puts_front (lays_within (lays_then c.put-a.ensures (lays_then c.put-b.ensures (lays_then
     c.put-c.ensures (lays_then c.put-d.ensures
     c.put.ensures)))) 4186 (omega (arith, c.requires)))

@@ -18,7 +18,7 @@ put_shorten-a-requires c =
 
 pub put_added-c-requires : goal.put_added-c-requires
 put_added-c-requires c =
-        let h = common_le c.args.last.now
+    let h = common_le c.args.last.now
     c.args.name.now in
     let e = c.common_start-kept.ensures in (
       omega (
@@ -35,7 +35,7 @@ put_added-c-requires c =
 pub returns : goal.returns
 unfolding labelled_codes
 returns c =
-            let e = c.common_start-kept.ensures in
+    let e = c.common_start-kept.ensures in
     lays_within
     (lays_then (rw e at c.put_shorten-a.ensures)
     (lays_then c.put-b.ensures (lays_then (rw e at c.put_added-c.ensures)

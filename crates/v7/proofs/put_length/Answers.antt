@@ -13,6 +13,6 @@ returns-then-n-lt254 c =
 pub returns : goal.returns
 unfolding to_le16
 returns c =
-        let e = c.le16_bytes-b.ensures in
+    let e = c.le16_bytes-b.ensures in
     lays_within (lays_as (simp e at c.put-2.ensures) (length_long c.args.n
     c.if-n-lt254.false (omega (arith, c.requires)))) 3 (omega arith)

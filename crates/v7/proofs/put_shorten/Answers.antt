@@ -15,5 +15,5 @@ returns-then-n-eq0 c =
 
 pub returns : goal.returns
 returns c =
-        lays_within (lays_as c.put.ensures (shorten_all c.args.n c.args.k
+    lays_within (lays_as c.put.ensures (shorten_all c.args.n c.args.k
     c.if-k-ne0.false c.if-n-eq0.false)) 257 (omega arith)

@@ -11,5 +11,5 @@ returns-then-rest-eq0 c =
 
 pub returns : goal.returns
 returns c =
-        lays_as (lays_then c.put_sixteens-next.ensures c.put.ensures) (trims_rest c.args.d
+    lays_as (lays_then c.put_sixteens-next.ensures c.put.ensures) (trims_rest c.args.d
     c.if-rest-eq0.false)

@@ -24,7 +24,7 @@ place_at-requires c = simp (part_to_end, length-drop) (omega (arith, (let it : 3
 
 pub returns-then-far_place : goal.returns-then-far_place
 returns-then-far_place c =
-        let p = simp part_to_end at c.place_at.ensures in
+    let p = simp part_to_end at c.place_at.ensures in
     from_far c.args.origin c.args.s.now c.if-s-ne1.false
     (sym (c.far_place.ensures ∙ ap (λ (x : Corner). too_far (less_origin c.args.origin x)) p) ∙ c.if-far_place.true)
 
@@ -39,7 +39,7 @@ place_at-requires-2 c = simp (part_to_end, length-drop) (omega (arith, (let it :
 
 pub returns : goal.returns
 returns c =
-            let p = simp part_to_end at c.place_at.ensures in
+    let p = simp part_to_end at c.place_at.ensures in
     let q = simp part_to_end at c.place_at-2.ensures in
     to_far c.args.origin c.args.s.now c.if-s-ne1.false
     (sym (c.far_place.ensures ∙ ap (λ (x : Corner). too_far (less_origin c.args.origin x)) p) ∙ c.if-far_place.false) _

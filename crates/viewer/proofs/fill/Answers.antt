@@ -1,6 +1,6 @@
 -- `viewer::fill` meets its contract. Assumes nothing.
 use native.Mathlib.Omega.{arith}
-use Prim.Native.Nat.{◌+◌, ◌-◌}
+use Prim.Native.Nat.{◌+◌}
 use mathlib.Core.Path.{◌≡◌, refl}
 use borrow.Author.Rules.{part_to_end}
 use lib.ListN.{length, drop}

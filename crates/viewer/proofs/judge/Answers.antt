@@ -11,4 +11,4 @@ first_far-requires-then-far_place-2 c = boxed_good c.requires
 
 pub returns : goal.returns
 returns c =
-            boxed_near c.requires c.args.origin (sym c.far_place.ensures ∙ c.if-far_place.false) (sym c.far_place-2.ensures ∙ c.if-far_place-2.false)
+    boxed_near c.requires c.args.origin (sym c.far_place.ensures ∙ c.if-far_place.false) (sym c.far_place-2.ensures ∙ c.if-far_place-2.false)

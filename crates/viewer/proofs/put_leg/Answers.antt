@@ -8,7 +8,7 @@ use Rattle.viewer.proofs.put_leg.Goals as goal
 
 pub put_ends-requires : goal.put_ends-requires
 put_ends-requires c =
-        let p = simp part_to_end at c.place_at-from.ensures in
+    let p = simp part_to_end at c.place_at-from.ensures in
     let q = simp part_to_end at c.place_at-to.ensures in
     let n = six_near c.args.origin c.args.s.now c.requires.2 in
     let from_near : too_far (less_origin c.args.origin c.place_at-from.result) ≡ false = rw p n.0 in

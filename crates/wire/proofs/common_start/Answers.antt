@@ -1,5 +1,5 @@
 -- `wire::common_start` meets its contract. Assumes nothing.
-use Prim.Native.Nat.{◌-◌, min}
+use Prim.Native.Nat.{min}
 use mathlib.Core.Path.{◌≡◌}
 use lib.ListN.{length, drop, length-drop}
 use native.Mathlib.Omega.{arith}
@@ -12,12 +12,12 @@ same_eights-i-requires c =
 
 pub returns-then-l-i : goal.returns-then-l-i
 returns-then-l-i c =
-        let e = c.least-n.ensures in
+    let e = c.least-n.ensures in
     omega (arith, common_here c.args.l.now c.args.m.now c.loop-i.i (omega arith) (omega arith) c.if-l-i.true)
 
 pub loop-i-preserved : goal.loop-i-preserved
 loop-i-preserved c =
-        let e = c.least-n.ensures in (
+    let e = c.least-n.ensures in (
       omega arith,
       omega arith,
       omega (
@@ -29,7 +29,7 @@ loop-i-preserved c =
 
 pub returns : goal.returns
 returns c =
-        let i = c.loop-i.i in
+    let i = c.loop-i.i in
     let e = c.least-n.ensures in
     let z : min (length (drop i c.args.l.now)) (length (drop i c.args.m.now)) ≡ 0 = simp length-drop (omega arith) in
     omega (arith, common_spent (drop i c.args.l.now) (drop i c.args.m.now) z)

@@ -1,5 +1,5 @@
 -- `copy` meets its contract. So far dst holds i bytes of src and then its own. Assumes nothing.
-use Prim.Native.Nat.{ℕ, ◌-◌}
+use Prim.Native.Nat.{ℕ}
 use mathlib.Core.Path.{◌≡◌, refl, ap, ◌∙◌}
 use mathlib.Core.List.{List}
 use lib.Seq.{take-length}
@@ -14,7 +14,7 @@ loop-i-init c = (omega arith, refl, refl)
 
 pub loop-i-preserved : goal.loop-i-preserved
 loop-i-preserved c =
-            let l = c.loop-i in (
+    let l = c.loop-i in (
       omega arith,
       simp length-set l.invariant.1,
       ap (λ (x : List ℕ). set x l.i (get_or c.args.src.now l.i 0)) l.invariant.2

@@ -4,6 +4,6 @@ use Rattle.wire.proofs.copy_few.Goals as goal
 
 pub returns : goal.returns
 returns c =
-        let h = c.if-n-lt4.false in
+    let h = c.if-n-lt4.false in
     laps_ends _ _ _ _ 4 c.copy_four.ensures c.copy_four-2.ensures (omega arith)
     (omega arith) (omega arith)

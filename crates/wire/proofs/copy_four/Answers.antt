@@ -8,6 +8,6 @@ use Rattle.wire.proofs.copy_four.Goals as goal
 
 pub returns : goal.returns
 returns c =
-            let g = c.get_le32-n.ensures in
+    let g = c.get_le32-n.ensures in
     c.put_le32.ensures ∙ ap (λ (x : List ℕ). over x c.args.dst.now)
     (ap to_le32 g.0 ∙ back_4 c.args.src.now c.requires.0 g.1)

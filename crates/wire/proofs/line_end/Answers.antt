@@ -1,5 +1,4 @@
 -- `line_end` meets its contract. i bytes, and those before a linefeed in what is left, are all before the first linefeed. Assumes nothing.
-use Prim.Native.Nat.{◌-◌}
 use mathlib.Core.Path.{◌≡◌}
 use lib.ListN.{length, drop, length-drop}
 use native.Mathlib.Omega.{arith}
@@ -8,14 +7,14 @@ use Rattle.wire.proofs.line_end.Goals as goal
 
 pub returns-then-s-i-eq10 : goal.returns-then-s-i-eq10
 returns-then-s-i-eq10 c =
-        omega (arith, line_here c.args.s.now c.loop-i.i (omega arith) c.if-s-i-eq10.true)
+    omega (arith, line_here c.args.s.now c.loop-i.i (omega arith) c.if-s-i-eq10.true)
 
 pub loop-i-preserved : goal.loop-i-preserved
 loop-i-preserved c =
-        (omega arith, omega (arith, line_past c.args.s.now c.loop-i.i (omega arith) c.if-s-i-eq10.false))
+    (omega arith, omega (arith, line_past c.args.s.now c.loop-i.i (omega arith) c.if-s-i-eq10.false))
 
 pub returns : goal.returns
 returns c =
-        let i = c.loop-i.i in
+    let i = c.loop-i.i in
     let e : length (drop i c.args.s.now) ≡ 0 = simp length-drop (omega arith) in
     omega (arith, line_none (drop i c.args.s.now) e)

@@ -1,4 +1,4 @@
-use Prim.Native.Nat.{◌-◌, ◌≤◌}
+use Prim.Native.Nat.{◌≤◌}
 use mathlib.Core.Path.{◌≡◌}
 use borrow.Author.Rules.{part_to_end}
 use lib.ListN.{take, drop, length-take, length-drop}
@@ -13,31 +13,38 @@ same_eight-k-requires c =
 
 pub returns-then-k-lt8 : goal.returns-then-k-lt8
 returns-then-k-lt8 c =
-        let i = c.loop-i.i in
+    let i = c.loop-i.i in
     let k = c.same_eight-k.result in
     let h = c.same_eight-k.ensures.1 in (
-      (omega (arith, h), omega (arith, h), omega (arith, common_eights c.args.l.now c.args.m.now i k (omega arith) (omega arith) h ((let it : c.same_eight-k.result ≤ common (take 8 (drop c.loop-i.i
-    c.args.l.now))
-    (take 8 (drop c.loop-i.i c.args.m.now)) = rw (
-  part_to_end c.args.l.now c.loop-i.i,
-  part_to_end c.args.m.now c.loop-i.i,
-) at
-    c.same_eight-k.ensures.0 in it)))),
+      (
+        omega (arith, h),
+        omega (arith, h),
+        omega (
+          arith,
+          common_eights c.args.l.now c.args.m.now i k (omega arith) (omega arith) h ((let it : c.same_eight-k.result ≤ common (take 8 (drop c.loop-i.i
+              c.args.l.now))
+              (take 8 (drop c.loop-i.i c.args.m.now)) = rw (
+                part_to_end c.args.l.now c.loop-i.i,
+                part_to_end c.args.m.now c.loop-i.i,
+              ) at
+              c.same_eight-k.ensures.0 in it)),
+        ),
+      ),
       omega (arith, h),
     )
 
 pub loop-i-preserved : goal.loop-i-preserved
 loop-i-preserved c =
-        let i = c.loop-i.i in
+    let i = c.loop-i.i in
     let k = c.same_eight-k.result in
     let h = c.same_eight-k.ensures.1 in
     let e : k ≡ 8 = omega (arith, h, c.if-k-lt8.false) in
     let z = rw e at (common_eights c.args.l.now c.args.m.now i k (omega arith) (omega arith) h ((let it : c.same_eight-k.result ≤ common (take 8 (drop c.loop-i.i
     c.args.l.now))
     (take 8 (drop c.loop-i.i c.args.m.now)) = rw (
-  part_to_end c.args.l.now c.loop-i.i,
-  part_to_end c.args.m.now c.loop-i.i,
-) at
+      part_to_end c.args.l.now c.loop-i.i,
+      part_to_end c.args.m.now c.loop-i.i,
+    ) at
     c.same_eight-k.ensures.0 in it))) in
     ((omega arith, omega arith, omega (arith, z)), omega arith)
 

@@ -79,10 +79,14 @@ returns-in_default-entered c =
 
 pub more-total-requires-in-loop-at : goal.more-total-requires-in-loop-at
 more-total-requires-in-loop-at c =
-    omega (arith, c.loop-at.invariant.few, ((let it : let l = c.loop-at in
-    let o = c.within-room.result in
-    Written c.args.version c.args.sheet.now l.at l.hand l.position (take (length l.out - o) (drop o l.out))
-    c.put_entry-entered.new.out c.in-Put.coded c.in-Put.fields = rw c.in-Put.is at c.put_entry-entered.ensures in it)).puts.most)
+    omega (
+      arith,
+      c.loop-at.invariant.few,
+      ((let it : let l = c.loop-at in
+          let o = c.within-room.result in
+          Written c.args.version c.args.sheet.now l.at l.hand l.position (take (length l.out - o) (drop o l.out))
+          c.put_entry-entered.new.out c.in-Put.coded c.in-Put.fields = rw c.in-Put.is at c.put_entry-entered.ensures in it)).puts.most,
+    )
 
 pub overflow_add-number-in-loop-at : goal.overflow_add-number-in-loop-at
 overflow_add-number-in-loop-at c =
@@ -90,13 +94,17 @@ overflow_add-number-in-loop-at c =
 
 pub overflow_add-at-in-loop-at : goal.overflow_add-at-in-loop-at
 overflow_add-at-in-loop-at c =
-    omega (arith, (let it : let n = c.in-Put.coded.size in
-    (3 ≤ n) × (c.loop-at.at + n ≤ length c.args.sheet.now) = let T = ((let it : let l = c.loop-at in
-    let o = c.within-room.result in
-    Written c.args.version c.args.sheet.now l.at l.hand l.position (take (length l.out - o) (drop o l.out))
-    c.put_entry-entered.new.out c.in-Put.coded c.in-Put.fields = rw c.in-Put.is at c.put_entry-entered.ensures in it)).told in
-    let w = found_size _ c.args.sheet.now c.loop-at.at c.loop-at-test.true _ _ _ T in
-    (w.0, w.1) in it), c.well_formed)
+    omega (
+      arith,
+      (let it : let n = c.in-Put.coded.size in
+          (3 ≤ n) × (c.loop-at.at + n ≤ length c.args.sheet.now) = let T = ((let it : let l = c.loop-at in
+          let o = c.within-room.result in
+          Written c.args.version c.args.sheet.now l.at l.hand l.position (take (length l.out - o) (drop o l.out))
+          c.put_entry-entered.new.out c.in-Put.coded c.in-Put.fields = rw c.in-Put.is at c.put_entry-entered.ensures in it)).told in
+          let w = found_size _ c.args.sheet.now c.loop-at.at c.loop-at-test.true _ _ _ T in
+          (w.0, w.1) in it),
+      c.well_formed,
+    )
 
 pub loop-at-preserved : goal.loop-at-preserved
 loop-at-preserved c =
@@ -166,10 +174,13 @@ slice_bounds-put_entry-end c =
 
 pub loop-at-smaller : goal.loop-at-smaller
 loop-at-smaller c =
-    omega (arith, (let it : let n = c.in-Put.coded.size in
-    (3 ≤ n) × (c.loop-at.at + n ≤ length c.args.sheet.now) = let T = ((let it : let l = c.loop-at in
-    let o = c.within-room.result in
-    Written c.args.version c.args.sheet.now l.at l.hand l.position (take (length l.out - o) (drop o l.out))
-    c.put_entry-entered.new.out c.in-Put.coded c.in-Put.fields = rw c.in-Put.is at c.put_entry-entered.ensures in it)).told in
-    let w = found_size _ c.args.sheet.now c.loop-at.at c.loop-at-test.true _ _ _ T in
-    (w.0, w.1) in it))
+    omega (
+      arith,
+      (let it : let n = c.in-Put.coded.size in
+          (3 ≤ n) × (c.loop-at.at + n ≤ length c.args.sheet.now) = let T = ((let it : let l = c.loop-at in
+          let o = c.within-room.result in
+          Written c.args.version c.args.sheet.now l.at l.hand l.position (take (length l.out - o) (drop o l.out))
+          c.put_entry-entered.new.out c.in-Put.coded c.in-Put.fields = rw c.in-Put.is at c.put_entry-entered.ensures in it)).told in
+          let w = found_size _ c.args.sheet.now c.loop-at.at c.loop-at-test.true _ _ _ T in
+          (w.0, w.1) in it),
+    )

@@ -24,7 +24,7 @@ returns-in-Flawed c =
 
 pub returns-in-Whole : goal.returns-in-Whole
 returns-in-Whole c =
-        let F = rw c.in-Whole.is at c.read_front-front.ensures in
+    let F = rw c.in-Whole.is at c.read_front-front.ensures in
     pass_v7 _ _ _ _ _ _ _ _ _ _ _ c.version_of-version.ensures F
     c.put_header-head.ensures c.put_records.ensures
 

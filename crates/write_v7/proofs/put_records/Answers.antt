@@ -32,7 +32,7 @@ put_next-turned-requires c =
 
 pub returns-in_default : goal.returns-in_default
 returns-in_default c =
-        let W = c.within-room.ensures in
+    let W = c.within-room.ensures in
     let T = rw c.in_default.is at c.put_next-turned.ensures in
     rw c.refused.ensures
     (rest_refused v7 _ _ _ _ (rejoined _ c.put_next-turned.new.out _ W.0
@@ -40,16 +40,20 @@ returns-in_default c =
 
 pub more-total-requires : goal.more-total-requires
 more-total-requires c =
-    omega (arith, c.loop-at.invariant.stands.few, ((let it : let a =
-    c.args in let l =
-    c.loop-at in
-    let from = c.within-room.result in
-    Turns a.version a.sheet.now l.at l.hand (take (length l.out - from) (drop from l.out))
-    c.put_next-turned.new.out c.in-Put.size c.in-Put.bytes c.in-Put.bad c.in-Put.next = rw c.in-Put.is at c.put_next-turned.ensures in it)).puts.most)
+    omega (
+      arith,
+      c.loop-at.invariant.stands.few,
+      ((let it : let a =
+          c.args in let l =
+          c.loop-at in
+          let from = c.within-room.result in
+          Turns a.version a.sheet.now l.at l.hand (take (length l.out - from) (drop from l.out))
+          c.put_next-turned.new.out c.in-Put.size c.in-Put.bytes c.in-Put.bad c.in-Put.next = rw c.in-Put.is at c.put_next-turned.ensures in it)).puts.most,
+    )
 
 pub first_at-fault-requires : goal.first_at-fault-requires
 first_at-fault-requires c =
-        omega (
+    omega (
       arith,
       c.loop-at.invariant.stands.few_records,
       c.loop-at.invariant.stands.inside,
@@ -58,36 +62,43 @@ first_at-fault-requires c =
 
 pub overflow_add-number : goal.overflow_add-number
 overflow_add-number c =
-            omega (arith, c.loop-at.invariant.stands.few_records, c.loop-at-test.true, c.well_formed)
+    omega (arith, c.loop-at.invariant.stands.few_records, c.loop-at-test.true, c.well_formed)
 
 pub overflow_add-at : goal.overflow_add-at
 overflow_add-at c =
-            omega (arith, (let it : (3 ≤ c.in-Put.size) ×
-    (c.loop-at.at + c.in-Put.size ≤ length
-    c.args.sheet.now) =     let T = (let it : let a =
-    c.args in let l =
-    c.loop-at in
-    let from = c.within-room.result in
-    Turns a.version a.sheet.now l.at l.hand (take (length l.out - from) (drop from l.out))
-    c.put_next-turned.new.out c.in-Put.size c.in-Put.bytes c.in-Put.bad c.in-Put.next = rw c.in-Put.is at c.put_next-turned.ensures in it) in
-    found_size _ c.args.sheet.now c.loop-at.at
-    c.loop-at-test.true _ _ _ T.told in it), c.well_formed)
+    omega (
+      arith,
+      (let it : (3 ≤ c.in-Put.size) ×
+          (c.loop-at.at + c.in-Put.size ≤ length
+          c.args.sheet.now) = let T = (let it : let a =
+          c.args in let l =
+          c.loop-at in
+          let from = c.within-room.result in
+          Turns a.version a.sheet.now l.at l.hand (take (length l.out - from) (drop from l.out))
+          c.put_next-turned.new.out c.in-Put.size c.in-Put.bytes c.in-Put.bad c.in-Put.next = rw c.in-Put.is at c.put_next-turned.ensures in it) in
+          found_size _ c.args.sheet.now c.loop-at.at
+          c.loop-at-test.true _ _ _ T.told in it),
+      c.well_formed,
+    )
 
 pub loop-at-smaller : goal.loop-at-smaller
-loop-at-smaller c = omega (arith, (let it : (3 ≤ c.in-Put.size) ×
-    (c.loop-at.at + c.in-Put.size ≤ length
-    c.args.sheet.now) =     let T = (let it : let a =
-    c.args in let l =
-    c.loop-at in
-    let from = c.within-room.result in
-    Turns a.version a.sheet.now l.at l.hand (take (length l.out - from) (drop from l.out))
-    c.put_next-turned.new.out c.in-Put.size c.in-Put.bytes c.in-Put.bad c.in-Put.next = rw c.in-Put.is at c.put_next-turned.ensures in it) in
-    found_size _ c.args.sheet.now c.loop-at.at
-    c.loop-at-test.true _ _ _ T.told in it))
+loop-at-smaller c = omega (
+  arith,
+  (let it : (3 ≤ c.in-Put.size) ×
+      (c.loop-at.at + c.in-Put.size ≤ length
+      c.args.sheet.now) = let T = (let it : let a =
+      c.args in let l =
+      c.loop-at in
+      let from = c.within-room.result in
+      Turns a.version a.sheet.now l.at l.hand (take (length l.out - from) (drop from l.out))
+      c.put_next-turned.new.out c.in-Put.size c.in-Put.bytes c.in-Put.bad c.in-Put.next = rw c.in-Put.is at c.put_next-turned.ensures in it) in
+      found_size _ c.args.sheet.now c.loop-at.at
+      c.loop-at-test.true _ _ _ T.told in it),
+)
 
 pub loop-at-preserved : goal.loop-at-preserved
 loop-at-preserved c =
-        let W = c.within-room.ensures in
+    let W = c.within-room.ensures in
     rw (c.first_at-fault.ensures, c.more-total.ensures)
     (going_more _ _ _ _ _ _ _ _ _ _ _ _ c.loop-at.invariant c.loop-at-test.true _ _ _ _ _ _ W.0 W.1
     ((let it : let a =
