@@ -10,14 +10,14 @@ returns-then-bytes-room c =
 
 pub overflow_mul-at : goal.overflow_mul-at
 overflow_mul-at c =
-    simp (part_to_end, length-drop) (omega (arith, c.before.before.before.before.before.before.before.before.before.before.before.before.before))
+    simp (part_to_end, length-drop) (omega arith)
 
 pub returns : goal.returns
 returns c =
     let r = 64 - c.args.held in
     let g = take (length c.args.bytes.now - r) (drop r c.args.bytes.now) in
     taken_done _ _ _ c.args.block.now _ c.args.bytes.now _ g _ _ c.args.held c.requires.0 c.requires.1
-    (omega (arith, c.before.before.before.before.before.before.before.before.before.before.before.before.before.before.before.before.before))
+    (omega arith)
     (rest_front c.args.bytes.now r) c.fill-2.ensures
     c.compress-one.ensures (part_to_end c.args.bytes.now r)
     c.absorb-next.ensures (part_to_end g (length g / 64 * 64)) c.fill-3.ensures
