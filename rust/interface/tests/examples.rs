@@ -125,7 +125,7 @@ fn proved(name: &str) -> Option<PathBuf> {
     let program = root().join("target/bin").join(name);
     let there = program.exists() || env::var_os("CI").is_some();
     if !there {
-        println!("there is no {}: `rt check {name}` builds it", program.display());
+        println!("there is no {}: `tools/programs {name}` builds it", program.display());
     }
     there.then_some(program)
 }
