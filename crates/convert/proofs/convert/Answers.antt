@@ -18,10 +18,16 @@ slice_bounds-write-end-in-Done c =
     let k = c.read-a.auto.sheet in
     sym (length-take-le _ _ (omega arith))
 
-pub returns-in-Refused : goal.returns-in-Refused
-returns-in-Refused c =
+-- clause by clause, so that a refusal that is not the reader's is refused at the answer
+pub returns-in-Refused-clause-answer : goal.returns-in-Refused-clause-answer
+returns-in-Refused-clause-answer c =
     let e = rw c.in-Refused.is at c.read-a.ensures.answer in
-    let r = convert_refused c.args.file.now c.args.sheet.now _ _ (sym e) c.args.out.now in record { answer = sym r.0; sheet = c.read-a.ensures.sheet; file = sym r.1 }
+    sym (convert_refused c.args.file.now c.args.sheet.now _ _ (sym e) c.args.out.now).0
+
+pub returns-in-Refused-clause-file : goal.returns-in-Refused-clause-file
+returns-in-Refused-clause-file c =
+    let e = rw c.in-Refused.is at c.read-a.ensures.answer in
+    sym (convert_refused c.args.file.now c.args.sheet.now _ _ (sym e) c.args.out.now).1
 
 pub returns-in-Done : goal.returns-in-Done
 returns-in-Done c =
