@@ -5,7 +5,8 @@ in snake case, types in camel case.
 usage: python3 tools/respell.py [--dry]     at the top of the repository
 
 A name that a library of the toolchain has too keeps its spelling. In comments and in pages only names in backticks are turned.
-It prints each file in which two names would fall together, and then writes nothing.
+It prints each file in which two names fall together: the definitions that have the name of the function or of the proof folder
+that they speak of are meant to; another clash is to be mended by hand.
 """
 import glob
 import re

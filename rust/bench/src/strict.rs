@@ -97,7 +97,7 @@ fn digits(number: usize) -> [u8; 4] {
 }
 
 /// A v8 file of names that all have the same hash under a seed, as the definition
-/// `hashOf` of the index has it: two words, the second of which undoes the first.
+/// `hash_of` of the index has it: two words, the second of which undoes the first.
 fn flood(seed: u64, count: u32) -> Vec<u8> {
     let factor = (2_654_435_761 + seed / (1 << 33) * 2) % (1 << 32);
     let mix = |h: u32, w: u32| {
