@@ -1,8 +1,10 @@
 -- Outcomes in the numbers of the interface for C. Assumes nothing.
+use Rattle.std.specs.Prelude.{Result}
 use Rattle.format.specs.Refusals.{Outcome, accepted, refused}
 use Rattle.format.specs.Answers.{answer_of, OpenOutcome, begun, unopened}
 use Rattle.format.specs.Stepping.{StepOutcome, wrote, nothing, ends, refuses}
-use Rattle.format.specs.declared.Answer.{Answer}
+use Rattle.format.specs.declared.Done.{Done}
+use Rattle.format.specs.declared.Refusal.{Refusal}
 use Rattle.abi.specs.declared.AnswerNumbers.{AnswerNumbers}
 use Rattle.abi.specs.declared.OpenNumbers.{OpenNumbers}
 use Rattle.abi.specs.declared.StepNumbers.{StepNumbers}
@@ -12,7 +14,7 @@ abbrev pub outcome_numbers : Outcome → AnswerNumbers
 outcome_numbers (accepted bytes records version) = record { number = 0; bytes = bytes; records = records; version = version }
 outcome_numbers (refused number place) = record { number = number; bytes = place; records = 0; version = 0 }
 
-abbrev pub answer_numbers : Answer → AnswerNumbers
+abbrev pub answer_numbers : Result Done Refusal → AnswerNumbers
 answer_numbers a = outcome_numbers (answer_of a)
 
 -- number 0 is success, with the version and the first item's place; any other is the refusal's number, with its place

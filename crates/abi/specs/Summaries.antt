@@ -1,6 +1,6 @@
 -- The summary of a sheet's entrances, in the numbers of the interface for C. Assumes nothing.
+use Rattle.std.specs.Prelude.{Some, None}
 use Rattle.format.specs.Summary.{SummaryOutcome, takes, untaken, EntrancesOutcome, holds, unheld}
-use Rattle.format.specs.declared.NextEntrance.TheVariants.{At, Nowhere}
 use Rattle.abi.specs.declared.SummaryNumbers.{SummaryNumbers}
 use Rattle.abi.specs.declared.EntranceNumbers.{EntranceNumbers}
 
@@ -11,6 +11,6 @@ summary_numbers (untaken number place) = record { number = number; place = place
 
 -- the same with the count, and found 1 with the next entrance's record, or 0 where there is none
 abbrev pub entrance_numbers : EntrancesOutcome → EntranceNumbers
-entrance_numbers (holds count (At record')) = record { number = 0; place = 0; count = count; found = 1; next = record' }
-entrance_numbers (holds count Nowhere) = record { number = 0; place = 0; count = count; found = 0; next = 0 }
+entrance_numbers (holds count (Some record')) = record { number = 0; place = 0; count = count; found = 1; next = record' }
+entrance_numbers (holds count None) = record { number = 0; place = 0; count = count; found = 0; next = 0 }
 entrance_numbers (unheld number place) = record { number = number; place = place; count = 0; found = 0; next = 0 }

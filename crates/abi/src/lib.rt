@@ -1,4 +1,5 @@
 // Answers as numbers, for C and Rust.
+// Kinds and refusals are numbers here, since C reads them.
 #![tactic(auto)]
 
 ghost use Rattle.std.specs.Prelude.{◌≡◌};
@@ -9,7 +10,7 @@ ghost use Rattle.abi.specs.Compares.{compared_of};
 ghost use Rattle.abi.specs.Views.{view_numbers};
 ghost use Rattle.abi.specs.Summaries.{summary_numbers, entrance_numbers};
 
-use format::{Answer, Entrances, Handed, Later, NextEntrance, Opened, Stepped, Summed, Viewed};
+use format::{Done, Entrances, Handed, Incomparable, Later, Opened, Refusal, Stepped};
 
 // An answer. Number 0 is success, with bytes, records and version; any other is the
 // refusal's number, with its place in `bytes`.
@@ -22,30 +23,19 @@ pub struct AnswerNumbers {
     pub version: u64,
 }
 
-// A byte as a number of the interface.
-pub fn long(x: u8) -> u64
-    ensures { result ≡ x }
+pub fn tell(answer: Result<Done, Refusal>) -> AnswerNumbers
+    ensures { result ≡ answer_numbers answer }
 {
-    x as u64
-}
-
-pub fn tell(a: Answer) -> AnswerNumbers
-    ensures { result ≡ answer_numbers a }
-{
-    match a {
-        Answer::Done {
-            bytes,
-            records,
-            version,
-        } => AnswerNumbers {
+    match answer {
+        Ok(done) => AnswerNumbers {
             number: 0,
-            bytes,
-            records,
-            version: long(version),
+            bytes: done.bytes,
+            records: done.records,
+            version: u64::from(done.version),
         },
-        Answer::Refused { number, place } => AnswerNumbers {
-            number: long(number),
-            bytes: place,
+        Err(refusal) => AnswerNumbers {
+            number: u64::from(refusal.number),
+            bytes: refusal.place,
             records: 0,
             version: 0,
         },
@@ -62,18 +52,18 @@ pub struct OpenNumbers {
     pub version: u64,
 }
 
-pub fn tell_open(o: Opened) -> OpenNumbers
-    ensures { result ≡ open_numbers (opened_of o) }
+pub fn tell_open(answer: Result<Opened, Refusal>) -> OpenNumbers
+    ensures { result ≡ open_numbers (opened_of answer) }
 {
-    match o {
-        Opened::At { version, place } => OpenNumbers {
+    match answer {
+        Ok(opened) => OpenNumbers {
             number: 0,
-            place,
-            version: long(version),
+            place: opened.place,
+            version: u64::from(opened.version),
         },
-        Opened::Refused { number, place } => OpenNumbers {
-            number: long(number),
-            place,
+        Err(refusal) => OpenNumbers {
+            number: u64::from(refusal.number),
+            place: refusal.place,
             version: 0,
         },
     }
@@ -102,23 +92,23 @@ fn plain(what: u64) -> StepNumbers
     }
 }
 
-pub fn tell_step(s: Stepped) -> StepNumbers
-    ensures { result ≡ step_numbers (stepped_of s) }
+pub fn tell_step(answer: Result<Stepped, Refusal>) -> StepNumbers
+    ensures { result ≡ step_numbers (stepped_of answer) }
 {
-    match s {
-        Stepped::Record { bytes, kept } => StepNumbers {
+    match answer {
+        Ok(Stepped::Record { bytes, kept }) => StepNumbers {
             what: 1,
             bytes,
             kept,
             number: 0,
         },
-        Stepped::Nothing => plain(2),
-        Stepped::End => plain(3),
-        Stepped::Refused { number, place: at } => StepNumbers {
+        Ok(Stepped::Nothing) => plain(2),
+        Ok(Stepped::End) => plain(3),
+        Err(stop) => StepNumbers {
             what: 4,
-            bytes: at,
+            bytes: stop.place,
             kept: 0,
-            number: long(number),
+            number: u64::from(stop.number),
         },
     }
 }
@@ -150,27 +140,27 @@ fn judged(which: u64, line: Handed) -> Compared
 }
 
 // A comparison that names the file that is refused.
-fn refused(file: u64, number: u8, place: usize) -> Compared
-    ensures { result ≡ record { which = 3; file = file; number = number; place = place; length = 0 } }
+fn refused(file: u64, refusal: Refusal) -> Compared
+    ensures { result ≡ record { which = 3; file = file; number = refusal.number; place = refusal.place; length = 0 } }
 {
     Compared {
         which: 3,
         file,
-        number: long(number),
-        place,
+        number: u64::from(refusal.number),
+        place: refusal.place,
         length: 0,
     }
 }
 
-pub fn tell_later(l: Later, line: Handed) -> Compared
-    ensures { result ≡ compared_of (later_of l) line }
+pub fn tell_later(answer: Result<Later, Incomparable>, line: Handed) -> Compared
+    ensures { result ≡ compared_of (later_of answer) line }
 {
-    match l {
-        Later::First => judged(1, line),
-        Later::Second => judged(2, line),
-        Later::Same => judged(0, line),
-        Later::FirstRefused { number, place } => refused(1, number, place),
-        Later::SecondRefused { number, place } => refused(2, number, place),
+    match answer {
+        Ok(Later::First) => judged(1, line),
+        Ok(Later::Second) => judged(2, line),
+        Ok(Later::Same) => judged(0, line),
+        Err(Incomparable::First { refusal }) => refused(1, refusal),
+        Err(Incomparable::Second { refusal }) => refused(2, refusal),
     }
 }
 
@@ -184,18 +174,18 @@ pub struct ViewNumbers {
     pub legs: usize,
 }
 
-pub fn tell_viewed(r: Viewed) -> ViewNumbers
-    ensures { result ≡ view_numbers (viewed_of r) }
+pub fn tell_viewed(answer: Result<usize, Refusal>) -> ViewNumbers
+    ensures { result ≡ view_numbers (viewed_of answer) }
 {
-    match r {
-        Viewed::Legs { legs } => ViewNumbers {
+    match answer {
+        Ok(legs) => ViewNumbers {
             number: 0,
             place: 0,
             legs,
         },
-        Viewed::Refused { number, place } => ViewNumbers {
-            number: long(number),
-            place,
+        Err(refusal) => ViewNumbers {
+            number: u64::from(refusal.number),
+            place: refusal.place,
             legs: 0,
         },
     }
@@ -211,18 +201,18 @@ pub struct SummaryNumbers {
     pub words: usize,
 }
 
-pub fn tell_summed(s: Summed) -> SummaryNumbers
-    ensures { result ≡ summary_numbers (summed_of s) }
+pub fn tell_summed(answer: Result<usize, Refusal>) -> SummaryNumbers
+    ensures { result ≡ summary_numbers (summed_of answer) }
 {
-    match s {
-        Summed::Takes { words } => SummaryNumbers {
+    match answer {
+        Ok(words) => SummaryNumbers {
             number: 0,
             place: 0,
             words,
         },
-        Summed::Refused { number, place } => SummaryNumbers {
-            number: long(number),
-            place,
+        Err(refusal) => SummaryNumbers {
+            number: u64::from(refusal.number),
+            place: refusal.place,
             words: 0,
         },
     }
@@ -241,18 +231,18 @@ pub struct EntranceNumbers {
     pub next: usize,
 }
 
-fn tell_next(count: u64, next: NextEntrance) -> EntranceNumbers
+fn tell_next(count: u64, next: Option<usize>) -> EntranceNumbers
     ensures { result ≡ entrance_numbers (holds count next) }
 {
     match next {
-        NextEntrance::At { record } => EntranceNumbers {
+        Some(record) => EntranceNumbers {
             number: 0,
             place: 0,
             count,
             found: 1,
             next: record,
         },
-        NextEntrance::Nowhere => EntranceNumbers {
+        None => EntranceNumbers {
             number: 0,
             place: 0,
             count,
@@ -262,14 +252,14 @@ fn tell_next(count: u64, next: NextEntrance) -> EntranceNumbers
     }
 }
 
-pub fn tell_entrances(e: Entrances) -> EntranceNumbers
-    ensures { result ≡ entrance_numbers (entrances_of e) }
+pub fn tell_entrances(answer: Result<Entrances, Refusal>) -> EntranceNumbers
+    ensures { result ≡ entrance_numbers (entrances_of answer) }
 {
-    match e {
-        Entrances::Hold { count, next } => tell_next(count, next),
-        Entrances::Refused { number, place } => EntranceNumbers {
-            number: long(number),
-            place,
+    match answer {
+        Ok(entrances) => tell_next(entrances.count, entrances.next),
+        Err(refusal) => EntranceNumbers {
+            number: u64::from(refusal.number),
+            place: refusal.place,
             count: 0,
             found: 0,
             next: 0,

@@ -1,4 +1,5 @@
 -- Going on to the next record by steps that are told in numbers. Assumes nothing.
+use Rattle.std.specs.Prelude.{Ok}
 use Prim.Native.Nat.{ℕ, ◌-◌}
 use native.Mathlib.Omega.{arith}
 use mathlib.Core.Path.{◌≡◌, refl, sym, ap, ◌∙◌}
@@ -54,5 +55,5 @@ module _ {s label file old : List ℕ} {n : ℕ} {s' label' now : List ℕ} (G :
       → (n ≡ 0 → ⊥) → r.what ≡ 2 → GoesOn s label file old (n - 1) s'' label'' new
   goes_again {s''} {label''} B i e =
       let a : nothing ≡ (step_of (state_stand s' label') file (length now)).answer = no_record _ (sym (ap (λ (y : StepNumbers). y.what) A) ∙ e) in
-      let S : Steps (held_of s') label' file now (record { answer = Nothing; stand = held_of s'' }) label'' new = record { answer = a; stand = B; buffer = C } in
+      let S : Steps (held_of s') label' file now (record { answer = Ok Nothing; stand = held_of s'' }) label'' new = record { answer = a; stand = B; buffer = C } in
       record { left = left_again G.left S i refl }

@@ -1,4 +1,5 @@
 // The library for C and Rust: each answer as numbers.
+// Kinds and refusals are numbers here, since C reads them.
 #![tactic(auto)]
 
 ghost use Rattle.std.specs.Prelude.{◌≡◌, length, replicate};
@@ -30,9 +31,9 @@ ghost use Rattle.abi.specs.Summaries.{summary_numbers, entrance_numbers};
 use abi::{
     AnswerNumbers, Compared, EntranceNumbers, OpenNumbers, StepNumbers, SummaryNumbers, ViewNumbers,
 };
-use format::{LABEL_LIMIT, Origin, Reached};
+use format::{LABEL_LIMIT, Origin, Reached, Refusal};
 use held::STAND_NUMBERS;
-use read::Salvaged;
+use read::Saved;
 use sha256::{BLOCK, DIGEST, RUNNING_NUMBERS};
 
 // How far a survey reaches. Number 0 is success, with how many legs took part and the
@@ -77,33 +78,26 @@ pub struct SalvageNumbers {
     pub left: usize,
 }
 
-fn tell_saved(s: Salvaged) -> SalvageNumbers
-    ensures { result ≡ salvage_numbers (salvaged_of s) }
+fn tell_saved(answer: Result<Saved, Refusal>) -> SalvageNumbers
+    ensures { result ≡ salvage_numbers (salvaged_of answer) }
 {
-    match s {
-        Salvaged::Saved {
-            bytes,
-            records,
-            version,
-            number,
-            place,
-            left,
-        } => SalvageNumbers {
+    match answer {
+        Ok(saved) => SalvageNumbers {
             refused: 0,
-            bytes,
-            records,
-            version: abi::long(version),
-            number: abi::long(number),
-            place,
-            left,
+            bytes: saved.bytes,
+            records: saved.records,
+            version: u64::from(saved.version),
+            number: u64::from(saved.number),
+            place: saved.place,
+            left: saved.left,
         },
-        Salvaged::Refused { number, place } => SalvageNumbers {
-            refused: abi::long(number),
+        Err(refusal) => SalvageNumbers {
+            refused: u64::from(refusal.number),
             bytes: 0,
             records: 0,
             version: 0,
             number: 0,
-            place,
+            place: refusal.place,
             left: 0,
         },
     }
@@ -246,6 +240,7 @@ pub extern "C" fn cockledrift_next(
     ensures record { out.new ≡ next_buffer (state_stand state.old label.old) file.now out.old }
 {
     let mut left = file.len();
+    // A for would want an answer behind it, for turns that never come.
     loop {
         let answer = cockledrift_step(file, state, label, out);
         if answer.what != 2 {
@@ -304,28 +299,24 @@ pub extern "C" fn cockledrift_sha256_finish(
     sha256::finish(run, block, out);
 }
 
-fn tell_reach(r: Reached) -> ReachNumbers
-    ensures { result ≡ reach_numbers (reached_of r) }
+fn tell_reach(answer: Result<Reached, Refusal>) -> ReachNumbers
+    ensures { result ≡ reach_numbers (reached_of answer) }
 {
-    match r {
-        Reached::Box {
-            legs,
-            least,
-            greatest,
-        } => ReachNumbers {
+    match answer {
+        Ok(reached) => ReachNumbers {
             number: 0,
             place: 0,
-            legs,
-            least_x: least.x,
-            least_y: least.y,
-            least_z: least.z,
-            greatest_x: greatest.x,
-            greatest_y: greatest.y,
-            greatest_z: greatest.z,
+            legs: reached.legs,
+            least_x: reached.least.x,
+            least_y: reached.least.y,
+            least_z: reached.least.z,
+            greatest_x: reached.greatest.x,
+            greatest_y: reached.greatest.y,
+            greatest_z: reached.greatest.z,
         },
-        Reached::Refused { number, place } => ReachNumbers {
-            number: abi::long(number),
-            place,
+        Err(refusal) => ReachNumbers {
+            number: u64::from(refusal.number),
+            place: refusal.place,
             legs: 0,
             least_x: 0,
             least_y: 0,

@@ -2,7 +2,7 @@
 // cross-sections (#106), run through the proved functions.
 #![tactic(auto)]
 
-use format::{Answer, Later};
+use format::{Incomparable, Later, Refusal};
 use listing::Printed;
 
 // Prints the first n bytes of a line.
@@ -12,9 +12,9 @@ fn print_line(line: &[u8], n: usize) {
     }
 }
 
-fn print_refusal(number: u8, place: usize) {
+fn print_refusal(refusal: Refusal) {
     let mut line = [0u8; 64];
-    let n = listing::list(Printed::Refused { number, place }, b"", &mut line);
+    let n = listing::list(Printed::Refused { refusal }, b"", &mut line);
     print_line(&line, n);
 }
 
@@ -22,41 +22,36 @@ fn print_refusal(number: u8, place: usize) {
 fn run_read(file: &[u8]) {
     let mut sheet = [0u8; 4096];
     let mut text = [0u8; 4096];
-    let a = read::read(file, &mut sheet);
-    match a {
-        Answer::Refused { number, place } => print_refusal(number, place),
-        Answer::Done {
-            bytes,
-            records: _,
-            version,
-        } => {
-            let n = listing::list(Printed::Sheet { version }, &sheet[..bytes], &mut text);
+    match read::read(file, &mut sheet) {
+        Ok(done) => {
+            let version = done.version;
+            let n = listing::list(Printed::Sheet { version }, &sheet[..done.bytes], &mut text);
             print_line(&text, n);
         }
+        Err(refusal) => print_refusal(refusal),
     }
 }
 
 // Compares two files and prints which is later, with its time line, or which is refused.
 fn run_compare<'a>(first: &'a [u8], second: &'a [u8]) {
-    let which = timeline::compare(first, second);
-    match which {
-        Later::First => {
+    match timeline::compare(first, second) {
+        Ok(Later::First) => {
             io::write_all(1, b"first ");
         }
-        Later::Second => {
+        Ok(Later::Second) => {
             io::write_all(1, b"second ");
         }
-        Later::Same => {
+        Ok(Later::Same) => {
             io::write_all(1, b"same");
         }
-        Later::FirstRefused { number, place } => {
+        Err(Incomparable::First { refusal }) => {
             io::write_all(1, b"first ");
-            print_refusal(number, place);
+            print_refusal(refusal);
             return;
         }
-        Later::SecondRefused { number, place } => {
+        Err(Incomparable::Second { refusal }) => {
             io::write_all(1, b"second ");
-            print_refusal(number, place);
+            print_refusal(refusal);
             return;
         }
     }

@@ -1,6 +1,6 @@
 // The v8 codes of one record. Each piece is written where it fits, so the same code
 // measures when it is lent no bytes.
-#![tactic(auto)]
+#![tactic(auto, unfolding(format::specs::Bytes::to_le16, format::specs::Bytes::to_le32))]
 
 ghost use Rattle.std.specs.Prelude.{◌≡◌, ◌++◌, ℕ, ◌+◌, ◌-◌, ◌≤◌, length, drop};
 ghost use Rattle.format.specs.Bytes.{to_le16, to_le32, same};
@@ -8,16 +8,19 @@ ghost use Rattle.format.specs.Fields.{record_of, state_of};
 ghost use Rattle.format.specs.Sheet.{point_bytes, dimension_bytes, traverse_bytes};
 ghost use Rattle.format.specs.WellFormed.{WellFormed, GoodDated, GoodLeg, GoodStation, GoodSection};
 ghost use Rattle.format.specs.State.{leg as legRecord, section as sectionRecord};
-ghost use Rattle.format.specs.Codes.{same_date, dated_codes, v8_dates, same_point, stands_at, style_if, date_if, move_if, line_codes, station_codes, fits_short, all_short, section_codes, error_codes, codes_limit, codes};
+ghost use Rattle.format.specs.Codes.{same_date, dated_codes, v8_dates, stands_at, style_if, date_if, move_if, line_codes, station_codes, fits_short, all_short, section_codes, error_codes, codes_limit, codes};
 ghost use Rattle.format.specs.declared.Dated.TheVariants.{Range};
 ghost use Rattle.part.specs.Lays.{Lays, Puts};
 ghost use Rattle.format.specs.Label.{label_limit};
 
+use format::{
+    DateCodes, Dated, Dimensions, Fields, Leg, Point, Section, Setting, Station, Traverse,
+};
 use part::{kept_bytes, put, put_label, shared};
 
 // ---- pieces
 
-pub fn point_bytes(p: format::Point) -> [u8; 12]
+pub fn point_bytes(p: Point) -> [u8; 12]
     ensures { result ≡ point_bytes to_le32 p }
 {
     let x = number::le32_bytes(p.x);
@@ -29,7 +32,7 @@ pub fn point_bytes(p: format::Point) -> [u8; 12]
 }
 
 // Dimensions as i16.
-pub fn short_bytes(d: format::Dimensions) -> [u8; 8]
+pub fn short_bytes(d: Dimensions) -> [u8; 8]
     ensures { result ≡ dimension_bytes to_le16 d }
 {
     let l = number::le16_bytes(d.left);
@@ -40,7 +43,7 @@ pub fn short_bytes(d: format::Dimensions) -> [u8; 8]
 }
 
 // Dimensions as i32.
-pub fn long_bytes(d: format::Dimensions) -> [u8; 16]
+pub fn long_bytes(d: Dimensions) -> [u8; 16]
     ensures { result ≡ dimension_bytes to_le32 d }
 {
     let l = number::le32_bytes(d.left);
@@ -53,7 +56,7 @@ pub fn long_bytes(d: format::Dimensions) -> [u8; 16]
     ]
 }
 
-pub fn traverse_bytes(t: format::Traverse) -> [u8; 20]
+pub fn traverse_bytes(t: Traverse) -> [u8; 20]
     ensures { result ≡ traverse_bytes to_le32 t }
 {
     let l = number::le32_bytes(t.legs);
@@ -69,48 +72,17 @@ pub fn traverse_bytes(t: format::Traverse) -> [u8; 20]
 
 // ---- dates and places
 
-pub fn same_date(a: format::Dated, b: format::Dated) -> bool
+pub fn same_date(a: Dated, b: Dated) -> bool
     ensures { result ≡ same_date a b }
 {
-    match a {
-        format::Dated::Undated => match b {
-            format::Dated::Undated => true,
-            format::Dated::Day { day: _ } => false,
-            format::Dated::Range { first: _, last: _ } => false,
-        },
-        format::Dated::Day { day } => match b {
-            format::Dated::Undated => false,
-            format::Dated::Day { day: other } => day == other,
-            format::Dated::Range { first: _, last: _ } => false,
-        },
-        format::Dated::Range { first, last } => match b {
-            format::Dated::Undated => false,
-            format::Dated::Day { day: _ } => false,
-            format::Dated::Range { first: f, last: l } => first == f && last == l,
-        },
-    }
-}
-
-fn same_point(p: format::Point, q: format::Point) -> bool
-    ensures { result ≡ same_point p q }
-{
-    if p.x != q.x {
-        return false;
-    }
-    if p.y != q.y {
-        return false;
-    }
-    p.z == q.z
+    a == b
 }
 
 // Whether the position is set and is this place.
-pub fn stands_at(position: format::Position, p: format::Point) -> bool
+pub fn stands_at(position: Option<Point>, p: Point) -> bool
     ensures { result ≡ stands_at position p }
 {
-    match position {
-        format::Position::Unset => false,
-        format::Position::Stands { point } => same_point(point, p),
-    }
+    position == Some(p)
 }
 
 // ---- a leg's codes
@@ -122,71 +94,47 @@ fn put_style(out: &mut [u8], at: usize, old: u8, style: u8) -> usize
     if old == style {
         return at;
     }
-    let code = [style];
-    put(out, at, &code)
-}
-
-// A day as a number to compute with.
-fn wide_day(n: u16) -> u32
-    ensures { result ≡ n }
-{
-    n as u32
+    put(out, at, &[style])
 }
 
 // v8's codes of dates.
-fn v8_dates() -> format::DateCodes
-    ensures { result ≡ v8_dates }
-{
-    format::DateCodes {
-        none: 0x10,
-        day: 0x11,
-        span: 0x12,
-        days: 0x13,
-    }
-}
+const DATES: DateCodes = DateCodes {
+    none: 0x10,
+    day: 0x11,
+    span: 0x12,
+    days: 0x13,
+};
 
 // A range in one byte for its span where that fits, else two days.
-fn put_range(out: &mut [u8], at: usize, codes: format::DateCodes, first: u16, last: u16) -> usize
+fn put_range(out: &mut [u8], at: usize, codes: DateCodes, first: u16, last: u16) -> usize
     requires { (at ≤ 32768) × (first ≤ last) }
     ensures { Lays out.old out.new at (dated_codes codes (Range first last)) 5 result }
 {
-    let d = number::le16_bytes(wide_day(first));
+    let d = number::le16_bytes(u32::from(first));
     let span = last - first;
     if span <= 255 {
-        let code = [codes.span, d[0], d[1], span as u8];
-        return put(out, at, &code);
+        return put(out, at, &[codes.span, d[0], d[1], span as u8]);
     }
-    let e = number::le16_bytes(wide_day(last));
-    let code = [codes.days, d[0], d[1], e[0], e[1]];
-    put(out, at, &code)
+    let e = number::le16_bytes(u32::from(last));
+    put(out, at, &[codes.days, d[0], d[1], e[0], e[1]])
 }
 
-fn put_date(out: &mut [u8], at: usize, codes: format::DateCodes, date: format::Dated) -> usize
+fn put_date(out: &mut [u8], at: usize, codes: DateCodes, date: Dated) -> usize
     requires { (at ≤ 32768) × GoodDated date }
     ensures { Lays out.old out.new at (dated_codes codes date) 5 result }
 {
     match date {
-        format::Dated::Undated => {
-            let code = [codes.none];
-            put(out, at, &code)
+        Dated::Undated => { put(out, at, &[codes.none]) }
+        Dated::Day { day } => {
+            let d = number::le16_bytes(u32::from(day));
+            put(out, at, &[codes.day, d[0], d[1]])
         }
-        format::Dated::Day { day } => {
-            let d = number::le16_bytes(wide_day(day));
-            let code = [codes.day, d[0], d[1]];
-            put(out, at, &code)
-        }
-        format::Dated::Range { first, last } => put_range(out, at, codes, first, last),
+        Dated::Range { first, last } => put_range(out, at, codes, first, last),
     }
 }
 
 // A date in a version's codes, where it differs from the one before.
-pub fn put_date_if(
-    out: &mut [u8],
-    at: usize,
-    codes: format::DateCodes,
-    old: format::Dated,
-    date: format::Dated,
-) -> usize
+pub fn put_date_if(out: &mut [u8], at: usize, codes: DateCodes, old: Dated, date: Dated) -> usize
     requires { (at ≤ 32768) × GoodDated date }
     ensures { Lays out.old out.new at (date_if codes old date) 5 result }
 {
@@ -197,53 +145,37 @@ pub fn put_date_if(
 }
 
 // The same in v8's codes.
-fn put_new_date_if(out: &mut [u8], at: usize, old: format::Dated, date: format::Dated) -> usize
+fn put_new_date_if(out: &mut [u8], at: usize, old: Dated, date: Dated) -> usize
     requires { (at ≤ 32768) × GoodDated date }
     ensures { Lays out.old out.new at (date_if v8_dates old date) 5 result }
 {
-    let dates = v8_dates();
-    put_date_if(out, at, dates, old, date)
+    put_date_if(out, at, DATES, old, date)
 }
 
-pub fn put_move_if(
-    out: &mut [u8],
-    at: usize,
-    position: format::Position,
-    from: format::Point,
-) -> usize
+pub fn put_move_if(out: &mut [u8], at: usize, position: Option<Point>, from: Point) -> usize
     requires { at ≤ 32768 }
     ensures { Lays out.old out.new at (move_if position from) 13 result }
 {
     if stands_at(position, from) {
         return at;
     }
-    let code = [0x0f];
-    let next = put(out, at, &code);
+    let next = put(out, at, &[0x0f]);
     let place = point_bytes(from);
     put(out, next, &place)
 }
 
 // The LINE item itself: 0x20 for the same label.
-fn put_line(
-    out: &mut [u8],
-    at: usize,
-    last: &[u8],
-    name: &[u8],
-    flags: u8,
-    to: format::Point,
-) -> usize
+fn put_line(out: &mut [u8], at: usize, last: &[u8], name: &[u8], flags: u8, to: Point) -> usize
     requires { (at ≤ label_limit) × (length last.now ≤ label_limit) × (length name.now ≤ label_limit) × (flags ≤ 7) }
     ensures { Lays out.old out.new at (line_codes last.now flags to name.now) 4120 result }
 {
     let place = point_bytes(to);
     let s = shared(last, name);
     if s.same {
-        let code = [0x60 + flags];
-        let next = put(out, at, &code);
+        let next = put(out, at, &[0x60 + flags]);
         return put(out, next, &place);
     }
-    let code = [0x40 + flags];
-    let next = put(out, at, &code);
+    let next = put(out, at, &[0x40 + flags]);
     let kept = s.kept;
     let end = put_label(out, next, last.len(), name, kept);
     put(out, end, &place)
@@ -251,31 +183,7 @@ fn put_line(
 
 // ---- the codes of a record, from the front of out on
 
-fn leg_of(
-    flags: u8,
-    style: u8,
-    date: format::Dated,
-    from: format::Point,
-    to: format::Point,
-) -> format::Leg
-    ensures { result ≡ record { flags = flags; style = style; date = date; from = from; to = to } }
-{
-    format::Leg {
-        flags,
-        style,
-        date,
-        from,
-        to,
-    }
-}
-
-fn put_leg(
-    out: &mut [u8],
-    setting: format::Setting,
-    last: &[u8],
-    name: &[u8],
-    leg: format::Leg,
-) -> usize
+fn put_leg(out: &mut [u8], setting: Setting, last: &[u8], name: &[u8], leg: Leg) -> usize
     requires { (length last.now ≤ label_limit) × GoodLeg leg name.now }
     ensures { Lays out.old out.new 0 (codes (state_of setting last.now) (legRecord leg name.now)) codes_limit result }
 {
@@ -290,13 +198,12 @@ fn put_leg(
     put_line(out, c, last, name, leg.flags, to)
 }
 
-fn put_station(out: &mut [u8], last: &[u8], name: &[u8], station: format::Station) -> usize
+fn put_station(out: &mut [u8], last: &[u8], name: &[u8], station: Station) -> usize
     requires { (length last.now ≤ label_limit) × GoodStation station name.now }
     ensures { Lays out.old out.new 0 (station_codes last.now station name.now) 4120 result }
 {
     let place = station.place;
-    let code = [0x80 + station.flags];
-    let a = put(out, 0, &code);
+    let a = put(out, 0, &[0x80 + station.flags]);
     let kept = kept_bytes(last, name);
     let b = put_label(out, a, last.len(), name, kept);
     let bytes = point_bytes(place);
@@ -304,32 +211,22 @@ fn put_station(out: &mut [u8], last: &[u8], name: &[u8], station: format::Statio
 }
 
 // Whether an i32's bit pattern is that of an i16.
+#[tactic(auto, unfolding(format::specs::Codes::fits_short))]
 fn fits_short(n: u32) -> bool
     ensures { result ≡ fits_short n }
 {
-    if n <= 32767 {
-        return true;
-    }
-    4294934528 <= n
+    n <= 32767 || 4294934528 <= n
 }
 
-pub fn all_short(d: format::Dimensions) -> bool
+#[tactic(auto, unfolding(format::specs::Codes::all_short))]
+pub fn all_short(d: Dimensions) -> bool
     ensures { result ≡ all_short d }
 {
-    if !fits_short(d.left) {
-        return false;
-    }
-    if !fits_short(d.right) {
-        return false;
-    }
-    if !fits_short(d.up) {
-        return false;
-    }
-    fits_short(d.down)
+    fits_short(d.left) && fits_short(d.right) && fits_short(d.up) && fits_short(d.down)
 }
 
 // The XSECT item itself.
-fn put_xsect(out: &mut [u8], at: usize, last: &[u8], name: &[u8], section: format::Section) -> usize
+fn put_xsect(out: &mut [u8], at: usize, last: &[u8], name: &[u8], section: Section) -> usize
     requires { (at ≤ label_limit) × (length last.now ≤ label_limit) × GoodSection section name.now }
     ensures { Lays out.old out.new at (section_codes last.now section name.now) 4124 result }
 {
@@ -337,14 +234,12 @@ fn put_xsect(out: &mut [u8], at: usize, last: &[u8], name: &[u8], section: forma
     let end = section.last;
     let kept = kept_bytes(last, name);
     if all_short(size) {
-        let code = [0x30 + end];
-        let a = put(out, at, &code);
+        let a = put(out, at, &[0x30 + end]);
         let b = put_label(out, a, last.len(), name, kept);
         let bytes = short_bytes(size);
         return put(out, b, &bytes);
     }
-    let code = [0x32 + end];
-    let a = put(out, at, &code);
+    let a = put(out, at, &[0x32 + end]);
     let b = put_label(out, a, last.len(), name, kept);
     let bytes = long_bytes(size);
     put(out, b, &bytes)
@@ -352,10 +247,10 @@ fn put_xsect(out: &mut [u8], at: usize, last: &[u8], name: &[u8], section: forma
 
 fn put_section(
     out: &mut [u8],
-    setting: format::Setting,
+    setting: Setting,
     last: &[u8],
     name: &[u8],
-    section: format::Section,
+    section: Section,
 ) -> usize
     requires { (length last.now ≤ label_limit) × GoodSection section name.now }
     ensures { Lays out.old out.new 0 (codes (state_of setting last.now) (sectionRecord section name.now)) 4129 result }
@@ -366,11 +261,10 @@ fn put_section(
     put_xsect(out, at, last, name, section)
 }
 
-fn put_error(out: &mut [u8], traverse: format::Traverse) -> usize
+fn put_error(out: &mut [u8], traverse: Traverse) -> usize
     ensures { Lays out.old out.new 0 (error_codes traverse) 21 result }
 {
-    let code = [0x1f];
-    let a = put(out, 0, &code);
+    let a = put(out, 0, &[0x1f]);
     let bytes = traverse_bytes(traverse);
     put(out, a, &bytes)
 }
@@ -380,39 +274,45 @@ fn put_error(out: &mut [u8], traverse: format::Traverse) -> usize
 // Where they do not fit, only out's length is promised: callers measure, or have room.
 pub fn put_record(
     out: &mut [u8],
-    setting: format::Setting,
+    setting: Setting,
     last: &[u8],
     name: &[u8],
-    fields: format::Fields,
+    fields: Fields,
 ) -> usize
     requires { (length last.now ≤ label_limit) × WellFormed (record_of fields name.now) }
     ensures { Puts out.old out.new (codes (state_of setting last.now) (record_of fields name.now)) codes_limit result }
 {
     match fields {
-        format::Fields::Leg {
+        Fields::Leg {
             flags,
             style,
             date,
             from,
             to,
         } => {
-            let leg = leg_of(flags, style, date, from, to);
+            let leg = Leg {
+                flags,
+                style,
+                date,
+                from,
+                to,
+            };
             put_leg(out, setting, last, name, leg)
         }
-        format::Fields::Station { station } => put_station(out, last, name, station),
-        format::Fields::Section {
+        Fields::Station { station } => put_station(out, last, name, station),
+        Fields::Section {
             last: end,
             unused: _,
             date,
             size,
         } => {
-            let section = format::Section {
+            let section = Section {
                 last: end,
                 date,
                 size,
             };
             put_section(out, setting, last, name, section)
         }
-        format::Fields::Error { traverse } => put_error(out, traverse),
+        Fields::Error { traverse } => put_error(out, traverse),
     }
 }

@@ -7,21 +7,14 @@ ghost use Rattle.format.specs.Reading.{read_buffer};
 ghost use Rattle.format.specs.Conversion.{convert_outcome, convert_buffer};
 ghost use Rattle.format.specs.Answers.{answer_of};
 
-use format::Answer;
+use format::{Done, Refusal};
 
 // After a writer's refusal the sheet stands and the file buffer is untouched.
-pub fn convert(file: &[u8], sheet: &mut [u8], out: &mut [u8]) -> Answer
+pub fn convert(file: &[u8], sheet: &mut [u8], out: &mut [u8]) -> Result<Done, Refusal>
     ensures answer { answer_of result ≡ convert_outcome file.now (length sheet.old) (length out.old) }
     ensures sheet { sheet.new ≡ read_buffer file.now sheet.old }
     ensures file { out.new ≡ convert_buffer file.now (length sheet.old) out.old }
 {
-    let a = read::read(file, sheet);
-    match a {
-        Answer::Refused { number, place } => Answer::Refused { number, place },
-        Answer::Done {
-            bytes,
-            records: _,
-            version: _,
-        } => write::write(&sheet[..bytes], out),
-    }
+    let made = read::read(file, sheet)?;
+    write::write(&sheet[..made.bytes], out)
 }

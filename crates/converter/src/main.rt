@@ -6,7 +6,6 @@ ghost use Rattle.std.specs.Prelude.{◌≡◌, ◌+◌, ◌≤◌, length, take}
 ghost use Rattle.listing.specs.Lines.{input_limit};
 ghost use Rattle.converter.specs.Converter.{converter_sheet_limit, converter_file_limit, converter_text};
 
-use format::Answer;
 use listing::Printed;
 
 // "at most 16,384 bytes, else prints `too long`"
@@ -22,16 +21,9 @@ fn output_of(input: &[u8], n: usize, sheet: &mut [u8], out: &mut [u8]) -> usize
     if INPUT_LIMIT < n {
         return listing::list(Printed::TooLong, b"", out);
     }
-    let a = convert::convert(file, sheet, out);
-    match a {
-        Answer::Refused { number, place } => {
-            listing::list(Printed::Refused { number, place }, b"", out)
-        }
-        Answer::Done {
-            bytes,
-            records: _,
-            version: _,
-        } => bytes,
+    match convert::convert(file, sheet, out) {
+        Ok(done) => done.bytes,
+        Err(refusal) => listing::list(Printed::Refused { refusal }, b"", out),
     }
 }
 

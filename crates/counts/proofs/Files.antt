@@ -10,19 +10,20 @@ use Rattle.format.specs.Bytes.{over}
 use Rattle.format.specs.Header.{Header}
 use Rattle.format.specs.Refusals.{Result, Outcome, accepted, refused, buffer_of}
 use Rattle.format.specs.Writing.{Writer, file_of, writing_verdict, filed_outcome, written_outcome}
+use Rattle.std.specs.Prelude.{Result as Answered, Ok, Err}
 use Rattle.format.specs.Answers.{answer_of}
-use Rattle.format.specs.declared.Answer.{Answer}
-use Rattle.format.specs.declared.Answer.TheVariants.{Done, Refused}
+use Rattle.format.specs.declared.Refusal.{Refusal}
+use Rattle.format.specs.declared.Done.{Done}
 use Rattle.format.proofs.RefusalLaws.{outcome_bytes, capped, outcome_capped}
 use Rattle.format.proofs.Basics.{pick_true, pick_false}
 use Rattle.wire.specs.Laid.{laid}
 use Rattle.wire.proofs.Laws.{none_before, laid_zero, laid_next, over_within}
 use Rattle.part.specs.Lays.{Puts}
-use Rattle.counts.specs.Tallies.{encoded, rest_outcome, Rest, file_outcome, Passed}
+use Rattle.counts.specs.Tallies.{encoded, rest_outcome, Rest, file_outcome, Passed, Writes}
 
 -- ---- one pass: the header, and the records behind it
 
-module _ (w : Writer) (h : Header) (x : Result) (d e f : List ℕ) (most head : ℕ) (r : Answer) (P : Puts d e (w.head h) most head)
+module _ (w : Writer) (h : Header) (x : Result) (d e f : List ℕ) (most head : ℕ) (r : Answered Done Refusal) (P : Puts d e (w.head h) most head)
     (R : Rest w x head e f r) where
   file_is : file_of w h x.records ≡ w.head h ++ encoded w x
   unfolding file_of
@@ -81,25 +82,29 @@ module _ (w : Writer) (h : Header) (x : Result) (old : List ℕ) where
     file_bytes = outcome_bytes (writing_verdict w x (length file)) (length file) (length x.records) w.version b n v (sym e)
 
     -- the second pass is lent just the bytes that are needed
-    file_done : (l : b ≤ length old) (y : List ℕ) (r : Answer) → Passed w h x (take b old) y r
-        → (accepted b n v ≡ due) × (y ++ drop b old ≡ buffer_of due file old)
+    file_done : (l : b ≤ length old) (y : List ℕ) (r : Answered Done Refusal) → Passed w h x (take b old) y r
+        → (answer_of r ≡ due) × (y ++ drop b old ≡ buffer_of due file old)
     file_done l y r P =
         let k = length-take-le b old l in
         let q = P.written b n v (sym e) (omega arith) in
         let d = done l in
-        (d.0, ap (λ (s : List ℕ). s ++ drop b old) q ∙ over_within old file b (omega (arith, file_bytes)) l ∙ d.1)
+        (P.answer ∙ sym e ∙ d.0, ap (λ (s : List ℕ). s ++ drop b old) q ∙ over_within old file b (omega (arith, file_bytes)) l ∙ d.1)
 
   -- the first pass was lent none of the bytes, and left y of them
-  module _ (y : List ℕ) (a : Answer) (none : length y ≡ 0) (told : answer_of a ≡ file_outcome w h x) where
+  module _ (y : List ℕ) (a : Answered Done Refusal) (none : length y ≡ 0) (told : answer_of a ≡ file_outcome w h x) where
     lent : y ++ old ≡ old
     lent = none_before y old none
 
-    pub passes_refused : {k p : ℕ} → a ≡ Refused k p → (refused k p ≡ due) × (y ++ old ≡ buffer_of due file old)
-    passes_refused {k} {p} q = let z = file_refused k p (rw q at told) in (z.0, lent ∙ z.1)
+    pub passes_refused : {k : Refusal} → a ≡ Err k → Writes w h x old (y ++ old) (Err k)
+    passes_refused {k} q = let z = file_refused k.number k.place (rw q at told) in record { answer = z.0; buffer = lent ∙ z.1 }
 
-    pub passes_small : {b n v : ℕ} → a ≡ Done b n v → length (y ++ old) < b → (refused 11 b ≡ due) × (y ++ old ≡ buffer_of due file old)
-    passes_small {b} {n} {v} q l = let z = file_small b n v (rw q at told) (rw lent at l) in (z.0, lent ∙ z.1)
+    pub passes_small : {e : Done} → a ≡ Ok e → length (y ++ old) < e.bytes
+        → Writes w h x old (y ++ old) (Err (record { number = 11; place = e.bytes }))
+    passes_small {e} q l =
+        let z = file_small e.bytes e.records e.version (rw q at told) (rw lent at l) in record { answer = z.0; buffer = lent ∙ z.1 }
 
-    pub passes_done : {b n v : ℕ} → a ≡ Done b n v → b ≤ length (y ++ old) → {f : List ℕ} {r : Answer} → Passed w h x (take b (y ++ old)) f r
-        → (accepted b n v ≡ due) × (f ++ drop b (y ++ old) ≡ buffer_of due file old)
-    passes_done {b} {n} {v} q l {f} {r} P = let z = file_done b n v (rw q at told) (rw lent at l) f r (rw lent at P) in (z.0, rw lent z.1)
+    pub passes_done : {e : Done} → a ≡ Ok e → e.bytes ≤ length (y ++ old) → {f : List ℕ} {r : Answered Done Refusal}
+        → Passed w h x (take e.bytes (y ++ old)) f r → Writes w h x old (f ++ drop e.bytes (y ++ old)) r
+    passes_done {e} q l {f} {r} P =
+        let z = file_done e.bytes e.records e.version (rw q at told) (rw lent at l) f r (rw lent at P) in
+        record { answer = z.0; buffer = rw lent z.1 }

@@ -13,15 +13,14 @@ use borrow.Author.Rules.{part_to_end}
 use Rattle.format.specs.Bytes.{pick}
 use Rattle.format.specs.Header.{file_limit}
 use Rattle.format.specs.State.{State, start, Record}
-use Rattle.format.specs.Refusals.{or_else, Result, stop, also, accepted, refused, outcome_of}
-use Rattle.format.specs.declared.Verdict.TheVariants.{Good, Refusal}
-use Rattle.format.specs.declared.Verdict.{Verdict}
+use Rattle.format.specs.Refusals.{or_else, Result, stop, also, accepted, refused, outcome_of, Good, Refusal, Verdict}
 use Rattle.format.specs.Writing.{Writer, v8, codes_all, after_all, encode_all, records_verdict, size_verdict, filed_outcome}
 use Rattle.format.specs.Codes.{codes_limit, codes, unsayable}
 use Rattle.format.specs.Fields.{record_of, state_of}
-use Rattle.format.specs.Answers.{answer_of}
-use Rattle.format.specs.declared.Answer.{Answer}
-use Rattle.format.specs.declared.Answer.TheVariants.{Refused}
+use Rattle.std.specs.Prelude.{Result as Answered, Ok, Err}
+use Rattle.format.specs.Answers.{answer_of, verdict_of}
+use Rattle.format.specs.declared.Refusal.{Refusal as Refused}
+use Rattle.format.specs.declared.Done.{Done}
 use Rattle.format.specs.declared.Setting.{Setting}
 use Rattle.format.specs.declared.Fields.{Fields}
 use Rattle.format.proofs.WritingLaws.{unsayable_at}
@@ -74,10 +73,10 @@ size_good n h = pick_false _ _ (le-ltb file_limit n h)
 
 -- ---- one record more, whose codes are written into the part of d from `from` on
 
-module _ (w : Writer) (d : List ℕ) (t : Tally) (st : State) (r : Record) (from : ℕ) (y : List ℕ) (n bytes : ℕ) (fault : Verdict)
+module _ (w : Writer) (d : List ℕ) (t : Tally) (st : State) (r : Record) (from : ℕ) (y : List ℕ) (n bytes : ℕ) (fault : Answered Unit Refused)
     (inside : from ≤ length d) (q : t.bytes ≤ length d → from ≡ t.bytes) (P : Puts (take (length d - from) (drop from d)) y (w.codes st r) w.longest n)
     (b : bytes ≡ bounded t.bytes n)
-    (e : fault ≡ or_else t.fault (pick (w.unable st r) (Refusal w.number t.records) Good)) where
+    (e : verdict_of fault ≡ or_else (verdict_of t.fault) (pick (w.unable st r) (Refusal w.number t.records) Good)) where
   pub adds_one : Adds w st r d (take from d ++ (y ++ drop (length d - from) (drop from d))) t
       (record { bytes = bytes; records = t.records + 1; fault = fault })
   adds_one =
@@ -92,16 +91,16 @@ module _ (w : Writer) (d : List ℕ) (t : Tally) (st : State) (r : Record) (from
       }
 
 -- the same for v8, by a record's fields
-module _ (d : List ℕ) (t : Tally) (setting : Setting) (last name : List ℕ) (f : Fields) (from : ℕ) (y : List ℕ) (n bytes : ℕ) (fault : Verdict)
+module _ (d : List ℕ) (t : Tally) (setting : Setting) (last name : List ℕ) (f : Fields) (from : ℕ) (y : List ℕ) (n bytes : ℕ) (fault : Answered Unit Refused)
     (inside : from ≤ length d) (q : t.bytes ≤ length d → from ≡ t.bytes)
     (P : Puts (take (length d - from) (drop from d)) y (codes (state_of setting last) (record_of f name)) codes_limit n)
-    (b : bytes ≡ bounded t.bytes n) (e : fault ≡ or_else t.fault (pick (unsayable setting.style (record_of f [])) (Refusal 13 t.records) Good)) where
+    (b : bytes ≡ bounded t.bytes n) (e : verdict_of fault ≡ or_else (verdict_of t.fault) (pick (unsayable setting.style (record_of f [])) (Refusal 13 t.records) Good)) where
   pub adds-next :
       Adds v8 (state_of setting last) (record_of f name) d (take from d ++ (y ++ drop (length d - from) (drop from d))) t
       (record { bytes = bytes; records = t.records + 1; fault = fault })
   adds-next =
       adds_one v8 d t (state_of setting last) (record_of f name) from y n bytes fault inside q P b
-      (e ∙ ap (λ (x : Bool). or_else t.fault (pick x (Refusal 13 t.records) Good)) (unsayable_at setting.style f name))
+      (e ∙ ap (λ (x : Bool). or_else (verdict_of t.fault) (pick x (Refusal 13 t.records) Good)) (unsayable_at setting.style f name))
 
 -- ---- any writer
 
@@ -129,13 +128,13 @@ module _ (w : Writer) where
   pub record Left (x₀ : Result) (head : ℕ) (d₀ d : List ℕ) (t : Tally) (st : State) (x : Result) : Type 0 where
     pub verdict : x.verdict ≡ x₀.verdict
     pub records : t.records + length x.records ≡ length x₀.records
-    pub styles : or_else t.fault (records_verdict w t.records st x.records) ≡ records_verdict w 0 start x₀.records
+    pub styles : or_else (verdict_of t.fault) (records_verdict w t.records st x.records) ≡ records_verdict w 0 start x₀.records
     pub big : file_limit < t.bytes → file_limit < head + length (encoded w x₀)
     pub exact : t.bytes ≤ file_limit → t.bytes + length (rest st x.records) ≡ head + length (encoded w x₀)
     pub filled : head + length (encoded w x₀) ≤ length d₀ → head + length (encoded w x₀) ≤ file_limit
         → laid d t.bytes (rest st x.records) ≡ laid d₀ head (encoded w x₀)
 
-  pub left_none : (x₀ : Result) (head : ℕ) (d : List ℕ) → head ≤ file_limit → Left x₀ head d d (record { bytes = head; records = 0; fault = Good }) start x₀
+  pub left_none : (x₀ : Result) (head : ℕ) (d : List ℕ) → head ≤ file_limit → Left x₀ head d d (record { bytes = head; records = 0; fault = Ok tt }) start x₀
   left_none x₀ head d h =
       record { verdict = refl; records = omega arith; styles = refl; big = λ q. absurd (omega arith); exact = λ q. refl; filled = λ q s. refl }
 
@@ -148,9 +147,9 @@ module _ (w : Writer) where
     abbrev st' : State
     st' = w.after st r
 
-    styles_more : or_else t'.fault (records_verdict w t'.records st' x.records) ≡ records_verdict w 0 start x₀.records
+    styles_more : or_else (verdict_of t'.fault) (records_verdict w t'.records st' x.records) ≡ records_verdict w 0 start x₀.records
     unfolding records_verdict
-    styles_more = rw (A.fault, A.records) (or_pick t.fault _ (w.unable st r) w.number t.records ∙ L.styles)
+    styles_more = rw (A.fault, A.records) (or_pick (verdict_of t.fault) _ (w.unable st r) w.number t.records ∙ L.styles)
 
     rest_length : length (rest st (r ∷ x.records)) ≡ n + length (rest st' x.records)
     rest_length = rw (encode_more st r x.records, length-append)
@@ -194,7 +193,7 @@ module _ (w : Writer) where
   -- ---- answers
 
   module _ (x₀ : Result) (head : ℕ) (d₀ : List ℕ) where
-    pub rest_refused : (d : List ℕ) → length d ≡ length d₀ → (k p : ℕ) → refused k p ≡ rest_outcome w head x₀ → Rest w x₀ head d₀ d (Refused k p)
+    pub rest_refused : (d : List ℕ) → length d ≡ length d₀ → (k p : ℕ) → refused k p ≡ rest_outcome w head x₀ → Rest w x₀ head d₀ d (Err (record { number = k; place = p }))
     rest_refused d kept k p e = record { answer = e; kept = kept; written = λ b n v q h. absurd (never k p b n v (e ∙ q)) }
 
     module _ (d : List ℕ) (t : Tally) (st : State) where
@@ -206,7 +205,7 @@ module _ (w : Writer) where
       left_flawed number L = left_stopped 12 number L
 
       -- the bytes of `last` are what is left to write, of n records; they are written without reading them
-      module _ (x : Result) (last d' : List ℕ) (n : ℕ) (r : Answer) (kept : length d ≡ length d₀) (L : Left x₀ head d₀ d t st x) (good : x.verdict ≡ Good)
+      module _ (x : Result) (last d' : List ℕ) (n : ℕ) (r : Answered Done Refused) (kept : length d ≡ length d₀) (L : Left x₀ head d₀ d t st x) (good : x.verdict ≡ Good)
           (said : records_verdict w t.records st x.records ≡ Good) (is : last ≡ rest st x.records) (counted : n ≡ length x.records)
           (F : Finished w d d' last (record { bytes = t.bytes; records = t.records + n; fault = t.fault }) r) where
         abbrev bytes : ℕ
@@ -215,7 +214,7 @@ module _ (w : Writer) where
         abbrev whole : ℕ
         whole = head + length (encoded w x₀)
 
-        no_style : or_else t.fault Good ≡ records_verdict w 0 start x₀.records
+        no_style : or_else (verdict_of t.fault) Good ≡ records_verdict w 0 start x₀.records
         no_style = rw said at L.styles
 
         bytes_are : t.bytes ≤ file_limit → bytes ≡ whole
@@ -228,12 +227,12 @@ module _ (w : Writer) where
         outcomes (Refusal k p) m = refl
         outcomes Good m = less_or_not file_limit t.bytes (λ h. rw (size_big bytes (omega arith), size_big whole (L.big h))) λ h. rw (bytes_are h)
 
-        outcome_is : final_outcome w t.fault bytes (t.records + n) ≡ rest_outcome w head x₀
+        outcome_is : final_outcome w (verdict_of t.fault) bytes (t.records + n) ≡ rest_outcome w head x₀
         unfolding final_outcome filed_outcome
         outcome_is =
             let k : t.records + n ≡ length x₀.records = omega (arith, L.records, counted) in
             let v : x₀.verdict ≡ Good = sym L.verdict ∙ good in
-            outcomes t.fault (t.records + n) ∙ rw (v, ← no_style, ← k)
+            outcomes (verdict_of t.fault) (t.records + n) ∙ rw (v, ← no_style, ← k)
 
         -- a file that is accepted is not too long
         accepted_is : (f : Verdict) (b m v : ℕ) → final_outcome w f bytes (t.records + n) ≡ accepted b m v → (b ≡ bytes) × (bytes ≤ file_limit)
@@ -250,13 +249,13 @@ module _ (w : Writer) where
               answer = F.answer ∙ outcome_is;
               kept = F.kept ∙ kept;
               written = λ b m v q h.
-                  let a = accepted_is t.fault b m v (outcome_is ∙ q) in
+                  let a = accepted_is (verdict_of t.fault) b m v (outcome_is ∙ q) in
                   let z = bytes_are (omega (arith, a.1)) in
                   F.written (omega (arith, a.0)) ∙ ap (laid d t.bytes) is ∙ L.filled (omega (arith, a.0)) (omega (arith, a.1));
             }
 
       -- no record is left
-      pub left_end : (d' : List ℕ) (r : Answer) → length d ≡ length d₀ → Left x₀ head d₀ d t st (stop Good) → Finished w d d' (w.closing st) t r
+      pub left_end : (d' : List ℕ) (r : Answered Done Refused) → length d ≡ length d₀ → Left x₀ head d₀ d t st (stop Good) → Finished w d d' (w.closing st) t r
           → Rest w x₀ head d₀ d' r
       unfolding records_verdict
       left_end d' r kept L F =
@@ -266,8 +265,8 @@ module _ (w : Writer) where
   -- ---- the closing codes, written into the part of d from `from` on
 
   pub finish_closed : (d close : List ℕ) (t : Tally) (from : ℕ) (y : List ℕ) (m n : ℕ) → from ≤ length d → (t.bytes ≤ length d → from ≡ t.bytes)
-      → Puts (take (length d - from) (drop from d)) y close m n → (r : Answer)
-      → answer_of r ≡ settled w.version t.fault (t.bytes + n) t.records
+      → Puts (take (length d - from) (drop from d)) y close m n → (r : Answered Done Refused)
+      → answer_of r ≡ settled w.version (verdict_of t.fault) (t.bytes + n) t.records
       → Finished w d (take from d ++ (y ++ drop (length d - from) (drop from d))) close t r
   unfolding final_outcome
   finish_closed d close t from y m n inside q P r e =
@@ -280,13 +279,9 @@ module _ (w : Writer) where
 
 -- ---- `settle`
 
-module _ (version : ℕ) (fault : Verdict) (bytes records : ℕ) where
-  pub settle_fault : {number place : ℕ} → fault ≡ Refusal number place → refused number place ≡ settled version fault bytes records
-  settle_fault e = rw e
+module _ (version bytes records : ℕ) where
+  pub settle_big : file_limit < bytes → refused 16 0 ≡ settled version Good bytes records
+  settle_big h = rw (size_big bytes h)
 
-  module _ (none : fault ≡ Good) where
-    pub settle_big : file_limit < bytes → refused 16 0 ≡ settled version fault bytes records
-    settle_big h = rw (none, size_big bytes h)
-
-    pub settle_done : bytes ≤ file_limit → accepted bytes records version ≡ settled version fault bytes records
-    settle_done h = rw (none, size_good bytes h, outcome_fits bytes records version)
+  pub settle_done : bytes ≤ file_limit → accepted bytes records version ≡ settled version Good bytes records
+  settle_done h = rw (size_good bytes h, outcome_fits bytes records version)

@@ -4,18 +4,19 @@
 
 ghost use Rattle.std.specs.Prelude.{◌≡◌, [], ◌+◌, ◌≤◌, length};
 ghost use Rattle.format.specs.Fields.{record_of, state_of};
-ghost use Rattle.format.specs.Refusals.{or_else};
+ghost use Rattle.format.specs.Refusals.{or_else, Good, Refusal as Refused, Result as Written};
 ghost use Rattle.format.specs.WellFormed.{WellFormed};
-ghost use Rattle.format.specs.Header.{file_limit};
+ghost use Rattle.format.specs.Header.{file_limit, Header};
 ghost use Rattle.format.specs.Bytes.{pick};
 ghost use Rattle.format.specs.Codes.{codes_limit, unsayable, setting_after, closing};
-ghost use Rattle.format.specs.Writing.{v8};
-ghost use Rattle.format.specs.declared.Verdict.TheVariants.{Good, Refusal};
-ghost use Rattle.format.specs.Answers.{answer_of};
-ghost use Rattle.counts.specs.Tallies.{bounded, settled, Fits, Adds, Finished};
+ghost use Rattle.format.specs.Writing.{v8, Writer};
+ghost use Rattle.format.specs.Answers.{answer_of, verdict_of};
+ghost use Rattle.format.specs.Faults.{fault_number};
+ghost use Rattle.counts.specs.Tallies.{bounded, settled, Fits, Adds, Finished, Passes, Writes};
+ghost use Rattle.std.specs.Fn.{FnOnceReturnsAtMut};
 ghost use Rattle.format.specs.Label.{label_limit};
 
-use format::{Answer, FILE_LIMIT, Fields, Position, Setting, Verdict};
+use format::{Done, FILE_LIMIT, Fault, Fields, NOT_SAID, Refusal, Setting};
 
 // The bytes so far, until they are over what refusal 16 allows; the records so far; and
 // the refusal of the first record that cannot be written.
@@ -23,61 +24,40 @@ use format::{Answer, FILE_LIMIT, Fields, Position, Setting, Verdict};
 pub struct Tally {
     pub bytes: usize,
     pub records: usize,
-    pub fault: Verdict,
+    pub fault: Result<(), Refusal>,
 }
 
-// The first fault so far, when the record with this number has one or not.
-pub fn first_at(fault: Verdict, bad: bool, refusal: u8, number: usize) -> Verdict
-    ensures { result ≡ or_else fault (pick bad (Refusal refusal number) Good) }
+// The first fault so far, when a record has this one or none.
+pub fn first_at(fault: Result<(), Refusal>, bad: bool, refusal: Refusal) -> Result<(), Refusal>
+    ensures { verdict_of result ≡ or_else (verdict_of fault) (pick bad (Refused refusal.number refusal.place) Good) }
 {
-    let Verdict::Good = fault else {
-        return fault;
-    };
+    fault?;
     if bad {
-        return Verdict::Refusal {
-            number: refusal,
-            place: number,
-        };
+        return Err(refusal);
     }
-    Verdict::Good
+    Ok(())
 }
 
 // Whether a record has style 5 after another style.
 fn unsaid(old: u8, fields: Fields) -> bool
     ensures { result ≡ unsayable old (record_of fields []) }
 {
-    match fields {
-        Fields::Leg {
-            flags: _,
-            style,
-            date: _,
-            from: _,
-            to: _,
-        } => {
-            if style != 5 {
-                return false;
-            }
-            if old == 5 {
-                return false;
-            }
-            true
-        }
-        Fields::Station { station: _ } => false,
-        Fields::Section {
-            last: _,
-            unused: _,
-            date: _,
-            size: _,
-        } => false,
-        Fields::Error { traverse: _ } => false,
-    }
+    let Fields::Leg { style, .. } = fields else {
+        return false;
+    };
+    style == NOT_SAID && old != NOT_SAID
 }
 
 // `old` is the style before the record with this number.
-pub fn first_fault(fault: Verdict, old: u8, fields: Fields, number: usize) -> Verdict
-    ensures { result ≡ or_else fault (pick (unsayable old (record_of fields [])) (Refusal 13 number) Good) }
+pub fn first_fault(
+    fault: Result<(), Refusal>,
+    old: u8,
+    fields: Fields,
+    number: usize,
+) -> Result<(), Refusal>
+    ensures { verdict_of result ≡ or_else (verdict_of fault) (pick (unsayable old (record_of fields [])) (Refused 13 number) Good) }
 {
-    first_at(fault, unsaid(old, fields), 13, number)
+    first_at(fault, unsaid(old, fields), Fault::StyleUnsaid.at(number))
 }
 
 // The sum, until it is over what refusal 16 allows: then it stays.
@@ -95,10 +75,7 @@ pub fn more(total: usize, n: usize) -> usize
 pub fn within(index: usize, len: usize) -> usize
     ensures { (result ≤ len) × (index ≤ len → result ≡ index) × (len ≤ index → result ≡ len) }
 {
-    if len < index {
-        return len;
-    }
-    index
+    index.min(len)
 }
 
 // One record more: its codes are written into out behind the bytes so far, where they
@@ -125,34 +102,56 @@ pub fn put_next(
 }
 
 // The answer at the end of so many bytes and records, for room enough.
-pub fn settle(bytes: usize, records: usize, fault: Verdict, version: u8) -> Answer
-    ensures { answer_of result ≡ settled version fault bytes records }
+pub fn settle(
+    bytes: usize,
+    records: usize,
+    fault: Result<(), Refusal>,
+    version: u8,
+) -> Result<Done, Refusal>
+    ensures { answer_of result ≡ settled version (verdict_of fault) bytes records }
 {
-    if let Verdict::Refusal { number, place } = fault {
-        return Answer::Refused { number, place };
-    }
+    fault?;
     if FILE_LIMIT < bytes {
-        return Answer::Refused {
-            number: 16,
-            place: 0,
-        };
+        return Err(Fault::FileTooLong.at(0));
     }
-    Answer::Done {
+    Ok(Done {
         bytes,
         records,
         version,
-    }
+    })
 }
 
 // The end of a file: the closing codes, written where they fit into out behind the
 // bytes so far, and the answer, for room enough.
-pub fn finish(out: &mut [u8], style: u8, total: usize, number: usize, fault: Verdict) -> Answer
+pub fn finish(
+    out: &mut [u8],
+    style: u8,
+    total: usize,
+    number: usize,
+    fault: Result<(), Refusal>,
+) -> Result<Done, Refusal>
     requires { total ≤ file_limit + codes_limit }
     ensures { Finished v8 out.old out.new (closing style) (record { bytes = total; records = number; fault = fault }) result }
 {
     let start = within(total, out.len());
     let n = frame::put_closing(&mut out[start..], style);
     settle(total + n, number, fault, 8)
+}
+
+// A file in two passes: the first, lent no bytes, gives the answer, and the second is
+// lent just the bytes that are needed.
+pub fn in_two_passes<F: Fn(&mut [u8]) -> Result<Done, Refusal>>(
+    out: &mut [u8],
+    pass: F,
+) -> Result<Done, Refusal>
+    requires { F.IsAlwaysCallable pass }
+    ensures { (w : Writer) (h : Header) (x : Written) → Passes (FnOnceReturnsAtMut F.FnOnce pass) w h x → Writes w h x out.old out.new result }
+{
+    let done = pass(&mut out[..0])?;
+    if out.len() < done.bytes {
+        return Err(Fault::BufferTooSmall.at(done.bytes));
+    }
+    pass(&mut out[..done.bytes])
 }
 
 // ---- what a record leaves
@@ -163,30 +162,16 @@ pub fn setting_after(setting: Setting, fields: Fields) -> Setting
 {
     match fields {
         Fields::Leg {
-            flags: _,
             style,
             date,
-            from: _,
-            to: point,
+            to,
+            ..
         } => Setting {
             style,
             date,
-            position: Position::Stands { point },
+            position: Some(to),
         },
-        Fields::Station { station: _ } => setting,
-        Fields::Section {
-            last: _,
-            unused: _,
-            date,
-            size: _,
-        } => {
-            let position = setting.position;
-            Setting {
-                style: setting.style,
-                date,
-                position,
-            }
-        }
-        Fields::Error { traverse: _ } => setting,
+        Fields::Section { date, .. } => Setting { date, ..setting },
+        Fields::Station { .. } | Fields::Error { .. } => setting,
     }
 }

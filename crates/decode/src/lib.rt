@@ -9,7 +9,7 @@ ghost use Rattle.kind.specs.Kinds.{tail_of, make_of, labelled_by};
 ghost use Rattle.decode.specs.Bodies.{Bodies};
 ghost use Rattle.decode.specs.Seen.{Reads};
 
-use format::{Cut, Dimensions, LabelPart, Point, Traverse};
+use format::{Cut, Dimensions, Fault, Point, Traverse};
 use kind::{Kind, Tail, kind_of, tail_size};
 use length::{part_of, whole_part};
 use number::{get_le16, get_le32, wide};
@@ -26,9 +26,6 @@ pub enum Body {
 // An item; the bytes that its label gains are count bytes of it, from `from` on.
 #[derive(Clone, Copy)]
 pub enum Item {
-    Faulty {
-        number: u8,
-    },
     Stop,
     Style {
         style: u8,
@@ -159,7 +156,7 @@ fn body_at(tail: Tail, rest: &[u8]) -> Body
     }
 }
 
-fn labelled_item(version: u8, bare: bool, tail: Tail, s: &[u8]) -> Item
+fn labelled_item(version: u8, bare: bool, tail: Tail, s: &[u8]) -> Result<Item, Fault>
     requires { 1 ≤ length s.now }
     ensures { Reads result s.now (labelled_by bare tail (part_at version) (drop 1 s.now)) }
 {
@@ -167,87 +164,85 @@ fn labelled_item(version: u8, bare: bool, tail: Tail, s: &[u8]) -> Item
     let n = tail_size(tail);
     let p = part_of(version, bare, t);
     let q = whole_part(p, t, n);
-    match q {
-        LabelPart::Unfinished => Item::Faulty { number: 5 },
-        LabelPart::Numbers { size, drop, add } => {
-            let named = size + add;
-            let rest = 1 + named;
-            let body = body_at(tail, &s[rest..]);
-            Item::Relabel {
-                size: 1 + (named + n),
-                cut: Cut::Back { bytes: drop },
-                from: 1 + size,
-                count: add,
-                body,
-            }
-        }
-    }
+    let Some(part) = q else {
+        return Err(Fault::Unfinished);
+    };
+    let named = part.size + part.add;
+    let rest = 1 + named;
+    let body = body_at(tail, &s[rest..]);
+    Ok(Item::Relabel {
+        size: 1 + (named + n),
+        cut: Cut::Back { bytes: part.drop },
+        from: 1 + part.size,
+        count: part.add,
+        body,
+    })
 }
 
 // ---- items without a label; s begins with the code
 
-fn move_item(s: &[u8]) -> Item
+fn move_item(s: &[u8]) -> Result<Item, Fault>
     ensures { Reads result s.now (move_item s.now) }
 {
     if s.len() < 13 {
-        return Item::Faulty { number: 5 };
+        return Err(Fault::Unfinished);
     }
     let place = get_point(&s[1..]);
-    Item::Move { place }
+    Ok(Item::Move { place })
 }
 
-fn error_item(s: &[u8]) -> Item
+fn error_item(s: &[u8]) -> Result<Item, Fault>
     ensures { Reads result s.now (error_item s.now) }
 {
     if s.len() < 21 {
-        return Item::Faulty { number: 5 };
+        return Err(Fault::Unfinished);
     }
     let traverse = get_traverse(&s[1..]);
-    Item::Error { traverse }
+    Ok(Item::Error { traverse })
 }
 
-fn day_item(s: &[u8]) -> Item
+fn day_item(s: &[u8]) -> Result<Item, Fault>
     ensures { Reads result s.now (day_item s.now) }
 {
     if s.len() < 3 {
-        return Item::Faulty { number: 5 };
+        return Err(Fault::Unfinished);
     }
     let day = get_le16(&s[1..]);
-    Item::Date {
+    Ok(Item::Date {
         size: 3,
         first: day,
         last: day,
-    }
+    })
 }
 
-fn span_item(s: &[u8]) -> Item
+fn span_item(s: &[u8]) -> Result<Item, Fault>
     ensures { Reads result s.now (span_item s.now) }
 {
     if s.len() < 4 {
-        return Item::Faulty { number: 5 };
+        return Err(Fault::Unfinished);
     }
     let first = get_le16(&s[1..]);
     let span = wide(s[3]);
-    Item::Date {
+    Ok(Item::Date {
         size: 4,
         first,
         last: first + span,
-    }
+    })
 }
 
-fn days_item(s: &[u8]) -> Item
+fn days_item(s: &[u8]) -> Result<Item, Fault>
     ensures { Reads result s.now (days_item s.now) }
 {
     if s.len() < 5 {
-        return Item::Faulty { number: 5 };
+        return Err(Fault::Unfinished);
     }
     let first = get_le16(&s[1..]);
     let last = get_le16(&s[3..]);
-    Item::Date {
+    Ok(Item::Date {
         size: 5,
         first,
         last,
-    }
+    })
 }
 
 fn day_of_seconds(n: u32) -> u32
@@ -256,56 +251,56 @@ fn day_of_seconds(n: u32) -> u32
     n / 86400 + 25567
 }
 
-fn seconds_item(s: &[u8]) -> Item
+fn seconds_item(s: &[u8]) -> Result<Item, Fault>
     ensures { Reads result s.now (seconds_item s.now) }
 {
     if s.len() < 5 {
-        return Item::Faulty { number: 5 };
+        return Err(Fault::Unfinished);
     }
     let day = day_of_seconds(get_le32(&s[1..]));
-    Item::Date {
+    Ok(Item::Date {
         size: 5,
         first: day,
         last: day,
-    }
+    })
 }
 
-fn two_seconds_item(s: &[u8]) -> Item
+fn two_seconds_item(s: &[u8]) -> Result<Item, Fault>
     ensures { Reads result s.now (two_seconds_item s.now) }
 {
     if s.len() < 9 {
-        return Item::Faulty { number: 5 };
+        return Err(Fault::Unfinished);
     }
     let first = day_of_seconds(get_le32(&s[1..]));
     let last = day_of_seconds(get_le32(&s[5..]));
-    Item::Date {
+    Ok(Item::Date {
         size: 9,
         first,
         last,
-    }
+    })
 }
 
 // The item at the front of s, in a file of the version.
-pub fn decode(version: u8, s: &[u8]) -> Item
+pub fn decode(version: u8, s: &[u8]) -> Result<Item, Fault>
     ensures { Reads result s.now (item_of version s.now) }
 {
     if s.len() < 1 {
-        return Item::Faulty { number: 5 };
+        return Err(Fault::Unfinished);
     }
     let kind = kind_of(version, s[0]);
     match kind {
-        Kind::Reserved => Item::Faulty { number: 4 },
-        Kind::Stop => Item::Stop,
-        Kind::Shorten { cut } => Item::Relabel {
+        Kind::Reserved => Err(Fault::Reserved),
+        Kind::Stop => Ok(Item::Stop),
+        Kind::Shorten { cut } => Ok(Item::Relabel {
             size: 1,
             cut,
             from: 0,
             count: 0,
             body: Body::Only,
-        },
-        Kind::Style { style } => Item::Style { style },
+        }),
+        Kind::Style { style } => Ok(Item::Style { style }),
         Kind::Move => move_item(s),
-        Kind::NoDate => Item::NoDate,
+        Kind::NoDate => Ok(Item::NoDate),
         Kind::Day => day_item(s),
         Kind::Span => span_item(s),
         Kind::Days => days_item(s),

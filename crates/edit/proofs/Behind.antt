@@ -1,34 +1,30 @@
 -- A turn of the loop over the records behind the run, on plain values. Assumes nothing.
+use Rattle.std.specs.Prelude.{Result as Answered, Ok, Err, IsOk}
 use Prim.Native.Nat.{ℕ, ◌+◌, ◌-◌, ◌≤◌, ◌<◌}
 use mathlib.Core.Path.{◌≡◌, refl, sym, ap, ◌∙◌}
 use mathlib.Core.List.{List, [], ◌∷◌}
-use mathlib.Core.Bool.{true}
 use native.Mathlib.Omega.{arith}
 use lib.ListN.{length, take, drop}
-use types.Run.{OneOf, miss}
-use denote.Enum.Declared.{tag_of}
 use Rattle.format.specs.State.{Record}
 use Rattle.format.specs.Refusals.{Result}
 use Rattle.format.specs.WellFormed.{WellFormed}
 use Rattle.format.specs.Fields.{record_of}
 use Rattle.format.specs.declared.Fields.{Fields}
+use Rattle.format.specs.declared.Refusal.{Refusal as Refused}
 use Rattle.format.specs.Codes.{header_limit}
 use Rattle.format.specs.Writing.{v8}
 use Rattle.scan.specs.Places.{label_in, state_at}
 use Rattle.scan.specs.declared.Place.{Place}
 use Rattle.judge.specs.Walking.{rest_of, Steps, Takes, Walks}
 use Rattle.judge.specs.declared.Taken.{Taken}
-use Rattle.judge.specs.declared.Taken.TheVariants.{Refused, Foreign, End, Record as Next}
-use Rattle.judge.specs.contracts.Taken.{the_type}
 use Rattle.judge.proofs.One.{met_formed}
 use Rattle.judge.proofs.Walk.{walk_one, walk_sound, walk_foreign}
 use Rattle.counts.specs.Tallies.{Fits}
 use Rattle.counts.proofs.Left.{adds_few}
-use Rattle.edit.specs.Pens.{pen_state, same_state, Emits, Written, none, more, Standing, Behind, WentOn}
+use Rattle.edit.specs.Pens.{pen_state, Emits, Written, none, more, Standing, Behind, WentOn}
 use Rattle.edit.specs.declared.Pen.{Pen}
 use Rattle.edit.specs.declared.Went.{Went}
 use Rattle.edit.proofs.Chain.{written_then, drop_next, take_next}
-use Rattle.edit.proofs.SameState.{one_state}
 
 abbrev records_at : List ℕ → Place → List ℕ → List Record
 records_at file p b = (rest_of file p.at (state_at p b)).records
@@ -45,9 +41,10 @@ pub record Putting (file : List ℕ) (w : Went) (b l d : List ℕ) (q : Place) (
   pub room_whole : length room ≡ header_limit
 
 pub putting_first : (file : List ℕ) (w : Went) (b l d spare room : List ℕ) → Behind file w b l → length spare ≡ 4096 → length room ≡ header_limit
-    → Putting file w b l d w.place w.pen w.left b l d spare room
+    → Putting file w b l d w.place w.pen (w.left - 0) b l d spare room
 putting_first file w b l d spare room B s r =
-    record { done = 0; sum = omega arith; behind = B; records = refl; written = none; kept = refl; spare_whole = s; room_whole = r }
+    let e : w.left - 0 ≡ w.left = omega arith in
+    rw e (record { done = 0; sum = omega arith; behind = B; records = refl; written = none; kept = refl; spare_whole = s; room_whole = r })
 
 module _ {file : List ℕ} {w : Went} {b l d : List ℕ} {q : Place} {pen : Pen} {left : ℕ} {c l' d' spare room : List ℕ}
     (G : Putting file w b l d q pen left c l' d' spare room) where
@@ -55,11 +52,9 @@ module _ {file : List ℕ} {w : Went} {b l d : List ℕ} {q : Place} {pen : Pen}
   B = G.behind
 
   -- there is one more while some are left
-  pub always_more : (r : Taken) (c' : List ℕ) → 0 < left → OneOf (0 ∷ 1 ∷ 2 ∷ []) (tag_of the_type r) → Takes file q c r c' → ⊥
-  always_more (Refused n p) c' h o T = let z = B.counted ∙ ap (λ (x : Result). length x.records) T in omega (arith, z)
-  always_more Foreign c' h o T = T B.standing.ours
-  always_more End c' h o T = let z = B.counted ∙ ap (λ (x : Result). length x.records) T.0 in omega (arith, z)
-  always_more (Next to f) c' h o T = absurd (miss (0 ∷ 1 ∷ 2 ∷ []) 3 tt o)
+  pub never_refused : 0 < left → (r : Answered Taken Refused) (c' : List ℕ) → Takes file q c r c' → IsOk r
+  never_refused h (Ok t) c' T = refl
+  never_refused h (Err r) c' T = let z = B.counted ∙ ap (λ (x : Result). length x.records) T in absurd (omega (arith, z))
 
   pub putting_fits : 0 < left → Fits v8 pen.count
   putting_fits h = record { few_bytes = B.few_bytes; few_records = omega (arith, B.few_records) }
@@ -67,8 +62,8 @@ module _ {file : List ℕ} {w : Went} {b l d : List ℕ} {q : Place} {pen : Pen}
   went : ((0 < left) → state_at q c ≡ pen_state pen l') → WentOn file w b l d (record { place = q; pen = pen; left = left }) c l' d'
   went e = record { done = G.done; sum = G.sum; behind = B; records = G.records; written = G.written; kept = G.kept; level = e }
 
-  pub went_level : same_state (state_at q c) (pen_state pen l') ≡ true → WentOn file w b l d (record { place = q; pen = pen; left = left }) c l' d'
-  went_level e = went (λ h. one_state (state_at q c) (pen_state pen l') e)
+  pub went_level : state_at q c ≡ pen_state pen l' → WentOn file w b l d (record { place = q; pen = pen; left = left }) c l' d'
+  went_level e = went (λ h. e)
 
   pub went_all : left ≤ 0 → WentOn file w b l d (record { place = q; pen = pen; left = left }) c l' d'
   went_all h = went (λ k. absurd (omega arith))

@@ -1,6 +1,5 @@
 mod Behind
 mod Chain
 mod NewRun
-mod SameState
 mod Tail
 mod Whole

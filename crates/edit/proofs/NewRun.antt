@@ -1,4 +1,5 @@
 -- A turn of the loops over a replacement's records, on plain values. Assumes nothing.
+use Rattle.std.specs.Prelude.{Option, Some, None, IsSome}
 use Prim.Native.Nat.{ℕ, ◌+◌, ◌-◌, ◌≤◌, ◌<◌}
 use mathlib.Core.Path.{◌≡◌, refl, sym, ap, ◌∙◌}
 use mathlib.Core.List.{List, [], ◌∷◌, ◌++◌, append_assoc, append-nil}
@@ -6,12 +7,11 @@ use native.Mathlib.Omega.{arith}
 use lib.ListN.{length, take, drop}
 use Rattle.format.specs.State.{Record}
 use Rattle.format.specs.Sheet.{sheet_version, records_from, records_of}
-use Rattle.format.specs.Refusals.{Result}
-use Rattle.format.specs.declared.Verdict.TheVariants.{Good, Refusal}
+use Rattle.format.specs.Refusals.{Result, Good, Refusal}
 use Rattle.format.specs.Fields.{record_of}
 use Rattle.format.specs.declared.Fields.{Fields}
 use Rattle.sheet.specs.Seen.{EntryTold}
-use Rattle.sheet.specs.declared.Entry.TheVariants.{Flawed, Whole}
+use Rattle.sheet.specs.declared.Entry.{Entry}
 use Rattle.sheet.proofs.EntryAt.{part, none_at, flawed_at, found_size, found_at}
 use Rattle.counts.specs.Tallies.{Fits}
 use Rattle.format.specs.Header.{file_limit}
@@ -19,9 +19,7 @@ use Rattle.format.specs.Codes.{codes_limit}
 use Rattle.format.specs.Writing.{v8}
 use Rattle.counts.proofs.Left.{adds_few}
 use Rattle.edit.specs.Pens.{pen_state, PenFits, Emits, Written, none, more, PutsNew}
-use Rattle.edit.specs.Runs.{flaw_verdict}
 use Rattle.edit.specs.declared.Pen.{Pen}
-use Rattle.edit.specs.declared.Flaw.TheVariants.{Unflawed, At}
 use Rattle.edit.proofs.Chain.{written_then}
 
 -- ---- the first bad record
@@ -37,14 +35,14 @@ unfolding records_of
 judging_first new = record { place = 0; inside = omega arith; counted = omega arith; verdict = refl }
 
 module _ (new : List ℕ) (at number : ℕ) (G : Judging new at number) where
-  pub flaw_none : length new ≤ at → flaw_verdict Unflawed ≡ (records_of sheet_version new).verdict
+  pub flaw_none : length new ≤ at → Good ≡ (records_of sheet_version new).verdict
   flaw_none h = sym (ap (λ (x : Result). x.verdict) (none_at sheet_version new at G.place number h)) ∙ G.verdict
 
-  pub flaw_here : (h : at < length new) → EntryTold Flawed sheet_version (take (length new - at) (drop at new))
-      → flaw_verdict (At number) ≡ (records_of sheet_version new).verdict
+  pub flaw_here : (h : at < length new) → EntryTold None sheet_version (take (length new - at) (drop at new))
+      → Refusal 12 number ≡ (records_of sheet_version new).verdict
   flaw_here h T = sym (ap (λ (x : Result). x.verdict) (flawed_at sheet_version new at h T G.place number)) ∙ G.verdict
 
-  pub judging_more : (h : at < length new) (n : ℕ) (f : Fields) (k : ℕ) → EntryTold (Whole n f k) sheet_version (take (length new - at) (drop at new))
+  pub judging_more : (h : at < length new) (n : ℕ) (f : Fields) (k : ℕ) → EntryTold (Some (record { size = n; fields = f; from = k })) sheet_version (take (length new - at) (drop at new))
       → Judging new (at + n) (number + 1)
   judging_more h n f k T =
       let z = found_size sheet_version new at h n f k T in
@@ -92,13 +90,16 @@ module _ (new : List ℕ) (pen : Pen) (l d : List ℕ) (at : ℕ) (next : Pen) (
   putting_fits h k = record { few_bytes = G.few_bytes; few_records = omega (arith, G.few_records, G.inside) }
 
   -- a well-formed replacement has no bad record
-  pub never_flawed : (records_of sheet_version new).verdict ≡ Good → (h : at < length new)
-      → EntryTold Flawed sheet_version (take (length new - at) (drop at new)) → ⊥
-  never_flawed e h T =
+  pub always_there : (records_of sheet_version new).verdict ≡ Good → (h : at < length new) → (r : Option Entry)
+      → EntryTold r sheet_version (take (length new - at) (drop at new)) → IsSome r
+  always_there e h (Some x) T = refl
+  always_there e h None T =
       let q : Refusal 12 G.number ≡ Good =
       sym (ap (λ (x : Result). x.verdict) (flawed_at sheet_version new at h T G.place G.number)) ∙ G.verdict ∙ e in
-      let z : ◌≡◌ {A = ℕ} 0 1 = cc in
-      omega arith
+      absurd (differ q)
+    where
+      differ : Refusal 12 G.number ≡ Good → ⊥
+      differ q = cc
 
   pub puts_new : length new ≤ at → PutsNew new pen l d next l' d'
   puts_new h =
@@ -106,7 +107,7 @@ module _ (new : List ℕ) (pen : Pen) (l d : List ℕ) (at : ℕ) (next : Pen) (
       G.records ∙ ap (λ (x : Result). G.so_far ++ x.records) (none_at sheet_version new at G.place G.number h) ∙ append-nil G.so_far in
       record { written = rw e G.written; fits = G.fits; few_bytes = G.few_bytes; few_records = omega (arith, G.few_records, G.inside) }
 
-  pub putting_more : (h : at < length new) (n : ℕ) (f : Fields) (k : ℕ) → EntryTold (Whole n f k) sheet_version (take (length new - at) (drop at new))
+  pub putting_more : (h : at < length new) (n : ℕ) (f : Fields) (k : ℕ) → EntryTold (Some (record { size = n; fields = f; from = k })) sheet_version (take (length new - at) (drop at new))
       → (next' : Pen) (l'' d'' : List ℕ)
       → Emits next l' (record_of f (part new (at + k) (at + n))) d' d'' next' l'' → Putting new pen l d (at + n) next' l'' d''
   putting_more h n f k T next' l'' d'' E =

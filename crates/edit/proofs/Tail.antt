@@ -1,5 +1,6 @@
 -- The old bytes that end an edited file, on plain values: they are laid behind what is written, and the answer is `settle`'s. Assumes
 -- nothing.
+use Rattle.std.specs.Prelude.{Result}
 use Prim.Native.Nat.{ℕ, ◌+◌, ◌-◌, ◌≤◌}
 use mathlib.Core.Path.{◌≡◌, refl, sym, ap, ◌∙◌}
 use mathlib.Core.List.{List, ◌++◌}
@@ -8,8 +9,9 @@ use lib.ListN.{length, take, drop}
 use lib.Seq.{take_at, length-take-le}
 use Rattle.format.specs.Bytes.{over}
 use Rattle.format.specs.Writing.{v8}
-use Rattle.format.specs.Answers.{answer_of}
-use Rattle.format.specs.declared.Answer.{Answer}
+use Rattle.format.specs.Answers.{answer_of, verdict_of}
+use Rattle.format.specs.declared.Done.{Done}
+use Rattle.format.specs.declared.Refusal.{Refusal}
 use Rattle.format.proofs.Basics.{less_or_not}
 use Rattle.wire.specs.Laid.{laid, laid_if}
 use Rattle.wire.proofs.Laws.{laid_none, laid_some, laid_part, length_laid}
@@ -30,8 +32,8 @@ laid_stays d k s l =
     λ h. ap (take k) (laid_some d s k h) ∙ take_at (take k d) _ k (length-take-le k d l)
 
 -- d' is what laying the tail leaves
-pub tail_finished : (d tail : List ℕ) (t : Tally) {d' : List ℕ} → d' ≡ laid_if d t.bytes tail → (r : Answer)
-    → answer_of r ≡ settled 8 t.fault (t.bytes + length tail) t.records → Finished v8 d d' tail t r
+pub tail_finished : (d tail : List ℕ) (t : Tally) {d' : List ℕ} → d' ≡ laid_if d t.bytes tail → (r : Result Done Refusal)
+    → answer_of r ≡ settled 8 (verdict_of t.fault) (t.bytes + length tail) t.records → Finished v8 d d' tail t r
 unfolding final_outcome
 tail_finished d tail t e r q =
     record {

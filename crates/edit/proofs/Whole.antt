@@ -1,5 +1,6 @@
 -- An edit whole, on plain values: the old bytes before the run, the replacement, what is behind the run, and which way the answer goes.
 -- Assumes nothing.
+use Rattle.std.specs.Prelude.{Result as Answered, Ok, Err}
 use Prim.Native.Nat.{ℕ, suc, ◌+◌, ◌≤◌, ◌<◌}
 use mathlib.Core.Path.{◌≡◌, refl, sym, ap, ap₂, ◌∙◌, subst}
 use mathlib.Core.Bool.{false}
@@ -13,17 +14,15 @@ use Rattle.format.specs.Bytes.{over, Bytes}
 use Rattle.format.specs.Header.{Header, shut, opening_of}
 use Rattle.format.specs.State.{State, start, Record}
 use Rattle.format.specs.Sheet.{sheet_version, records_of}
-use Rattle.format.specs.Refusals.{Result, refused}
+use Rattle.format.specs.Refusals.{Result, refused, Good, Refusal, Verdict}
 use Rattle.format.specs.WellFormed.{AllWellFormed}
-use Rattle.format.specs.declared.Verdict.TheVariants.{Good, Refusal}
-use Rattle.format.specs.declared.Verdict.{Verdict}
 use Rattle.format.specs.Reading.{run}
 use Rattle.format.specs.Writing.{v8, codes_all, after_all, encode_all, file_of, records_verdict, writing_verdict, filed_outcome, written_outcome}
 use Rattle.format.specs.Codes.{setting_after, label_after, after, closing, header_codes}
 use Rattle.format.specs.Editing.{house_written, edited, house_verdict, run_verdict, edit_verdict, edit_result, edit_outcome, edit_buffer, codes_place}
 use Rattle.format.specs.Fields.{record_of, state_of}
-use Rattle.format.specs.declared.Answer.{Answer}
-use Rattle.format.specs.declared.Answer.TheVariants.{Refused}
+use Rattle.format.specs.declared.Done.{Done}
+use Rattle.format.specs.declared.Refusal.{Refusal as Refused}
 use Rattle.format.specs.declared.Fields.{Fields}
 use Rattle.format.specs.declared.Setting.{Setting}
 use Rattle.format.proofs.Basics.{pick_true, pick_false, same_true}
@@ -38,16 +37,15 @@ use Rattle.scan.specs.Keeping.{Keeps}
 use Rattle.scan.specs.declared.Place.{Place}
 use Rattle.judge.specs.Walking.{GoodSetting, rest_of}
 use Rattle.judge.specs.Judging.{old_header, OldOpens, old_result, Stands, House, Cuts}
-use Rattle.judge.specs.declared.Old.{Old}
+use Rattle.header.specs.declared.Head.{Head}
 use Rattle.judge.specs.declared.Run.{Run}
 use Rattle.judge.proofs.Splice.{sayable_any, sayable_drop, good_start, good_all, read_from_lem}
 use Rattle.judge.proofs.Whole.{house_place}
-use Rattle.counts.specs.Tallies.{Adds, Finished, encoded, Rest, Passed}
+use Rattle.counts.specs.Tallies.{Adds, Finished, encoded, Rest, Passed, Writes}
 use Rattle.counts.specs.declared.Tally.{Tally}
 use Rattle.counts.proofs.Left.{Left, left_last, left_end}
 use Rattle.edit.specs.Pens.{pen_state, Emits, Written, Standing, Behind, WentOn, PutsNew}
-use Rattle.edit.specs.Runs.{flaw_verdict, edited_at, CutAt, Spliced, FrontStands, pen_at, Changed, Writes, Edits}
-use Rattle.edit.specs.declared.Flaw.TheVariants.{Unflawed, At}
+use Rattle.edit.specs.Runs.{edited_at, CutAt, Spliced, FrontStands, pen_at, Changed, Edits}
 use Rattle.edit.specs.declared.Pen.{Pen}
 use Rattle.edit.specs.declared.Splice.{Splice}
 use Rattle.edit.specs.declared.Went.{Went}
@@ -135,9 +133,6 @@ module _ {file : List ℕ} {cut : Splice} {b b' : List ℕ} (K : CutAt file cut 
   pub back_records : (rest_of file cut.back.at (state_at cut.back b')).records ≡ drop behind R
   back_records = ap (λ (x : Result). x.records) (at_back behind cut.back b' C.behind)
 
-  pub few_first : first ≤ 16777216
-  few_first = omega (arith, C.all, C.few, K.opens.room.file_fits)
-
   pub front_low : cut.front.at ≤ 16777216
   front_low = omega (arith, C.before.inside.place_inside, K.opens.room.file_fits)
 
@@ -193,7 +188,7 @@ module _ {file : List ℕ} {cut : Splice} {b b' : List ℕ} (K : CutAt file cut 
         (sym (append_assoc H before_codes _) ∙ ap (λ (s : List ℕ). s ++ drop cut.front.at d) (sym e) ∙ take-append-drop cut.front.at d)
 
     pub left_first : (d : List ℕ) → FrontStands file cut.front.at d
-        → Left v8 x₀ cut.old.place d d (record { bytes = cut.front.at; records = first; fault = Good }) found (record { records = Y; verdict = Good })
+        → Left v8 x₀ cut.old.place d d (record { bytes = cut.front.at; records = first; fault = Ok tt }) found (record { records = Y; verdict = Good })
     unfolding edited
     left_first d f =
         let low = front_low in
@@ -262,7 +257,7 @@ module _ {file : List ℕ} {cut : Splice} {b b' : List ℕ} (K : CutAt file cut 
       now_left = left_written chain x₀ cut.old.place d (record { records = left_records; verdict = Good }) (rw all-is (left_first d f)) refl
 
       -- no record is left
-      pub ends_closed : w.left ≡ 0 → {d₃ : List ℕ} {r : Answer} → Finished v8 d₂ d₃ (closing w.pen.setting.style) w.pen.count r
+      pub ends_closed : w.left ≡ 0 → {d₃ : List ℕ} {r : Answered Done Refused} → Finished v8 d₂ d₃ (closing w.pen.setting.style) w.pen.count r
           → Rest v8 x₀ cut.old.place d d₃ r
       ends_closed e {d₃} {r} F =
           let none : left_records ≡ [] = none_left left_records (sym G.behind.counted ∙ e) in
@@ -273,7 +268,7 @@ module _ {file : List ℕ} {cut : Splice} {b b' : List ℕ} (K : CutAt file cut 
           none_left (y ∷ ys) q = absurd (omega (arith, q))
 
       -- the rest is as it was
-      pub ends_copied : (w.left ≡ 0 → ⊥) → {d₃ : List ℕ} {r : Answer}
+      pub ends_copied : (w.left ≡ 0 → ⊥) → {d₃ : List ℕ} {r : Answered Done Refused}
           → Finished v8 d₂ d₃ (drop w.place.at file)
           (record { bytes = w.pen.count.bytes; records = w.pen.count.records + w.left; fault = w.pen.count.fault }) r
           → Rest v8 x₀ cut.old.place d d₃ r
@@ -303,7 +298,7 @@ module _ {file : List ℕ} {cut : Splice} {b b' : List ℕ} (K : CutAt file cut 
     unfolding file_of
     file_after = refl
 
-    pub pass_spliced : (d e : List ℕ) (r : Answer) → Rest v8 x₀ cut.old.place (laid_if d 0 (take cut.front.at file)) e r → Passed v8 h x₀ d e r
+    pub pass_spliced : (d e : List ℕ) (r : Answered Done Refused) → Rest v8 x₀ cut.old.place (laid_if d 0 (take cut.front.at file)) e r → Passed v8 h x₀ d e r
     unfolding written_outcome filed_outcome
     pass_spliced d e r T =
         let F = take cut.front.at file in
@@ -333,7 +328,7 @@ module _ {file : List ℕ} {cut : Splice} {b b' : List ℕ} (K : CutAt file cut 
 
 -- ---- answers
 
-module _ (file : List ℕ) (old : Old) (O : OldOpens file old) (run : Run) (new d : List ℕ) where
+module _ (file : List ℕ) (old : Head) (O : OldOpens file old) (run : Run) (new d : List ℕ) where
   abbrev header : Header
   header = old_header file old
 
@@ -347,7 +342,7 @@ module _ (file : List ℕ) (old : Old) (O : OldOpens file old) (run : Run) (new 
   unfolding edit_outcome edit_result written_outcome filed_outcome
   outcome_refused k q e = rw (O.due, e)
 
-  pub edits_refused : (k q : ℕ) → verdict ≡ Refusal k q → Edits file run new d d (Refused k q)
+  pub edits_refused : (k q : ℕ) → verdict ≡ Refusal k q → Edits file run new d d (Err (record { number = k; place = q }))
   unfolding edit_buffer
   edits_refused k q e = let z = outcome_refused k q e in record { answer = sym z; buffer = rw z }
 
@@ -355,14 +350,14 @@ module _ (file : List ℕ) (old : Old) (O : OldOpens file old) (run : Run) (new 
   unfolding edit_verdict
   unread k q e = rw e
 
-  pub edits_unread : (k q : ℕ) → x.verdict ≡ Refusal k q → Edits file run new d d (Refused k q)
+  pub edits_unread : (k q : ℕ) → x.verdict ≡ Refusal k q → Edits file run new d d (Err (record { number = k; place = q }))
   edits_unread k q e = edits_refused k q (unread k q e)
 
   foreign : x.verdict ≡ Good → house_written file header x.records ≡ false → verdict ≡ Refusal 14 0
   unfolding edit_verdict house_verdict
   foreign g e = rw (g, pick_false Good (Refusal 14 0) e)
 
-  pub edits_foreign : x.verdict ≡ Good → house_written file header x.records ≡ false → Edits file run new d d (Refused 14 0)
+  pub edits_foreign : x.verdict ≡ Good → house_written file header x.records ≡ false → Edits file run new d d (Err (record { number = 14; place = 0 }))
   edits_foreign g e = edits_refused 14 0 (foreign g e)
 
   module _ (ours : House file old) where
@@ -374,7 +369,7 @@ module _ (file : List ℕ) (old : Old) (O : OldOpens file old) (run : Run) (new 
     unfolding edit_verdict run_verdict
     past n e l = rw (ours.readable, house_good, ← e, pick_true (Refusal 15 n) Good (lt-ltb n (run.first + run.count) l))
 
-    pub edits_past : (n : ℕ) → n ≡ length x.records → n < run.first + run.count → Edits file run new d d (Refused 15 n)
+    pub edits_past : (n : ℕ) → n ≡ length x.records → n < run.first + run.count → Edits file run new d d (Err (record { number = 15; place = n }))
     edits_past n e l = edits_refused 15 n (past n e l)
 
     module _ (inside : run.first + run.count ≤ length x.records) where
@@ -386,7 +381,7 @@ module _ (file : List ℕ) (old : Old) (O : OldOpens file old) (run : Run) (new 
       unfolding edit_verdict
       spoilt k q e = rw (ours.readable, house_good, run_good, ← e)
 
-      pub edits_flawed : (k q : ℕ) → Refusal k q ≡ (records_of sheet_version new).verdict → Edits file run new d d (Refused k q)
+      pub edits_flawed : (k q : ℕ) → Refusal k q ≡ (records_of sheet_version new).verdict → Edits file run new d d (Err (record { number = k; place = q }))
       edits_flawed k q e = edits_refused k q (spoilt k q e)
 
       module _ (well : (records_of sheet_version new).verdict ≡ Good) (y : Result)
@@ -395,7 +390,7 @@ module _ (file : List ℕ) (old : Old) (O : OldOpens file old) (run : Run) (new 
         unfolding edit_result edit_verdict
         result_is = rw (ours.readable, house_good, run_good, well) (sym is)
 
-        pub edits_written : (d' : List ℕ) (r : Answer) → Writes header y d d' r → Edits file run new d d' r
+        pub edits_written : (d' : List ℕ) (r : Answered Done Refused) → Writes v8 header y d d' r → Edits file run new d d' r
         unfolding edit_outcome edit_buffer
         edits_written d' r W = record { answer = W.answer ∙ rw (O.due, result_is); buffer = W.buffer ∙ rw (O.due, result_is, is) }
 
@@ -404,14 +399,14 @@ module _ {file : List ℕ} {cut : Splice} {b b' : List ℕ} (K : CutAt file cut 
   run_inside : cut.run.first + cut.run.count ≤ length (old_result file cut.old).records
   run_inside = omega (arith, K.cuts.all)
 
-  pub house_flawed : (n : ℕ) → flaw_verdict (At n) ≡ (records_of sheet_version new).verdict → Edits file cut.run new d d (Refused 12 n)
-  house_flawed n e = edits_flawed file cut.old K.opens cut.run new d K.cuts.house run_inside 12 n e
+  pub house_flawed : (r : Refused) → Refusal r.number r.place ≡ (records_of sheet_version new).verdict → Edits file cut.run new d d (Err r)
+  house_flawed r e = edits_flawed file cut.old K.opens cut.run new d K.cuts.house run_inside r.number r.place e
 
-  pub house_spliced : flaw_verdict Unflawed ≡ (records_of sheet_version new).verdict → Spliced file cut new b b'
+  pub house_spliced : Good ≡ (records_of sheet_version new).verdict → Spliced file cut new b b'
   house_spliced e = record { at = K; well_formed = sym e }
 
-  pub house_written_lem : flaw_verdict Unflawed ≡ (records_of sheet_version new).verdict → (d' : List ℕ) (r : Answer)
-      → Writes (old_header file cut.old) (edited_at file cut new) d d' r → Edits file cut.run new d d' r
+  pub house_written_lem : Good ≡ (records_of sheet_version new).verdict → (d' : List ℕ) (r : Answered Done Refused)
+      → Writes v8 (old_header file cut.old) (edited_at file cut new) d d' r → Edits file cut.run new d d' r
   house_written_lem e d' r W = edits_written file cut.old K.opens cut.run new d K.cuts.house run_inside (sym e) (edited_at file cut new) refl d' r W
 
 -- a refused opening

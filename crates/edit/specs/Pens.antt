@@ -1,16 +1,13 @@
 -- Records written one after another from a pen's state. Assumes nothing.
-use Rattle.std.specs.Prelude.{ℕ, ◌+◌, ◌≤◌, ◌<◌, ◌≡◌, Bool, true, false, ◌&&◌, List, [], ◌∷◌, eqb, length, take, drop}
-use Rattle.format.specs.Bytes.{same}
+use Rattle.format.specs.Refusals.{Good}
+use Rattle.std.specs.Prelude.{ℕ, ◌+◌, ◌≤◌, ◌<◌, ◌≡◌, List, [], ◌∷◌, length, take, drop}
 use Rattle.format.specs.Label.{label_limit}
 use Rattle.format.specs.State.{State, Record}
 use Rattle.format.specs.Sheet.{sheet_version, records_of}
 use Rattle.format.specs.Fields.{state_of}
-use Rattle.format.specs.Codes.{codes_limit, same_date, stands_at, after}
+use Rattle.format.specs.Codes.{codes_limit, after}
 use Rattle.format.specs.Writing.{v8}
 use Rattle.format.specs.Header.{file_limit}
-use Rattle.format.specs.declared.Position.{Position}
-use Rattle.format.specs.declared.Position.TheVariants.{Unset, Stands}
-use Rattle.format.specs.declared.Verdict.TheVariants.{Good}
 use Rattle.scan.specs.Places.{state_at}
 use Rattle.scan.specs.declared.Place.{Place}
 use Rattle.judge.specs.Walking.{rest_of, rules_from, Ready}
@@ -34,19 +31,6 @@ pub record Emits (p : Pen) (b : List ℕ) (r : Record) (d d' : List ℕ) (p' : P
   pub adds : Adds v8 (pen_state p b) r d d' p.count p'.count
   pub state : pen_state p' b' ≡ after (pen_state p b) r
   pub fits : PenFits p' b'
-
--- ---- the same state
-
-unfoldable pub same_position : Position → Position → Bool
-same_position Unset Unset = true
-same_position Unset (Stands q) = false
-same_position (Stands p) q = stands_at q p
-
--- style, date, position and label are all that a record finds
-unfoldable pub same_state : State → State → Bool
-same_state a b =
-    eqb a.setting.style b.setting.style
-    && (same_date a.setting.date b.setting.date && (same_position a.setting.position b.setting.position && same a.label b.label))
 
 -- ---- records one after another
 

@@ -1,27 +1,17 @@
 -- An edit of an old file, from its parts to the answer. Assumes nothing.
-use Rattle.std.specs.Prelude.{ℕ, ◌≤◌, ◌≡◌, List, length, take}
-use Rattle.format.specs.Header.{Header}
+use Rattle.std.specs.Prelude.{ℕ, ◌≤◌, ◌≡◌, List, length, take, Result as Answered, Ok}
 use Rattle.format.specs.Sheet.{sheet_version, records_of}
-use Rattle.format.specs.Refusals.{Result, buffer_of}
-use Rattle.format.specs.declared.Verdict.{Verdict}
-use Rattle.format.specs.declared.Verdict.TheVariants.{Good, Refusal}
-use Rattle.format.specs.Writing.{v8, file_of, written_outcome}
+use Rattle.format.specs.Refusals.{Result, Good}
 use Rattle.format.specs.Editing.{edited, edit_outcome, edit_buffer}
 use Rattle.format.specs.Answers.{answer_of}
-use Rattle.format.specs.declared.Answer.{Answer}
+use Rattle.format.specs.declared.Done.{Done}
+use Rattle.format.specs.declared.Refusal.{Refusal}
 use Rattle.judge.specs.Judging.{OldOpens, old_result, Cuts}
 use Rattle.judge.specs.declared.Run.{Run}
 use Rattle.edit.specs.Pens.{PutsNew, WentOn}
 use Rattle.edit.specs.declared.Pen.{Pen}
 use Rattle.edit.specs.declared.Went.{Went}
 use Rattle.edit.specs.declared.Splice.{Splice}
-use Rattle.edit.specs.declared.Flaw.{Flaw}
-use Rattle.edit.specs.declared.Flaw.TheVariants.{Unflawed, At}
-
--- 12, with the record's number within the replacement as its place
-abbrev pub flaw_verdict : Flaw → Verdict
-flaw_verdict Unflawed = Good
-flaw_verdict (At n) = Refusal 12 n
 
 -- the records of the edited sheet, of a replacement with nothing wrong in it
 abbrev pub edited_at : List ℕ → Splice → List ℕ → Result
@@ -46,7 +36,7 @@ FrontStands file at d = at ≤ length d → take at d ≡ take at file
 abbrev pub pen_at : Splice → Pen
 pen_at cut =
     record {
-      count = record { bytes = cut.front.at; records = cut.run.first; fault = Good };
+      count = record { bytes = cut.front.at; records = cut.run.first; fault = Ok tt };
       setting = cut.front.setting;
       len = cut.front.len;
     }
@@ -60,12 +50,7 @@ pub record Changed (file : List ℕ) (cut : Splice) (new l b d : List ℕ) (w : 
   pub puts : PutsNew new (pen_at cut) l d pen label between
   pub went : WentOn file (record { place = cut.back; pen = pen; left = cut.rest }) b label between w b' l' d'
 
--- a header and records are written into d, which leaves d'
-pub record Writes (h : Header) (x : Result) (d d' : List ℕ) (r : Answer) : Type 0 where
-  pub answer : answer_of r ≡ written_outcome v8 h x (length d)
-  pub buffer : d' ≡ buffer_of (written_outcome v8 h x (length d)) (file_of v8 h x.records) d
-
 -- the answer and the buffer are those of the edit
-pub record Edits (file : List ℕ) (run : Run) (new d d' : List ℕ) (r : Answer) : Type 0 where
+pub record Edits (file : List ℕ) (run : Run) (new d d' : List ℕ) (r : Answered Done Refusal) : Type 0 where
   pub answer : answer_of r ≡ edit_outcome file run.first run.count new (length d)
   pub buffer : d' ≡ edit_buffer file run.first run.count new d

@@ -2,10 +2,12 @@
 // bytes before the run, the replacement's codes, the records behind the run written anew
 // until reading the old file and writing the new one are in the same state, and from
 // there on the old bytes.
+// A label's bytes and its length stand apart: C lends the bytes and has the length in its stand.
 #![tactic(auto)]
 
-ghost use Rattle.std.specs.Prelude.{◌≡◌, ◌+◌, ◌≤◌, length, take, drop};
-ghost use Rattle.format.specs.Answers.{answer_of};
+ghost use Rattle.format.specs.Refusals.{Good};
+ghost use Rattle.std.specs.Prelude.{◌≡◌, ◌↔◌, ◌+◌, ◌≤◌, IsTrue, length, take, drop};
+ghost use Rattle.format.specs.Answers.{answer_of, verdict_of};
 ghost use Rattle.format.specs.Codes.{codes_limit, closing};
 ghost use Rattle.format.specs.Editing.{edit_outcome, edit_buffer};
 ghost use Rattle.format.specs.Fields.{record_of, state_of};
@@ -14,18 +16,17 @@ ghost use Rattle.format.specs.Label.{label_limit};
 ghost use Rattle.format.specs.Sheet.{sheet_version, records_of};
 ghost use Rattle.format.specs.WellFormed.{WellFormed};
 ghost use Rattle.format.specs.Writing.{v8};
-ghost use Rattle.format.specs.declared.Verdict.TheVariants.{Good};
 ghost use Rattle.scan.specs.Places.{state_at};
 ghost use Rattle.judge.specs.Judging.{old_header, OldOpens};
-ghost use Rattle.counts.specs.Tallies.{Fits, Adds, Finished, Rest, Passed};
+ghost use Rattle.counts.specs.Tallies.{Fits, Adds, Finished, Rest, Passed, Writes};
 ghost use Rattle.wire.specs.Laid.{laid_if};
-ghost use Rattle.edit.specs.Pens.{pen_state, same_position, same_state, PenFits, Emits, PutsNew, Behind, WentOn};
-ghost use Rattle.edit.specs.Runs.{edited_at, flaw_verdict, CutAt, Spliced, FrontStands, Changed, Writes, Edits};
+ghost use Rattle.edit.specs.Pens.{pen_state, PenFits, Emits, PutsNew, Behind, WentOn};
+ghost use Rattle.edit.specs.Runs.{edited_at, CutAt, Spliced, FrontStands, Changed, Edits};
 
 use counts::Tally;
-use format::{Answer, Fields, LABEL_LIMIT, Position, SHEET_VERSION, Setting, Verdict};
+use format::{Done, Fault, Fields, LABEL_LIMIT, Refusal, SHEET_VERSION, Setting};
 use header::Head;
-use judge::{Judged, Old, Run, Taken};
+use judge::{Judged, Run, Taken};
 use label::Label;
 use scan::Place;
 
@@ -50,18 +51,11 @@ struct Went {
 // it, with `rest` records to follow.
 #[derive(Clone, Copy)]
 struct Splice {
-    old: Old,
+    old: Head,
     run: Run,
     front: Place,
     back: Place,
     rest: usize,
-}
-
-// Whether a replacement has a bad record.
-#[derive(Clone, Copy)]
-enum Flaw {
-    Unflawed,
-    At { number: usize },
 }
 
 // ---- one record
@@ -77,11 +71,7 @@ fn put_after(
     requires { PenFits pen last.now × Fits v8 pen.count × WellFormed (record_of fields name.now) }
     ensures { Adds v8 (pen_state pen last.now) (record_of fields name.now) out.old out.new pen.count result }
 {
-    let before = &last[..];
-    let len = pen.len;
-    let count = pen.count;
-    let setting = pen.setting;
-    counts::put_next(out, count, setting, &before[..len], name, fields)
+    counts::put_next(out, pen.count, pen.setting, &last[..pen.len], name, fields)
 }
 
 // One record more, and what it leaves.
@@ -95,58 +85,28 @@ fn put_one(
     requires { PenFits pen last.old × Fits v8 pen.count × WellFormed (record_of fields name.now) × (length name.now ≤ label_limit) }
     ensures { Emits pen last.old (record_of fields name.now) out.old out.new result last.new }
 {
-    let old = pen.len;
-    let setting = pen.setting;
     let count = put_after(out, pen, last, name, fields);
-    let len = scan::keep_label(last, old, name, fields);
     Pen {
         count,
-        setting: counts::setting_after(setting, fields),
-        len,
+        setting: counts::setting_after(pen.setting, fields),
+        len: scan::keep_label(last, pen.len, name, fields),
     }
 }
 
 // ---- the records behind the run
 
-// Whether both positions are unset, or are one place.
-fn same_position(a: Position, b: Position) -> bool
-    ensures { result ≡ same_position a b }
-{
-    match a {
-        Position::Unset => match b {
-            Position::Unset => true,
-            Position::Stands { point: _ } => false,
-        },
-        Position::Stands { point } => codes::stands_at(b, point),
-    }
-}
-
 // Whether reading the old file and writing the new one are in the same state: style,
 // date, position and label are all that a record finds.
 fn level(place: Place, name: &[u8; LABEL_LIMIT], pen: Pen, last: &[u8; LABEL_LIMIT]) -> bool
     requires { (place.len ≤ label_limit) × (length name.now ≡ label_limit) × PenFits pen last.now }
-    ensures { result ≡ same_state (state_at place name.now) (pen_state pen last.now) }
+    ensures { IsTrue result ↔ (state_at place name.now ≡ pen_state pen last.now) }
 {
     let read = place.setting;
     let written = pen.setting;
-    let old_date = read.date;
-    let date = written.date;
-    let old_position = read.position;
-    let position = written.position;
-    if read.style != written.style {
-        return false;
-    }
-    if !codes::same_date(old_date, date) {
-        return false;
-    }
-    if !same_position(old_position, position) {
-        return false;
-    }
-    let own = &name[..];
-    let other = &last[..];
-    let n = place.len;
-    let m = pen.len;
-    wire::same_bytes(&own[..n], &other[..m])
+    read.style == written.style
+        && read.date == written.date
+        && read.position == written.position
+        && name[..place.len] == last[..pen.len]
 }
 
 // The records behind the run, written anew until the states are the same.
@@ -164,22 +124,23 @@ fn put_behind(
     let mut spare = label::blank();
     let mut place = from.place;
     let mut pen = from.pen;
-    let mut left = from.left;
-    while 0 < left {
+    for done in 0..from.left {
+        let left = from.left - done;
         if level(place, name, pen, last) {
             return Went { place, pen, left };
         }
-        let taken = judge::take_record(file, place, name, &mut spare.bytes, &mut room);
+        let taken = judge::take_record(file, place, name, &mut spare.bytes, &mut room).unwrap();
         let Taken::Record { place: to, fields } = taken else {
-            return Went { place, pen, left };
+            unreachable!()
         };
-        let n = to.len;
-        let own = &name[..];
-        pen = put_one(out, pen, last, &own[..n], fields);
+        pen = put_one(out, pen, last, &name[..to.len], fields);
         place = to;
-        left -= 1;
     }
-    Went { place, pen, left }
+    Went {
+        place,
+        pen,
+        left: 0,
+    }
 }
 
 // ---- the replacement
@@ -191,39 +152,32 @@ fn put_new(new: &[u8], out: &mut [u8], pen: Pen, last: &mut [u8; LABEL_LIMIT]) -
 {
     let mut at: usize = 0;
     let mut next = pen;
+    // Records differ in size: each turn moves the place on by its own record.
     while at < new.len() {
-        let entry = sheet::read_entry(&new[at..], SHEET_VERSION);
-        let sheet::Entry::Whole { size, fields, from } = entry else {
-            return next;
-        };
-        let name = at + from;
-        let end = at + size;
-        next = put_one(out, next, last, &new[name..end], fields);
+        let entry = sheet::read_entry(&new[at..], SHEET_VERSION).unwrap();
+        let name = at + entry.from;
+        let end = at + entry.size;
+        next = put_one(out, next, last, &new[name..end], entry.fields);
         at = end;
     }
     next
 }
 
-// The first bad record of a replacement.
-fn first_flaw(new: &[u8]) -> Flaw
-    ensures { flaw_verdict result ≡ (records_of sheet_version new.now).verdict }
+// Refuses a replacement with 12 at its first bad record.
+fn first_flaw(new: &[u8]) -> Result<(), Refusal>
+    ensures { verdict_of result ≡ (records_of sheet_version new.now).verdict }
 {
     let mut at: usize = 0;
     let mut number: usize = 0;
+    // The same: the place moves on by each record's own size.
     while at < new.len() {
-        let entry = sheet::read_entry(&new[at..], SHEET_VERSION);
-        let sheet::Entry::Whole {
-            size,
-            fields: _,
-            from: _,
-        } = entry
-        else {
-            return Flaw::At { number };
+        let Some(entry) = sheet::read_entry(&new[at..], SHEET_VERSION) else {
+            return Err(Fault::BrokenLayout.at(number));
         };
         number += 1;
-        at += size;
+        at += entry.size;
     }
-    Flaw::Unflawed
+    Ok(())
 }
 
 // ---- the edited file
@@ -242,28 +196,36 @@ fn lay(out: &mut [u8], at: usize, s: &[u8])
 
 // The end of the edited file: the old bytes from `at` on, which hold `left` records, and
 // the answer, for room enough.
-fn put_tail(file: &[u8], at: usize, out: &mut [u8], count: Tally, left: usize) -> Answer
+fn put_tail(
+    file: &[u8],
+    at: usize,
+    out: &mut [u8],
+    count: Tally,
+    left: usize,
+) -> Result<Done, Refusal>
     requires { (at ≤ length file.now) × (length file.now ≤ file_limit) × (count.bytes ≤ file_limit + codes_limit) × (count.records + left ≤ 18446744073709551615) }
     ensures { Finished v8 out.old out.new (drop at file.now) (record { bytes = count.bytes; records = count.records + left; fault = count.fault }) result }
 {
-    let total = count.bytes;
-    let fault = count.fault;
     let tail = &file[at..];
-    let bytes = total + tail.len();
+    let bytes = count.bytes + tail.len();
     let records = count.records + left;
-    lay(out, total, tail);
-    counts::settle(bytes, records, fault, 8)
+    lay(out, count.bytes, tail);
+    counts::settle(bytes, records, count.fault, 8)
 }
 
 // The same where no record is left: the closing codes.
-fn close(out: &mut [u8], pen: Pen) -> Answer
+fn close(out: &mut [u8], pen: Pen) -> Result<Done, Refusal>
     requires { Fits v8 pen.count }
     ensures { Finished v8 out.old out.new (closing pen.setting.style) pen.count result }
 {
-    let setting = pen.setting;
     let count = pen.count;
-    let fault = count.fault;
-    counts::finish(out, setting.style, count.bytes, count.records, fault)
+    counts::finish(
+        out,
+        pen.setting.style,
+        count.bytes,
+        count.records,
+        count.fault,
+    )
 }
 
 // The replacement behind the old bytes before the run, and the records behind the run up
@@ -281,22 +243,19 @@ fn put_changed(
     ensures { Changed file.now cut new.now last.old name.old out.old result last.new name.new out.new }
 {
     let front = cut.front;
-    let run = cut.run;
     let count = Tally {
         bytes: front.at,
-        records: run.first,
-        fault: Verdict::Good,
+        records: cut.run.first,
+        fault: Ok(()),
     };
-    let setting = front.setting;
     let pen = Pen {
         count,
-        setting,
+        setting: front.setting,
         len: front.len,
     };
     let replaced = put_new(new, out, pen, last);
-    let back = cut.back;
     let from = Went {
-        place: back,
+        place: cut.back,
         pen: replaced,
         left: cut.rest,
     };
@@ -311,21 +270,17 @@ fn put_edited(
     out: &mut [u8],
     before: Label,
     behind: Label,
-) -> Answer
+) -> Result<Done, Refusal>
     requires { Spliced file.now cut new.now before.bytes behind.bytes × FrontStands file.now cut.front.at out.old }
     ensures { Rest v8 (edited_at file.now cut new.now) cut.old.place out.old out.new result }
 {
     let mut last = before;
     let mut name = behind;
     let met = put_changed(file, cut, new, out, &mut last.bytes, &mut name.bytes);
-    let left = met.left;
-    let written = met.pen;
-    if left == 0 {
-        return close(out, written);
+    if met.left == 0 {
+        return close(out, met.pen);
     }
-    let place = met.place;
-    let total = written.count;
-    put_tail(file, place.at, out, total, left)
+    put_tail(file, met.place.at, out, met.pen.count, met.left)
 }
 
 // A pass over the edited file: the answer, for room enough, and each piece written where
@@ -337,13 +292,11 @@ fn pass(
     out: &mut [u8],
     before: Label,
     behind: Label,
-) -> Answer
+) -> Result<Done, Refusal>
     requires { Spliced file.now cut new.now before.bytes behind.bytes }
     ensures { Passed v8 (old_header file.now cut.old) (edited_at file.now cut new.now) out.old out.new result }
 {
-    let front = cut.front;
-    let end = front.at;
-    lay(out, 0, &file[..end]);
+    lay(out, 0, &file[..cut.front.at]);
     put_edited(file, cut, new, out, before, behind)
 }
 
@@ -355,32 +308,14 @@ fn write_edited(
     out: &mut [u8],
     before: Label,
     behind: Label,
-) -> Answer
+) -> Result<Done, Refusal>
     requires { Spliced file.now cut new.now before.bytes behind.bytes }
-    ensures { Writes (old_header file.now cut.old) (edited_at file.now cut new.now) out.old out.new result }
+    ensures { Writes v8 (old_header file.now cut.old) (edited_at file.now cut new.now) out.old out.new result }
 {
-    let answer = pass(file, cut, new, &mut out[..0], before, behind);
-    match answer {
-        Answer::Refused { number, place } => Answer::Refused { number, place },
-        Answer::Done {
-            bytes,
-            records,
-            version,
-        } => {
-            if out.len() < bytes {
-                return Answer::Refused {
-                    number: 11,
-                    place: bytes,
-                };
-            }
-            pass(file, cut, new, &mut out[..bytes], before, behind);
-            Answer::Done {
-                bytes,
-                records,
-                version,
-            }
-        }
-    }
+    counts::in_two_passes(
+        out,
+        |room: &mut [u8]| pass(file, cut, new, room, before, behind),
+    )
 }
 
 // The edit of a house-written file: 12 of the replacement comes before the writer's
@@ -392,38 +327,31 @@ fn edit_house(
     out: &mut [u8],
     before: Label,
     behind: Label,
-) -> Answer
+) -> Result<Done, Refusal>
     requires { CutAt file.now cut before.bytes behind.bytes }
     ensures { Edits file.now cut.run new.now out.old out.new result }
 {
-    let flaw = first_flaw(new);
-    match flaw {
-        Flaw::At { number } => Answer::Refused {
-            number: 12,
-            place: number,
-        },
-        Flaw::Unflawed => write_edited(file, cut, new, out, before, behind),
-    }
+    first_flaw(new)?;
+    write_edited(file, cut, new, out, before, behind)
 }
 
 // The edit of a file that was opened: the reader's refusals, 14 and 15 come first.
-fn edit_opened(file: &[u8], old: Old, run: Run, new: &[u8], out: &mut [u8]) -> Answer
+fn edit_opened(
+    file: &[u8],
+    old: Head,
+    run: Run,
+    new: &[u8],
+    out: &mut [u8],
+) -> Result<Done, Refusal>
     requires { OldOpens file.now old }
     ensures { Edits file.now run new.now out.old out.new result }
 {
     let mut before = label::blank();
     let mut behind = label::blank();
-    let judged = judge::judge(file, old, run, &mut before.bytes, &mut behind.bytes);
+    let judged = judge::judge(file, old, run, &mut before.bytes, &mut behind.bytes)?;
     match judged {
-        Judged::Refused { number, place } => Answer::Refused { number, place },
-        Judged::Foreign => Answer::Refused {
-            number: 14,
-            place: 0,
-        },
-        Judged::Short { records } => Answer::Refused {
-            number: 15,
-            place: records,
-        },
+        Judged::Foreign => Err(Fault::NotHouseWritten.at(0)),
+        Judged::Short { records } => Err(Fault::PastRecords.at(records)),
         Judged::Cut { front, back, rest } => {
             let cut = Splice {
                 old,
@@ -439,28 +367,16 @@ fn edit_opened(file: &[u8], old: Old, run: Run, new: &[u8], out: &mut [u8]) -> A
 
 // Replaces `count` records of a house-written file, from `first` on, by those of `new`,
 // and writes the edited file to the front of out.
-pub fn edit(file: &[u8], first: usize, count: usize, new: &[u8], out: &mut [u8]) -> Answer
+pub fn edit(
+    file: &[u8],
+    first: usize,
+    count: usize,
+    new: &[u8],
+    out: &mut [u8],
+) -> Result<Done, Refusal>
     ensures answer { answer_of result ≡ edit_outcome file.now first count new.now (length out.old) }
     ensures file { out.new ≡ edit_buffer file.now first count new.now out.old }
 {
-    let head = header::opening(file);
-    match head {
-        Head::Shut { number, place } => Answer::Refused { number, place },
-        Head::Whole {
-            version,
-            place,
-            extended,
-            title,
-            time,
-        } => {
-            let old = Old {
-                version,
-                place,
-                extended,
-                title,
-                time,
-            };
-            edit_opened(file, old, Run { first, count }, new, out)
-        }
-    }
+    let head = header::opening(file)?;
+    edit_opened(file, head, Run { first, count }, new, out)
 }

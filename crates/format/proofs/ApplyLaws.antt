@@ -1,5 +1,6 @@
 -- Laws of what an item does to the state: a style, a date, an emptied label and a leg, by what its numbers say, and an item with a label by
 -- its label step. Assumes nothing.
+use Rattle.std.specs.Prelude.{Option, None, Some}
 use Prim.Native.Nat.{ℕ, ◌≤◌, ◌<◌}
 use mathlib.Core.Path.{◌≡◌}
 use mathlib.Core.List.{List, []}
@@ -11,8 +12,6 @@ use Rattle.format.specs.declared.Cut.{Cut}
 use Rattle.format.specs.Items.{Stop, Style, Date}
 use Rattle.format.specs.State.{State, leg, named, styled, dated_by, moved, Next, bad, end, on, made, date_of, bad_dates, on_label, leg_from, apply}
 use Rattle.format.specs.declared.Point.{Point}
-use Rattle.format.specs.declared.Position.{Position}
-use Rattle.format.specs.declared.Position.TheVariants.{Unset, Stands}
 use Rattle.format.proofs.LabelLaws.{ShortLabelled, label_bound}
 
 module _ (st : State) (n : ℕ) where
@@ -58,10 +57,10 @@ module _ (st : State) (n : ℕ) where
   -- ---- a leg, once it has its label
 
   module _ (flags : ℕ) (to : Point) (l : List ℕ) where
-    pub leg_unset : st.setting.position ≡ Unset → leg_from st.setting.position n st flags to l ≡ bad 8
+    pub leg_unset : st.setting.position ≡ None → leg_from st.setting.position n st flags to l ≡ bad 8
     leg_unset e = rw e
 
-    pub leg_set : {from : Point} → st.setting.position ≡ Stands from → leg_from st.setting.position n st flags to l
+    pub leg_set : {from : Point} → st.setting.position ≡ Some from → leg_from st.setting.position n st flags to l
         ≡ made n (leg (record { flags = flags; style = st.setting.style; date = st.setting.date; from = from; to = to }) l) (moved to (named l st))
     leg_set e = rw e
 
@@ -78,9 +77,9 @@ module _ (P : Next → Type 0) where
       → P (on_label (label_step l cut added) go)
   label_case l cut added go p q f = on_label_lem (label_step l cut added) go (label_bound l cut added) p q f
 
-  pub leg_case : (p : Position) (n : ℕ) (st : State) (flags : ℕ) (to : Point) (l : List ℕ) → P (bad 8)
+  pub leg_case : (p : Option Point) (n : ℕ) (st : State) (flags : ℕ) (to : Point) (l : List ℕ) → P (bad 8)
       → ((from : Point) → P (made n (leg (record { flags = flags; style = st.setting.style; date = st.setting.date; from = from; to = to }) l)
       (moved to (named l st))))
       → P (leg_from p n st flags to l)
-  leg_case Unset n st flags to l z f = z
-  leg_case (Stands from) n st flags to l z f = f from
+  leg_case None n st flags to l z f = z
+  leg_case (Some from) n st flags to l z f = f from

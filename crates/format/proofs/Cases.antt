@@ -16,6 +16,8 @@ use Rattle.format.specs.Sheet.{layout, layout_all, header_layout, sheet_of}
 use Rattle.format.specs.Reading.{next, ended, read_step, run, items_of, read_outcome, read_buffer}
 use Rattle.format.specs.Refusals.{Outcome, accepted, refused}
 use Rattle.format.specs.Stepping.{Step, Gathered}
+use Rattle.std.specs.Prelude.{Result}
+use Rattle.format.specs.declared.Refusal.{Refusal}
 use Rattle.format.specs.declared.Stamp.{Stamp}
 use Rattle.format.specs.Codes.{common, length_codes, part_codes, label_codes, kept_bytes, same_date, date_if, fits_short, all_short, station_codes}
 use Rattle.format.specs.Codes.{section_codes, codes}
@@ -40,7 +42,7 @@ pub data Shown : Type 0 where
   answer : Outcome → Shown
   step : Step → Shown
   stepping : Gathered → Shown
-  stamp : Stamp → Shown
+  stamp : Result Stamp Refusal → Shown
   -- anything else
   other : Shown
 

@@ -13,9 +13,7 @@ use Rattle.format.specs.Bytes.{pick, over, Bytes}
 use Rattle.format.specs.Header.{Header, Opening, shut, opened, opening_of, file_limit}
 use Rattle.format.specs.State.{State, start, Record, Next, bad, end, on, made}
 use Rattle.format.specs.Sheet.{sheet_version, sheet_of, sheet_result, front_header}
-use Rattle.format.specs.Refusals.{reader_number, Result, stop, Outcome, accepted, refused, outcome_of, buffer_of}
-use Rattle.format.specs.declared.Verdict.{Verdict}
-use Rattle.format.specs.declared.Verdict.TheVariants.{Good, Refusal}
+use Rattle.format.specs.Refusals.{reader_number, Result, stop, Outcome, accepted, refused, outcome_of, buffer_of, Verdict, Good, Refusal}
 use Rattle.format.specs.Reading.{next, ended, after_item, read_step, run, items_of, read_from, read_outcome, read_buffer}
 use Rattle.format.specs.Writing.{v8, file_of, size_verdict, filed_outcome, written_outcome, write_outcome, write_buffer}
 use Rattle.format.specs.Editing.{edit_outcome}

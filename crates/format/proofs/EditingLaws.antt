@@ -14,8 +14,7 @@ use Rattle.format.specs.Header.{Header, opened, opening_of}
 use Rattle.format.specs.Label.{label_limit}
 use Rattle.format.specs.State.{State, start, Record, on, made}
 use Rattle.format.specs.Sheet.{sheet_version, records_of, sheet_of, sheet_result, front_header}
-use Rattle.format.specs.Refusals.{Result, accepted}
-use Rattle.format.specs.declared.Verdict.TheVariants.{Good}
+use Rattle.format.specs.Refusals.{Result, accepted, Good}
 use Rattle.format.specs.WellFormed.{AllWellFormed}
 use Rattle.format.specs.Reading.{next, Reached, begins, goes, makes, items_of}
 use Rattle.format.specs.Writing.{v8, codes_all, after_all, encode_all, file_of, records_verdict, written_outcome, write_outcome, write_buffer}

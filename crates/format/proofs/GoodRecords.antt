@@ -1,5 +1,6 @@
 -- What reading makes of bytes can be written: every record that the items of a file make, in every version, is well-formed, and none has a
 -- style that cannot be said. Assumes nothing.
+use Rattle.std.specs.Prelude.{Option, None, Some}
 use Prim.Native.Nat.{ℕ, ◌+◌, ◌-◌, ◌%◌, ◌≤◌, ◌<◌}
 use mathlib.Core.Path.{◌≡◌, refl, sym, ◌∙◌}
 use mathlib.Core.List.{List, []}
@@ -12,23 +13,19 @@ use Rattle.format.specs.Bytes.{pick, le16, le32, widened, Bytes}
 use Rattle.format.specs.Label.{label_step, label_limit}
 use Rattle.format.specs.declared.Cut.{Cut}
 use Rattle.format.specs.declared.Cut.TheVariants.{Empty, Back}
-use Rattle.format.specs.Items.{point_of, dimensions_of, traverse_of, Item, Stop, Shorten, Style, Move, NoDate, Date, Error, Xsect, Label, Line}
+use Rattle.format.specs.Items.{point_of, dimensions_of, traverse_of, Item, Stop, Shorten, Style, Move, NoDate, Date, Error, Xsect, Label, Line, numbers}
 use Rattle.format.specs.Items.{Decoded, faulty, whole, sized, behind_code, old_part, new_part, labelled_item, station_item, line_item, section_item}
 use Rattle.format.specs.Items.{move_item, error_item, day_item, span_item, days_item, seconds_item, two_seconds_item, old_date_item, v7_date_item}
 use Rattle.format.specs.Items.{old_middle_item, old_low_item, old_high_item, new_date_item, new_low_item, new_high_item, item_of}
 use Rattle.format.specs.declared.LabelPart.{LabelPart}
-use Rattle.format.specs.declared.LabelPart.TheVariants.{Unfinished, Numbers}
 use Rattle.format.specs.State.{State, start, named, Record, leg, station, section, error, Next, bad, end, on, made, bad_dates, date_of, on_label}
 use Rattle.format.specs.State.{leg_from, apply, next_of}
-use Rattle.format.specs.Refusals.{Result, stop}
-use Rattle.format.specs.declared.Verdict.TheVariants.{Good, Refusal}
+use Rattle.format.specs.Refusals.{Result, stop, Good, Refusal}
 use Rattle.format.specs.WellFormed.{GoodPoint, GoodDimensions, GoodTraverse, GoodDated, WellFormed, AllWellFormed}
 use Rattle.format.specs.Reading.{next, after_item, read_step, run, items_of}
 use Rattle.format.specs.Writing.{v8, records_verdict}
 use Rattle.format.specs.Codes.{after, unsayable}
 use Rattle.format.specs.declared.Point.{Point}
-use Rattle.format.specs.declared.Position.{Position}
-use Rattle.format.specs.declared.Position.TheVariants.{Unset, Stands}
 use Rattle.format.proofs.Basics.{pick_case, neither}
 use Rattle.format.proofs.IterateLaws.{iter_ind}
 use Rattle.format.proofs.ApplyLaws.{label_case, leg_case}
@@ -98,23 +95,23 @@ behind_good : (x : Decoded) → GoodDecoded x → GoodDecoded (behind_code x)
 behind_good (faulty k) g = tt
 behind_good (whole n it) g = g
 
-labelled_good : (p : LabelPart) (t : List ℕ) (n : ℕ) (make : ℕ → List ℕ → List ℕ → Item) → Bytes t
+labelled_good : (p : Option LabelPart) (t : List ℕ) (n : ℕ) (make : ℕ → List ℕ → List ℕ → Item) → Bytes t
     → ((d : ℕ) (added rest : List ℕ) → Bytes rest → GoodItem (make d added rest)) → GoodDecoded (labelled_item p t n make)
 unfolding labelled_item
-labelled_good Unfinished t n make b f = tt
-labelled_good (Numbers k d a) t n make b f =
-    let it = make d (take a (drop k t)) (drop (k + a) t) in
-    behind_good (sized (k + a + n) t it) (sized_good (k + a + n) t it (f d (take a (drop k t)) (drop (k + a) t) (bytes_drop t b (k + a))))
+labelled_good None t n make b f = tt
+labelled_good (Some q) t n make b f =
+    let it = make q.drop (take q.add (drop q.size t)) (drop (q.size + q.add) t) in
+    behind_good (sized (q.size + q.add + n) t it) (sized_good (q.size + q.add + n) t it (f q.drop (take q.add (drop q.size t)) (drop (q.size + q.add) t) (bytes_drop t b (q.size + q.add))))
 
-station_good : (flags : ℕ) (p : LabelPart) (t : List ℕ) → Bytes t → flags ≤ 127 → GoodDecoded (station_item flags p t)
+station_good : (flags : ℕ) (p : Option LabelPart) (t : List ℕ) → Bytes t → flags ≤ 127 → GoodDecoded (station_item flags p t)
 unfolding station_item
 station_good flags p t b h = labelled_good p t 12 _ b (λ d added rest c. (h, point_good rest c))
 
-line_good : (flags : ℕ) (p : LabelPart) (t : List ℕ) → Bytes t → flags ≤ 7 → GoodDecoded (line_item flags p t)
+line_good : (flags : ℕ) (p : Option LabelPart) (t : List ℕ) → Bytes t → flags ≤ 7 → GoodDecoded (line_item flags p t)
 unfolding line_item
 line_good flags p t b h = labelled_good p t 12 _ b (λ d added rest c. (h, point_good rest c))
 
-section_good : (code : ℕ) (p : LabelPart) (t : List ℕ) → Bytes t → GoodDecoded (section_item code p t)
+section_good : (code : ℕ) (p : Option LabelPart) (t : List ℕ) → Bytes t → GoodDecoded (section_item code p t)
 unfolding section_item
 section_good code p t b =
     let h : code % 2 ≤ 1 = omega arith in
@@ -192,7 +189,7 @@ module _ (t : List ℕ) (b : Bytes t) where
       pick_case GoodDecoded _ _ _ (λ e. tt) λ e.
       pick_case GoodDecoded _ _ _ (λ e. line_good (code - 0x40) (new_part t) t b (let k = ltb-true code 0x48 e in omega arith)) λ e.
       pick_case GoodDecoded _ _ _ (λ e. tt) λ e.
-      pick_case GoodDecoded _ _ _ (λ e. line_good (code - 0x60) (Numbers 0 0 0) t b (let k = ltb-true code 0x68 e in omega arith)) λ e.
+      pick_case GoodDecoded _ _ _ (λ e. line_good (code - 0x60) (numbers 0 0 0) t b (let k = ltb-true code 0x68 e in omega arith)) λ e.
       pick_case GoodDecoded _ _ _ (λ e. tt) λ e. station_good (code - 0x80) (new_part t) t b (omega arith)
 
 item_good : (version : ℕ) (s : List ℕ) → Bytes s → GoodDecoded (item_of version s)
@@ -209,9 +206,9 @@ item_good version s b =
 
 -- ---- what an item comes to
 
-abbrev pub GoodPosition : Position → Type 0
-GoodPosition Unset = Unit
-GoodPosition (Stands p) = GoodPoint p
+abbrev pub GoodPosition : Option Point → Type 0
+GoodPosition None = Unit
+GoodPosition (Some p) = GoodPoint p
 
 pub record GoodState (st : State) : Type 0 where
   pub label_short : length st.label ≤ label_limit
@@ -241,10 +238,10 @@ module _ (st : State) (n : ℕ) (g : GoodState st) where
       → GoodNext (on_label (label_step st.label cut added) go)
   good_label cut added go f = label_case GoodNext st.label cut added go tt tt f
 
-  leg_good : (p : Position) → GoodPosition p → (flags : ℕ) (to : Point) → flags ≤ 7 → GoodPoint to → (l : List ℕ) → length l ≤ label_limit
+  leg_good : (p : Option Point) → GoodPosition p → (flags : ℕ) (to : Point) → flags ≤ 7 → GoodPoint to → (l : List ℕ) → length l ≤ label_limit
       → GoodNext (leg_from p n st flags to l)
-  leg_good Unset q flags to hf hp l h = tt
-  leg_good (Stands from) q flags to hf hp l h = (
+  leg_good None q flags to hf hp l h = tt
+  leg_good (Some from) q flags to hf hp l h = (
     record { flags_fit = hf; style_fits = g.style_fits; date_fits = g.date_fits; from_fits = q; to_fits = hp; label_fits = h },
     record { label_short = h; style_fits = g.style_fits; date_fits = g.date_fits; position_fits = hp },
   )

@@ -1,4 +1,5 @@
 -- Laws of the label step: the label's bound, once for all versions, the label by what stays, and which dot a label is cut back to. Assumes nothing.
+use Rattle.std.specs.Prelude.{Option, Some, None}
 use Prim.Native.Nat.{ℕ, suc, ◌+◌, ◌-◌, ◌≤◌, ◌<◌}
 use mathlib.Core.Path.{◌≡◌, sym, ◌∙◌}
 use mathlib.Core.List.{List, [], ◌∷◌, ◌++◌}
@@ -10,8 +11,6 @@ use lib.Dec.{eqb}
 use borrow.Author.Tests.{ltb-true, ltb-false, lt-ltb, le-ltb, eqb-true, eqb-false, eq-eqb}
 use Rattle.format.specs.Bytes.{pick}
 use Rattle.format.specs.Label.{dots, dot_from, kept_to_dot, kept_of, Labelled, too_short, too_long, labelled, appended, label_step, label_limit}
-use Rattle.format.specs.declared.Kept.{Kept}
-use Rattle.format.specs.declared.Kept.TheVariants.{Keeps, Lacks}
 use Rattle.format.specs.declared.Cut.{Cut}
 use Rattle.format.specs.declared.Cut.TheVariants.{Back}
 use Rattle.format.proofs.Basics.{pick_case, both}
@@ -23,12 +22,12 @@ ShortLabelled too_short = Unit
 ShortLabelled too_long = Unit
 ShortLabelled (labelled l) = length l ≤ label_limit
 
-short_appended : (x : Kept) (l added : List ℕ) → ShortLabelled (appended x l added)
-short_appended (Keeps k) l added =
+short_appended : (x : Option ℕ) (l added : List ℕ) → ShortLabelled (appended x l added)
+short_appended (Some k) l added =
     pick_case ShortLabelled _ _ _ (λ e. tt) λ e.
     let z : k + length added ≤ label_limit = ltb-false _ _ e in
     simp (length-append, length-take) (omega arith)
-short_appended Lacks l added = tt
+short_appended None l added = tt
 
 -- whatever the version and the item, a label that the step gives has at most 4,096 bytes
 pub label_bound : (l : List ℕ) (cut : Cut) (added : List ℕ) → ShortLabelled (label_step l cut added)
@@ -38,11 +37,11 @@ label_bound l cut added = short_appended (kept_of l cut) l added
 -- ---- the label after a step, by what stays of the one before
 
 module _ (l : List ℕ) (cut : Cut) (added : List ℕ) where
-  pub step_short : kept_of l cut ≡ Lacks → label_step l cut added ≡ too_short
+  pub step_short : kept_of l cut ≡ None → label_step l cut added ≡ too_short
   unfolding label_step
   step_short e = rw e
 
-  module _ (k : ℕ) (e : kept_of l cut ≡ Keeps k) where
+  module _ (k : ℕ) (e : kept_of l cut ≡ Some k) where
     pub step_long : label_limit < k + length added → label_step l cut added ≡ too_long
     unfolding label_step pick
     step_long h = rw e (simp (lt-ltb _ _ h))
@@ -53,11 +52,11 @@ module _ (l : List ℕ) (cut : Cut) (added : List ℕ) where
 
 -- "D bytes to drop"
 module _ (l : List ℕ) (d : ℕ) where
-  pub back_lacks : length l < d → kept_of l (Back d) ≡ Lacks
+  pub back_lacks : length l < d → kept_of l (Back d) ≡ None
   unfolding pick
   back_lacks h = simp (lt-ltb _ _ h)
 
-  pub back_keeps : d ≤ length l → kept_of l (Back d) ≡ Keeps (length l - d)
+  pub back_keeps : d ≤ length l → kept_of l (Back d) ≡ Some (length l - d)
   unfolding pick
   back_keeps h = simp (le-ltb _ _ h)
 
@@ -71,9 +70,9 @@ pub record AtDot (n k : ℕ) (s : List ℕ) (j : ℕ) : Type 0 where
   pub nth : dots (drop (j - (k + 1)) s) ≡ n
 
 -- none stays where s has fewer than n dots
-abbrev pub KeptDot : ℕ → ℕ → List ℕ → Kept → Type 0
-KeptDot n k s (Keeps j) = AtDot n k s j
-KeptDot n k s Lacks = 0 < n → dots s < n
+abbrev pub KeptDot : ℕ → ℕ → List ℕ → Option ℕ → Type 0
+KeptDot n k s (Some j) = AtDot n k s j
+KeptDot n k s None = 0 < n → dots s < n
 
 dot_here : (n k b : ℕ) (s : List ℕ) → b ≡ 46 → dots s + 1 ≡ n → AtDot n k (b ∷ s) (k + 1)
 unfolding dots pick
@@ -90,13 +89,13 @@ dots_fewer n b s e h = go (eqb b 46) e
     go true e = let z = eqb-false (dots s + 1) n e in omega (arith, z)
     go false e = h
 
-dot_further : (n k b : ℕ) (s : List ℕ) (x : Kept) → (eqb b 46 && eqb (dots s + 1) n) ≡ false → KeptDot n (k + 1) s x → KeptDot n k (b ∷ s) x
-dot_further n k b s (Keeps j) e a =
+dot_further : (n k b : ℕ) (s : List ℕ) (x : Option ℕ) → (eqb b 46 && eqb (dots s + 1) n) ≡ false → KeptDot n (k + 1) s x → KeptDot n k (b ∷ s) x
+dot_further n k b s (Some j) e a =
     let h = a.from in
     let w = a.within in
     let z : j - (k + 1) ≡ suc (j - (k + 1 + 1)) = omega arith in
     record { from = omega arith; within = omega arith; dot = rw z a.dot; nth = rw z a.nth }
-dot_further n k b s Lacks e a = λ h. dots_fewer n b s e (a h)
+dot_further n k b s None e a = λ h. dots_fewer n b s e (a h)
 
 pub dot_from_lem : (n k : ℕ) (s : List ℕ) → KeptDot n k s (dot_from n k s)
 unfolding dot_from dots
@@ -114,12 +113,12 @@ pub record AfterSixteen (l : List ℕ) (n j : ℕ) : Type 0 where
   pub nth : dots (drop (j - 1) (take (length l - 16) l)) ≡ n
 
 -- 6 is due only where "the bytes left after dropping 16" hold fewer than N dots; of fewer than 16 bytes none are left
-abbrev pub KeptAfterSixteen : List ℕ → ℕ → Kept → Type 0
-KeptAfterSixteen l n (Keeps j) = AfterSixteen l n j
-KeptAfterSixteen l n Lacks = 0 < n → dots (take (length l - 16) l) < n
+abbrev pub KeptAfterSixteen : List ℕ → ℕ → Option ℕ → Type 0
+KeptAfterSixteen l n (Some j) = AfterSixteen l n j
+KeptAfterSixteen l n None = 0 < n → dots (take (length l - 16) l) < n
 
-after_sixteen : (l : List ℕ) (n : ℕ) (x : Kept) → 16 ≤ length l → KeptDot n 0 (take (length l - 16) l) x → KeptAfterSixteen l n x
-after_sixteen l n (Keeps j) h a =
+after_sixteen : (l : List ℕ) (n : ℕ) (x : Option ℕ) → 16 ≤ length l → KeptDot n 0 (take (length l - 16) l) x → KeptAfterSixteen l n x
+after_sixteen l n (Some j) h a =
     let m = length l - 16 in
     let e : length (take m l) ≡ m = length-take-le m l (omega arith) in
     let f = a.from in
@@ -127,7 +126,7 @@ after_sixteen l n (Keeps j) h a =
     let z : j - (0 + 1) ≡ j - 1 = omega arith in
     let d : get_or (take m l) (j - 1) 0 ≡ 46 = rw z at a.dot in
     record { dropped = omega arith; dot = sym (get_or-take m l (j - 1) 0 (omega arith)) ∙ d; nth = rw z at a.nth }
-after_sixteen l n Lacks h a = a
+after_sixteen l n None h a = a
 
 few_left : (l : List ℕ) (n : ℕ) → length l < 16 → 0 < n → dots (take (length l - 16) l) < n
 unfolding dots

@@ -16,7 +16,8 @@ use Rattle.format.specs.Iterate.{iter, iter_up}
 use Rattle.format.specs.Sheet.{sheet_version, layout, layout_all, header_layout, sheet_of, good_date, date_from, leg_entry, body_entry, framed, entry_of}
 use Rattle.format.specs.Sheet.{records_step, records_from, records_of, good_text, good_header, good_front, front_header, behind_front, version_result}
 use Rattle.format.specs.Sheet.{version_of, sheet_result}
-use Rattle.format.specs.Refusals.{accepted, refused}
+use Rattle.std.specs.Prelude.{Ok, Err}
+use Rattle.format.specs.Refusals.{accepted, refused, Verdict, Good, Refusal}
 use Rattle.format.specs.Reading.{next, ended, read_step, run, items_of, read_outcome}
 use Rattle.format.specs.Codes.{common, length_codes, part_codes, label_codes, same_date, same_point, style_if, date_if, move_if, line_codes, closing, header_codes}
 use Rattle.format.specs.Writing.{v8, codes_all, after_all, encode_all, file_of, records_verdict, size_verdict, filed_outcome, written_outcome, write_outcome}
@@ -24,9 +25,6 @@ use Rattle.format.specs.Editing.{house_written, edited, house_verdict, run_verdi
 use Rattle.format.specs.Stepping.{Stand, before, stopped, open_stand, wrote, ends, refuses, recorded, step_of, ran_out, stops, gathered}
 use Rattle.format.specs.Times.{is_digit, all_digits, decimal_from, decimal, leap, month_lengths, month_length, month_days, year_days, day_number}
 use Rattle.format.specs.Times.{real_date, at_form, text_marks, text_digits, text_day, text_clock, text_zone, text_form, text_seconds, seconds_of, stamp_of}
-use Rattle.format.specs.declared.Stamp.TheVariants.{Unstamped, Stamped}
-use Rattle.format.specs.declared.Verdict.{Verdict}
-use Rattle.format.specs.declared.Verdict.TheVariants.{Good, Refusal}
 use Rattle.format.specs.declared.Dated.TheVariants.{Undated}
 use Rattle.format.proofs.Cases.{Shown, opening, answer, step, stepping, stamp, no, Row, case1, case3, givens, dues}
 use Rattle.format.proofs.Edges.{leg_of, goes_on}
@@ -189,15 +187,15 @@ table =
     ∷ record { given = stepping (gathered 3 (open_stand one_station) one_station 17); due = stepping (record { bytes = station_record; halt = stops Good }) }
     ∷ record { given = stepping (gathered 2 (open_stand one_station) one_station 17); due = stepping (record { bytes = station_record; halt = ran_out }) }
     -- 17: "time line not readable", at "its first byte", after the v8 byte; an hour is at most 23
-    ∷ record { given = stamp (stamp_of (case1 [])); due = stamp (Stamped 0 26 2) }
-    ∷ record { given = stamp (stamp_of (case3 [])); due = stamp (Unstamped 17 26) }
-    ∷ record { given = stamp (stamp_of (headed 8 (65 ∷ []) (84 ∷ []) (0x01 ∷ []))); due = stamp (Unstamped 4 28) }
-    ∷ record { given = stamp (stamp_of (headed 3 [] (sunday 50 51 (71 ∷ 77 ∷ 84 ∷ [])) [])); due = stamp (Stamped 1016406067 25 27) }
-    ∷ record { given = stamp (stamp_of (headed 3 [] (sunday 50 52 (71 ∷ 77 ∷ 84 ∷ [])) [])); due = stamp (Unstamped 17 25) }
+    ∷ record { given = stamp (stamp_of (case1 [])); due = stamp (Ok (record { seconds = 0; place = 26; size = 2 })) }
+    ∷ record { given = stamp (stamp_of (case3 [])); due = stamp (Err (record { number = 17; place = 26 })) }
+    ∷ record { given = stamp (stamp_of (headed 8 (65 ∷ []) (84 ∷ []) (0x01 ∷ []))); due = stamp (Err (record { number = 4; place = 28 })) }
+    ∷ record { given = stamp (stamp_of (headed 3 [] (sunday 50 51 (71 ∷ 77 ∷ 84 ∷ [])) [])); due = stamp (Ok (record { seconds = 1016406067; place = 25; size = 27 })) }
+    ∷ record { given = stamp (stamp_of (headed 3 [] (sunday 50 52 (71 ∷ 77 ∷ 84 ∷ [])) [])); due = stamp (Err (record { number = 17; place = 25 })) }
     -- #101: "17 is widened, its place in the order stays": the zone `BST` gives it, after 4 for the v8 byte; `UTC` does not
-    ∷ record { given = stamp (stamp_of (headed 3 [] (sunday 50 51 (85 ∷ 84 ∷ 67 ∷ [])) [])); due = stamp (Stamped 1016406067 25 27) }
-    ∷ record { given = stamp (stamp_of (headed 3 [] (sunday 50 51 (66 ∷ 83 ∷ 84 ∷ [])) [])); due = stamp (Unstamped 17 25) }
-    ∷ record { given = stamp (stamp_of (headed 8 [] (sunday 50 51 (66 ∷ 83 ∷ 84 ∷ [])) (0x01 ∷ []))); due = stamp (Unstamped 4 53) }
+    ∷ record { given = stamp (stamp_of (headed 3 [] (sunday 50 51 (85 ∷ 84 ∷ 67 ∷ [])) [])); due = stamp (Ok (record { seconds = 1016406067; place = 25; size = 27 })) }
+    ∷ record { given = stamp (stamp_of (headed 3 [] (sunday 50 51 (66 ∷ 83 ∷ 84 ∷ [])) [])); due = stamp (Err (record { number = 17; place = 25 })) }
+    ∷ record { given = stamp (stamp_of (headed 8 [] (sunday 50 51 (66 ∷ 83 ∷ 84 ∷ [])) (0x01 ∷ []))); due = stamp (Err (record { number = 4; place = 53 })) }
     ∷ []
 
 pub orders : givens table ≡ dues table

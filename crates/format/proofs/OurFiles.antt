@@ -12,9 +12,7 @@ use Rattle.format.specs.Bytes.{pick, same, Bytes}
 use Rattle.format.specs.Header.{Header, Opening, shut, opened, opening_of}
 use Rattle.format.specs.State.{State, start, Record}
 use Rattle.format.specs.Sheet.{sheet_version, Entry, flawed, entry, entry_of, entry_step, records_step, records_from, records_of, sheet_result, front_header}
-use Rattle.format.specs.Refusals.{Result, stop, or_else, accepted, refused, outcome_of, buffer_of}
-use Rattle.format.specs.declared.Verdict.{Verdict}
-use Rattle.format.specs.declared.Verdict.TheVariants.{Good, Refusal}
+use Rattle.format.specs.Refusals.{Result, stop, or_else, accepted, refused, outcome_of, buffer_of, Verdict, Good, Refusal}
 use Rattle.format.specs.WellFormed.{GoodHeader, AllWellFormed}
 use Rattle.format.specs.Reading.{items_of}
 use Rattle.format.specs.Codes.{header_codes}

@@ -1,5 +1,7 @@
 -- How much of the name stayed (#107): what an item's own drop leaves is the least length in its stretch, and the kept bytes are a common
 -- start of the previous label and this one. Assumes nothing.
+use Rattle.format.specs.Refusals.{Verdict, Good, Refusal}
+use Rattle.std.specs.Prelude.{Option, Some, None}
 use Prim.Native.Nat.{ℕ, zero, suc, ◌-◌, ◌≤◌}
 use native.Mathlib.Omega.{arith}
 use mathlib.Core.Path.{◌≡◌, refl, sym, ap, ◌∙◌}
@@ -17,17 +19,11 @@ use Rattle.format.specs.Bytes.{pick, same}
 use Rattle.format.specs.Label.{Labelled, kept_of, appended, label_step, label_limit}
 use Rattle.format.specs.declared.Cut.{Cut}
 use Rattle.format.specs.declared.Cut.TheVariants.{Empty, Back}
-use Rattle.format.specs.declared.Kept.{Kept}
-use Rattle.format.specs.declared.Kept.TheVariants.{Keeps, Lacks}
-use Rattle.format.specs.declared.Position.{Position}
-use Rattle.format.specs.declared.Position.TheVariants.{Unset, Stands}
 use Rattle.format.specs.declared.Point.{Point}
 use Rattle.format.specs.Items.{Item, Stop, Shorten, Style, Move, NoDate, Date, Error, Xsect, Label, Line, Decoded, faulty, whole, item_of}
 use Rattle.format.specs.State.{State, Record, leg, station, section, error, Next, bad, end, on, made, named, on_label, leg_from, apply, next_of}
 use Rattle.format.specs.Reading.{next, ended}
 use Rattle.format.specs.Stepping.{Stand, before as stands_before, Step, wrote, stop_answer, recorded, step_next, step_of}
-use Rattle.format.specs.declared.Verdict.{Verdict}
-use Rattle.format.specs.declared.Verdict.TheVariants.{Good, Refusal}
 use Rattle.format.specs.Outline.{least_of, own_drop, drop_leaves, kept_over, carries_label, Stretch, begins, goes, makes}
 use Rattle.format.proofs.Basics.{pick_case, same_true}
 use Rattle.format.proofs.WritingLaws.{Shares, common_shares, kept_shares, common_le, station_item_lem, line_item_lem, short_section_item}
@@ -59,14 +55,14 @@ start_start a b c p q = (omega (arith, p.0, q.0), sym (take_shorter (length a) (
 -- the label after a step: what is kept of the old one, then what is appended
 pub record Begins (l : List ℕ) (cut : Cut) (added m : List ℕ) : Type 0 where
   pub keep : ℕ
-  pub kept : kept_of l cut ≡ Keeps keep
+  pub kept : kept_of l cut ≡ Some keep
   pub same : m ≡ take keep l ++ added
 
 module _ (P : Next → Type 0) (l : List ℕ) (cut : Cut) (added : List ℕ) (go : List ℕ → Next) (p : P (bad 6)) (q : P (bad 7))
     (f : (m : List ℕ) → Begins l cut added m → P (go m)) where
-  appended_case : (k : Kept) → kept_of l cut ≡ k → P (on_label (appended k l added) go)
-  appended_case Lacks e = p
-  appended_case (Keeps n) e =
+  appended_case : (k : Option ℕ) → kept_of l cut ≡ k → P (on_label (appended k l added) go)
+  appended_case None e = p
+  appended_case (Some n) e =
       pick_case (λ (x : Labelled). P (on_label x go)) _ _ _ (λ t. q) (λ t. f (take n l ++ added) (record { keep = n; kept = e; same = refl }))
 
   begin_case : P (on_label (label_step l cut added) go)
@@ -92,7 +88,7 @@ back_keeps_from : (l : List ℕ) (d : ℕ) (added m : List ℕ) → Begins l (Ba
 unfolding pick
 back_keeps_from l d added m b = go (ltb (length l) d) refl b.kept
   where
-    go : (t : Bool) → ltb (length l) d ≡ t → pick t Lacks (Keeps (length l - d)) ≡ Keeps b.keep → Shares l m (length l - d)
+    go : (t : Bool) → ltb (length l) d ≡ t → pick t None (Some (length l - d)) ≡ Some b.keep → Shares l m (length l - d)
     go true e q = absurd (let z : ◌≡◌ {A = ℕ} 0 1 = cc in omega arith)
     go false e q =
         let k : length l - d ≡ b.keep = cc in
@@ -111,9 +107,9 @@ module _ (st : State) (n : ℕ) where
       begin_case (Leaves st.label kept) st.label cut [] _ tt tt
       λ m b. rw (b.same, append-nil (take b.keep st.label)) (take_start b.keep st.label)
 
-  leg_leaves : (p : Position) (flags : ℕ) (to : Point) (kept : ℕ) (m : List ℕ) → Shares st.label m kept → Leaves st.label kept (leg_from p n st flags to m)
-  leg_leaves Unset flags to kept m k = tt
-  leg_leaves (Stands from) flags to kept m k = k
+  leg_leaves : (p : Option Point) (flags : ℕ) (to : Point) (kept : ℕ) (m : List ℕ) → Shares st.label m kept → Leaves st.label kept (leg_from p n st flags to m)
+  leg_leaves None flags to kept m k = tt
+  leg_leaves (Some from) flags to kept m k = k
 
   apply_leaves : (it : Item) → Leaves st.label (own_drop st.label it) (apply st n it)
   apply_leaves Stop = pick_case (Leaves st.label 0) _ _ _ (λ e. tt) (λ e. shortened 0 Empty)

@@ -1,4 +1,5 @@
 -- Sentences of document 01 that no definition renders by itself, as laws under its own words. Assumes nothing.
+use Rattle.format.specs.Refusals.{Good}
 use Prim.Native.Nat.{ℕ, ◌+◌, ◌-◌, ◌≤◌, ◌<◌}
 use native.Mathlib.Nat.{add-zero}
 use native.Mathlib.Omega.{arith}
@@ -24,7 +25,6 @@ use Rattle.format.specs.declared.Point.{Point}
 use Rattle.format.specs.declared.Dimensions.{Dimensions}
 use Rattle.format.specs.declared.Traverse.{Traverse}
 use Rattle.format.specs.declared.Dated.{Dated}
-use Rattle.format.specs.declared.Verdict.TheVariants.{Good}
 use Rattle.format.proofs.Basics.{pick_case}
 use Rattle.format.proofs.ApplyLaws.{label_case, leg_case}
 use Rattle.format.proofs.Rows.{wide_dimensions_back, short_dimensions_back}

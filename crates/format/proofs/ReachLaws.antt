@@ -15,14 +15,12 @@ use mir.Syntax.{w32}
 use mir.Val.{of_z}
 use borrow.Author.Tests.{eq-eqb, ne_eqb, ltb-true, lt-ltb, le-ltb}
 use Rattle.format.specs.Bytes.{pick, same}
-use Rattle.format.specs.Refusals.{refused}
+use Rattle.format.specs.Refusals.{refused, Verdict, Good, Refusal}
 use Rattle.format.specs.Sheet.{sheet_result, front_header}
 use Rattle.format.specs.Writing.{Writer, headed_by, filed_outcome, written_outcome, write_outcome}
 use Rattle.format.specs.Reach.{signed, axis_x, axis_y, axis_z, begins, dot, takes_part, legs_of, ends, lesser, greater, along, highest, lowest, bounds_of, spans, unspanned, legs_reach, reach_from, reach_of}
 use Rattle.format.specs.declared.Point.{Point}
 use Rattle.format.specs.declared.Leg.{Leg}
-use Rattle.format.specs.declared.Verdict.{Verdict}
-use Rattle.format.specs.declared.Verdict.TheVariants.{Good, Refusal}
 use Rattle.format.proofs.Basics.{pick_case, pick_true, pick_false, less_or_not}
 
 -- ---- `signed`: two's complement

@@ -12,8 +12,7 @@ use borrow.Author.Tests.{eqb-false}
 use Rattle.format.specs.Header.{Header, opened, opening_of, file_limit}
 use Rattle.format.specs.Label.{label_limit}
 use Rattle.format.specs.State.{State, start, Record}
-use Rattle.format.specs.Refusals.{stop, also}
-use Rattle.format.specs.declared.Verdict.TheVariants.{Good}
+use Rattle.format.specs.Refusals.{stop, also, Good}
 use Rattle.format.specs.WellFormed.{GoodHeader, WellFormed, AllWellFormed}
 use Rattle.format.specs.Reading.{run}
 use Rattle.format.specs.Writing.{Writer, v8, v7, codes_all, after_all, encode_all, records_verdict}

@@ -1,5 +1,6 @@
 -- Laws of reading: every item uses at least one byte that is there (progress), the equation of `run`, and the label's bound, once for all
 -- versions. Assumes nothing.
+use Rattle.std.specs.Prelude.{None, Option, Some}
 use Prim.Native.Nat.{ℕ, ◌+◌, ◌-◌, ◌≤◌, ◌<◌}
 use mathlib.Core.Path.{◌≡◌, refl, sym, ap, ◌∙◌, subst}
 use mathlib.Core.Bool.{true}
@@ -13,18 +14,15 @@ use Rattle.format.specs.Bytes.{pick}
 use Rattle.format.specs.Label.{label_step, label_limit}
 use Rattle.format.specs.declared.Cut.{Cut}
 use Rattle.format.specs.declared.Cut.TheVariants.{Empty, Back}
-use Rattle.format.specs.Items.{Item, Stop, Shorten, Style, Move, NoDate, Date, Error, Xsect, Label, Line, Decoded, faulty, whole, sized}
+use Rattle.format.specs.Items.{Item, Stop, Shorten, Style, Move, NoDate, Date, Error, Xsect, Label, Line, Decoded, faulty, whole, sized, numbers}
 use Rattle.format.specs.Items.{behind_code, labelled_item, station_item, line_item, section_item, move_item, error_item, day_item, span_item, days_item}
 use Rattle.format.specs.Items.{seconds_item, two_seconds_item, old_part, new_part, old_date_item, v7_date_item, old_middle_item, old_low_item, old_high_item}
 use Rattle.format.specs.Items.{new_date_item, new_low_item, new_high_item, item_of}
 use Rattle.format.specs.declared.LabelPart.{LabelPart}
-use Rattle.format.specs.declared.LabelPart.TheVariants.{Unfinished, Numbers}
 use Rattle.format.specs.State.{State, Record, Next, bad, end, on, made, on_label, apply, next_of}
-use Rattle.format.specs.Refusals.{reader_number, Result, stop, also}
-use Rattle.format.specs.declared.Verdict.TheVariants.{Good, Refusal}
+use Rattle.format.specs.Refusals.{reader_number, Result, stop, also, Good, Refusal}
 use Rattle.format.specs.Reading.{next, ended, after_item, read_step, run, Reached, begins, goes, makes}
 use Rattle.format.specs.declared.Point.{Point}
-use Rattle.format.specs.declared.Position.TheVariants.{Unset}
 use Rattle.format.proofs.Basics.{pick_case}
 use Rattle.format.proofs.IterateLaws.{iter_eq}
 use Rattle.format.proofs.ApplyLaws.{label_case, leg_case}
@@ -45,20 +43,20 @@ sized_behind m n t it h =
     pick_case (λ (x : Decoded). SizedItem m (behind_code x)) _ _ _ (λ e. refl) λ e.
     let z : n ≤ length t = ltb-false _ _ e in (omega arith, omega arith)
 
-sized_labelled : (m : ℕ) (p : LabelPart) (t : List ℕ) (n : ℕ) (make : ℕ → List ℕ → List ℕ → Item) → 1 + length t ≤ m → SizedItem m (labelled_item p t n make)
+sized_labelled : (m : ℕ) (p : Option LabelPart) (t : List ℕ) (n : ℕ) (make : ℕ → List ℕ → List ℕ → Item) → 1 + length t ≤ m → SizedItem m (labelled_item p t n make)
 unfolding labelled_item
-sized_labelled m Unfinished t n make h = refl
-sized_labelled m (Numbers k d a) t n make h = sized_behind m (k + a + n) t _ h
+sized_labelled m None t n make h = refl
+sized_labelled m (Some q) t n make h = sized_behind m (q.size + q.add + n) t _ h
 
-sized_section : (m code : ℕ) (p : LabelPart) (t : List ℕ) → 1 + length t ≤ m → SizedItem m (section_item code p t)
+sized_section : (m code : ℕ) (p : Option LabelPart) (t : List ℕ) → 1 + length t ≤ m → SizedItem m (section_item code p t)
 unfolding section_item
 sized_section m code p t h = pick_case (SizedItem m) _ _ _ (λ e. sized_labelled m p t 8 _ h) (λ e. sized_labelled m p t 16 _ h)
 
-sized_station : (m flags : ℕ) (p : LabelPart) (t : List ℕ) → 1 + length t ≤ m → SizedItem m (station_item flags p t)
+sized_station : (m flags : ℕ) (p : Option LabelPart) (t : List ℕ) → 1 + length t ≤ m → SizedItem m (station_item flags p t)
 unfolding station_item
 sized_station m flags p t h = sized_labelled m p t 12 _ h
 
-sized_line : (m flags : ℕ) (p : LabelPart) (t : List ℕ) → 1 + length t ≤ m → SizedItem m (line_item flags p t)
+sized_line : (m flags : ℕ) (p : Option LabelPart) (t : List ℕ) → 1 + length t ≤ m → SizedItem m (line_item flags p t)
 unfolding line_item
 sized_line m flags p t h = sized_labelled m p t 12 _ h
 
@@ -117,7 +115,7 @@ sized_new_high m code t h =
     pick_case P _ _ _ (λ e. refl) λ e.
     pick_case P _ _ _ (λ e. sized_line m (code - 0x40) (new_part t) t h) λ e.
     pick_case P _ _ _ (λ e. refl) λ e.
-    pick_case P _ _ _ (λ e. sized_line m (code - 0x60) (Numbers 0 0 0) t h) λ e.
+    pick_case P _ _ _ (λ e. sized_line m (code - 0x60) (numbers 0 0 0) t h) λ e.
     pick_case P _ _ _ (λ e. refl) λ e. sized_station m (code - 0x80) (new_part t) t h
 
 -- every item, of every version, uses at least one byte and no more than are there
@@ -172,7 +170,7 @@ next_sized version s st = sized_next_of (length s) st (item_of version s) (progr
 -- ---- the order of refusals in an item: "6, 7, 9, 8"
 
 -- with no position, a LINE is refused for its label first
-pub label_before_position : (st : State) (n flags : ℕ) (p : Point) (d : ℕ) (added : List ℕ) → st.setting.position ≡ Unset
+pub label_before_position : (st : State) (n flags : ℕ) (p : Point) (d : ℕ) (added : List ℕ) → st.setting.position ≡ None
     → apply st n (Line flags p d added) ≡ on_label (label_step st.label (Back d) added) (λ l. bad 8)
 label_before_position st n flags p d added e = rw e
 

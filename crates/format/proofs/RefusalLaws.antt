@@ -5,9 +5,7 @@ use lib.Dec.{ltb}
 use borrow.Author.Tests.{le-ltb}
 use native.Mathlib.Omega.{arith}
 use Rattle.format.specs.Bytes.{pick}
-use Rattle.format.specs.Refusals.{Outcome, accepted, refused, outcome_of}
-use Rattle.format.specs.declared.Verdict.TheVariants.{Good, Refusal}
-use Rattle.format.specs.declared.Verdict.{Verdict}
+use Rattle.format.specs.Refusals.{Outcome, accepted, refused, outcome_of, Good, Refusal, Verdict}
 use Rattle.format.proofs.Basics.{pick_false}
 
 pub never : (k p b n v : ℕ) → refused k p ≡ accepted b n v → ⊥

@@ -13,9 +13,7 @@ use Rattle.format.specs.Bytes.{pick, over, Bytes}
 use Rattle.format.specs.Header.{Header, opened, opening_of, file_limit}
 use Rattle.format.specs.State.{State, start, Record}
 use Rattle.format.specs.Sheet.{sheet_version, sheet_of, sheet_result, version_of, front_header}
-use Rattle.format.specs.Refusals.{Result, or_else, accepted, outcome_of, buffer_of}
-use Rattle.format.specs.declared.Verdict.TheVariants.{Good, Refusal}
-use Rattle.format.specs.declared.Verdict.{Verdict}
+use Rattle.format.specs.Refusals.{Result, or_else, accepted, outcome_of, buffer_of, Good, Refusal, Verdict}
 use Rattle.format.specs.WellFormed.{GoodHeader, AllWellFormed}
 use Rattle.format.specs.Reading.{items_of, sheet_from, read_outcome, read_buffer}
 use Rattle.format.specs.Writing.{Writer, v8, v7, encode_all, file_of, records_verdict, size_verdict, writing_verdict, written_outcome, filed_outcome}

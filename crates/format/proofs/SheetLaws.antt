@@ -16,8 +16,7 @@ use Rattle.format.specs.Label.{label_limit}
 use Rattle.format.specs.Items.{point_of, dimensions_of, traverse_of}
 use Rattle.format.specs.State.{Record, leg, station, section, error}
 use Rattle.format.specs.Sheet.{sheet_version, undated_version, point_bytes, dimension_bytes, traverse_bytes, date_bytes, leg_body, station_body, section_body, undated_section_body, error_body, record_body, leg_size, station_size, section_size, undated_section_size, error_size, record_limit, date_kind, date_day, date_last, leg_fields, station_fields, section_fields, undated_section_fields, layout, layout_all, header_layout, sheet_of, Entry, flawed, entry, label_fits, label_from, good_date, date_from, leg_entry, station_entry, section_entry, undated_section_entry, error_entry, body_entry, framed, entry_of, entry_step, records_step, records_from, records_of, good_text, header_from, good_header, good_front, front_header, behind_front, version_result, version_of, sheet_result}
-use Rattle.format.specs.Refusals.{Result, stop, also}
-use Rattle.format.specs.declared.Verdict.TheVariants.{Good, Refusal}
+use Rattle.format.specs.Refusals.{Result, stop, also, Good, Refusal}
 use Rattle.format.specs.WellFormed.{GoodPoint, GoodDimensions, GoodTraverse, GoodDated, GoodLeg, GoodStation, GoodSection, WellFormed, AllWellFormed, GoodHeader}
 use Rattle.format.specs.declared.Traverse.{Traverse}
 use Rattle.format.specs.declared.Dated.{Dated}

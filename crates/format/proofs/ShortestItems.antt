@@ -2,8 +2,9 @@
 -- MOVE 13, an ERROR 21, a date at least as many as our codes of that date, and an item with a label its code, a part of at least our numbers
 -- for the same D and A, the bytes to append and its fields, which for a section are 8 only where all four dimensions fit i16. A LINE with
 -- 0x20 has 13 bytes and changes no label. Nothing here looks at the state. Assumes nothing.
+use Rattle.std.specs.Prelude.{Option, None, Some}
 use Prim.Native.Nat.{ℕ, ◌+◌, ◌-◌, ◌/◌, ◌%◌, ◌≤◌, ◌<◌}
-use mathlib.Core.Path.{◌≡◌, refl, subst}
+use mathlib.Core.Path.{◌≡◌, refl, subst, ap}
 use mathlib.Core.List.{List}
 use mathlib.Core.Bool.{Bool, true, false, ◌||◌}
 use native.Mathlib.Omega.{arith}
@@ -12,11 +13,10 @@ use lib.Seq.{length-take-le}
 use lib.Dec.{ltb, leb}
 use borrow.Author.Tests.{ltb-true, ltb-false, leb-false, eqb-false, eq-eqb, le-ltb, le-leb, lt-leb}
 use Rattle.format.specs.Bytes.{pick, le16, le32, widened, Bytes}
-use Rattle.format.specs.Items.{dimensions_of, Item, Stop, Shorten, Style, Move, NoDate, Date, Error, Xsect, Label, Line, Decoded, faulty, whole}
+use Rattle.format.specs.Items.{dimensions_of, Item, Stop, Shorten, Style, Move, NoDate, Date, Error, Xsect, Label, Line, Decoded, faulty, whole, numbers}
 use Rattle.format.specs.Items.{sized, length_size, length_value, long_part, new_part, behind_code, labelled_item, station_item, line_item, section_item}
 use Rattle.format.specs.Items.{move_item, error_item, day_item, span_item, days_item, new_date_item, new_low_item, new_high_item, item_of}
 use Rattle.format.specs.declared.LabelPart.{LabelPart}
-use Rattle.format.specs.declared.LabelPart.TheVariants.{Unfinished, Numbers}
 use Rattle.format.specs.declared.Dated.{Dated}
 use Rattle.format.specs.declared.Dated.TheVariants.{Range}
 use Rattle.format.specs.State.{date_of}
@@ -53,9 +53,9 @@ LeastDecoded (faulty k) = Unit
 LeastDecoded (whole n it) = LeastItem n it
 
 -- the numbers of a label part are no shorter than ours
-abbrev pub LeastPart : LabelPart → Type 0
-LeastPart Unfinished = Unit
-LeastPart (Numbers k d a) = length (part_codes d a) ≤ k
+abbrev pub LeastPart : Option LabelPart → Type 0
+LeastPart None = Unit
+LeastPart (Some q) = length (part_codes q.drop q.add) ≤ q.size
 
 -- ---- label parts
 
@@ -100,36 +100,43 @@ sized_least : (n : ℕ) (s : List ℕ) (it : Item) → LeastItem n it → LeastD
 unfolding sized
 sized_least n s it g = pick_case LeastDecoded _ _ _ (λ e. tt) (λ e. g)
 
-labelled_least : (p : LabelPart) (t : List ℕ) (n : ℕ) (make : ℕ → List ℕ → List ℕ → Item)
-    → ((k d : ℕ) (added rest : List ℕ) → p ≡ Numbers k d (length added) → LeastItem (1 + (k + length added + n)) (make d added rest))
+labelled_least : (p : Option LabelPart) (t : List ℕ) (n : ℕ) (make : ℕ → List ℕ → List ℕ → Item)
+    → ((k d : ℕ) (added rest : List ℕ) → p ≡ numbers k d (length added) → LeastItem (1 + (k + length added + n)) (make d added rest))
     → LeastDecoded (labelled_item p t n make)
 unfolding labelled_item sized
-labelled_least Unfinished t n make f = tt
-labelled_least (Numbers k d a) t n make f =
+labelled_least None t n make f = tt
+labelled_least (Some q) t n make f =
     pick_case (λ (x : Decoded). LeastDecoded (behind_code x)) _ _ _ (λ e. tt) λ e.
-    let h : k + a + n ≤ length t = ltb-false _ _ e in
-    let added = take a (drop k t) in
-    let z : length added ≡ a = length-take-le a (drop k t) (simp length-drop (omega arith)) in
-    subst (λ (x : ℕ). LeastItem (1 + (k + x + n)) (make d added (drop (k + a) t))) z (f k d added (drop (k + a) t) (rw z))
+    let h : q.size + q.add + n ≤ length t = ltb-false _ _ e in
+    let added = take q.add (drop q.size t) in
+    let z : length added ≡ q.add = length-take-le q.add (drop q.size t) (simp length-drop (omega arith)) in
+    subst (λ (x : ℕ). LeastItem (1 + (q.size + x + n)) (make q.drop added (drop (q.size + q.add) t))) z (f q.size q.drop added (drop (q.size + q.add) t) (rw z))
 
-numbers_least : (k d a : ℕ) (p : LabelPart) → LeastPart p → p ≡ Numbers k d a → length (part_codes d a) ≤ k
+numbers_least : (k d a : ℕ) (p : Option LabelPart) → LeastPart p → p ≡ numbers k d a → length (part_codes d a) ≤ k
 numbers_least k d a p g e = subst LeastPart e g
 
-station_size_lem : (flags : ℕ) (p : LabelPart) (t : List ℕ) → LeastPart p → LeastDecoded (station_item flags p t)
+-- equal label parts have equal numbers
+pub same_numbers : {k d a m e b : ℕ} → numbers k d a ≡ numbers m e b → (k ≡ m) × (d ≡ e) × (a ≡ b)
+same_numbers {k = k} {d = d} {a = a} {m = m} {e = e} {b = b} z =
+    let y : ◌≡◌ {A = LabelPart} (record { size = k; drop = d; add = a }) (record { size = m; drop = e; add = b }) = cc in
+    (ap (λ (q : LabelPart). q.size) y, ap (λ (q : LabelPart). q.drop) y, ap (λ (q : LabelPart). q.add) y)
+
+station_size_lem : (flags : ℕ) (p : Option LabelPart) (t : List ℕ) → LeastPart p → LeastDecoded (station_item flags p t)
 unfolding station_item
 station_size_lem flags p t g = labelled_least p t 12 _ λ k d added rest e. omega (arith, numbers_least k d (length added) p g e)
 
-line_size : (flags : ℕ) (p : LabelPart) (t : List ℕ) → LeastPart p → LeastDecoded (line_item flags p t)
+line_size : (flags : ℕ) (p : Option LabelPart) (t : List ℕ) → LeastPart p → LeastDecoded (line_item flags p t)
 unfolding line_item
 line_size flags p t g = labelled_least p t 12 _ λ k d added rest e. (omega arith, λ h. omega (arith, numbers_least k d (length added) p g e))
 
 -- "0x20 means no label bytes and no change"
-same_line_size : (flags : ℕ) (t : List ℕ) → LeastDecoded (line_item flags (Numbers 0 0 0) t)
+same_line_size : (flags : ℕ) (t : List ℕ) → LeastDecoded (line_item flags (numbers 0 0 0) t)
 unfolding line_item
 same_line_size flags t =
-    labelled_least (Numbers 0 0 0) t 12 _ λ k d added rest e.
-    let zd : 0 ≡ d = cc in
-    let za : 0 ≡ length added = cc in
+    labelled_least (numbers 0 0 0) t 12 _ λ k d added rest e.
+    let z = same_numbers e in
+    let zd = z.1 in
+    let za = z.2 in
     (omega arith, λ h. absurd (omega arith))
 
 -- what an i16 says fits one
@@ -151,7 +158,7 @@ unfolding pick
 dimensions_most true = omega arith
 dimensions_most false = omega arith
 
-section_size_lem : (code : ℕ) (p : LabelPart) (t : List ℕ) → LeastPart p → LeastDecoded (section_item code p t)
+section_size_lem : (code : ℕ) (p : Option LabelPart) (t : List ℕ) → LeastPart p → LeastDecoded (section_item code p t)
 unfolding section_item
 section_size_lem code p t g =
     pick_case LeastDecoded _ _ _

@@ -3,6 +3,7 @@
 -- both were 0, and so for two labels that differ the longest common start is best. From a label to itself the part is 00 00 00 or has D and A
 -- of at least 1: ours, D = A = 1 and one byte to append, is no longer than either. Only the numbers of a part and the bytes appended are counted
 -- here; that a leg with the same label needs none is said where items are. Assumes nothing.
+use Rattle.std.specs.Prelude.{Option}
 use Prim.Native.Nat.{ℕ, zero, suc, ◌+◌, ◌-◌, ◌≤◌, ◌<◌}
 use mathlib.Core.Path.{◌≡◌, refl, sym, ap, ◌∙◌}
 use mathlib.Core.List.{List, [], ◌∷◌, ◌++◌}
@@ -14,7 +15,6 @@ use lib.Dec.{eqb, ltb, leb}
 use borrow.Author.Tests.{ltb-false, leb-true, lt-ltb, le-ltb, le-leb, eq-eqb}
 use Rattle.format.specs.Bytes.{pick, same, to_le32}
 use Rattle.format.specs.Label.{Labelled, labelled, appended, label_step}
-use Rattle.format.specs.declared.Kept.{Kept}
 use Rattle.format.specs.declared.Cut.TheVariants.{Back}
 use Rattle.format.specs.Codes.{common, length_codes, part_codes, label_codes, kept_bytes}
 use Rattle.format.proofs.Basics.{pick_case, both, less_or_not, same_true}
@@ -112,7 +112,7 @@ pub record Steps (l : List ℕ) (d : ℕ) (added m : List ℕ) : Type 0 where
 pub label_steps : (l : List ℕ) (d : ℕ) (added m : List ℕ) → label_step l (Back d) added ≡ labelled m → Steps l d added m
 unfolding label_step
 label_steps l d added =
-    pick_case (λ (x : Kept). (m : List ℕ) → appended x l added ≡ labelled m → Steps l d added m) _ _ _
+    pick_case (λ (x : Option ℕ). (m : List ℕ) → appended x l added ≡ labelled m → Steps l d added m) _ _ _
     (λ e m q. absurd (let z : ◌≡◌ {A = ℕ} 0 1 = cc in omega arith))
     λ e.
     pick_case (λ (x : Labelled). (m : List ℕ) → x ≡ labelled m → Steps l d added m) _ _ _

@@ -4,6 +4,7 @@
 -- inequalities: what the writer writes from st is what it writes from st' and at most that style, date or MOVE more (`Extra`), however many
 -- records later the change is seen. For a record, the state before its item already has the style, date and position that the record shows,
 -- so that only the item itself is written. The end item needs the closing codes of a style that is normal. Assumes nothing.
+use Rattle.std.specs.Prelude.{Option, None, Some}
 use Prim.Native.Nat.{ℕ, ◌+◌, ◌≤◌}
 use mathlib.Core.Path.{◌≡◌, refl, ap, subst}
 use mathlib.Core.List.{List, [], ◌∷◌, ◌++◌}
@@ -20,12 +21,11 @@ use Rattle.format.specs.Items.{Item, Stop, Shorten, Style, Move, NoDate, Date, E
 use Rattle.format.specs.State.{State, start, Record, leg, station, section, error, styled, dated_by, moved}
 use Rattle.format.specs.State.{Next, bad, end, on, made, date_of, on_label, leg_from, apply, next_of}
 use Rattle.format.specs.Sheet.{dimension_bytes}
-use Rattle.format.specs.Refusals.{Result, stop}
+use Rattle.format.specs.Refusals.{Result, stop, Good, Refusal}
 use Rattle.format.specs.Reading.{next, after_item, read_step, run, items_of}
 use Rattle.format.specs.Codes.{dated_codes, v8_dates, same_date, style_if, date_if, move_if, line_codes, station_codes, section_codes}
 use Rattle.format.specs.Codes.{error_codes, codes, after, closing, header_codes, label_codes, kept_bytes}
 use Rattle.format.specs.Writing.{v8, codes_all, after_all, encode_all, file_of}
-use Rattle.format.specs.declared.Verdict.TheVariants.{Good, Refusal}
 use Rattle.format.specs.declared.Point.{Point}
 use Rattle.format.specs.declared.Dimensions.{Dimensions}
 use Rattle.format.specs.declared.Traverse.{Traverse}
@@ -34,8 +34,6 @@ use Rattle.format.specs.declared.Station.{Station}
 use Rattle.format.specs.declared.Section.{Section}
 use Rattle.format.specs.declared.Dated.{Dated}
 use Rattle.format.specs.declared.Dated.TheVariants.{Undated}
-use Rattle.format.specs.declared.Position.{Position}
-use Rattle.format.specs.declared.Position.TheVariants.{Unset, Stands}
 use Rattle.format.specs.declared.Setting.{Setting}
 use Rattle.format.proofs.Basics.{pick_case, pick_true, pick_false, both}
 use Rattle.format.proofs.Rows.{le16_width, le32_width}
@@ -235,7 +233,7 @@ module _ (st : State) (n : ℕ) where
   unfolding date_if
   no_date = ap length (pick_true _ _ (same_date_refl st.setting.date))
 
-  no_move : (from : Point) → length (move_if (Stands from) from) ≡ 0
+  no_move : (from : Point) → length (move_if (Some from) from) ≡ 0
   unfolding move_if
   no_move from = ap length (pick_true _ _ (same_point_refl from))
 
@@ -245,11 +243,11 @@ module _ (st : State) (n : ℕ) where
       let s : Section = record { last = last; date = st.setting.date; size = size } in
       omega (arith, section_size_lem st s l, no_date, xsect_least s d added l i e)
 
-  pub leg_least : (from : Point) (flags : ℕ) (to : Point) (l : List ℕ) → st.setting.position ≡ Stands from → length (line_codes st.label flags to l) ≤ n
+  pub leg_least : (from : Point) (flags : ℕ) (to : Point) (l : List ℕ) → st.setting.position ≡ Some from → length (line_codes st.label flags to l) ≤ n
       → length (codes st (leg (record { flags = flags; style = st.setting.style; date = st.setting.date; from = from; to = to }) l)) ≤ n
   leg_least from flags to l q h =
       let g : Leg = record { flags = flags; style = st.setting.style; date = st.setting.date; from = from; to = to } in
-      omega (arith, leg_size_lem st g l, no_style, no_date, ap (λ (p : Position). length (move_if p from)) q, no_move from, h)
+      omega (arith, leg_size_lem st g l, no_style, no_date, ap (λ (p : Option Point). length (move_if p from)) q, no_move from, h)
 
 -- ---- what an item comes to: whether it makes a record or none, what writing costs falls by no more than the item's size
 
@@ -275,10 +273,10 @@ module _ (st : State) (n : ℕ) where
       let z : length (closing st.setting.style) ≡ 1 = ap length (pick_true _ _ (both (eqb k 0) (eqb st.setting.style 0) e).1) in
       omega (arith, cost_none st)
 
-  leg_next : (p : Position) → st.setting.position ≡ p → (flags : ℕ) (to : Point) (l : List ℕ) → length (line_codes st.label flags to l) ≤ n
+  leg_next : (p : Option Point) → st.setting.position ≡ p → (flags : ℕ) (to : Point) (l : List ℕ) → length (line_codes st.label flags to l) ≤ n
       → LeastNext st (leg_from p n st flags to l)
-  leg_next Unset q flags to l h = tt
-  leg_next (Stands from) q flags to l h = made_least st n _ (leg_least st n from flags to l q h)
+  leg_next None q flags to l h = tt
+  leg_next (Some from) q flags to l h = made_least st n _ (leg_least st n from flags to l q h)
 
   apply_least : (it : Item) → LeastItem n it → LeastNext st (apply st n it)
   apply_least Stop i = absurd i

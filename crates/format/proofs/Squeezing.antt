@@ -16,8 +16,7 @@ use Rattle.format.specs.Bytes.{pick, over, Bytes}
 use Rattle.format.specs.Header.{Header, Opening, shut, opened, opening_of, file_limit}
 use Rattle.format.specs.State.{start, Record}
 use Rattle.format.specs.Sheet.{sheet_version, sheet_of, sheet_result, front_header}
-use Rattle.format.specs.Refusals.{Result, accepted, refused, outcome_of}
-use Rattle.format.specs.declared.Verdict.TheVariants.{Good}
+use Rattle.format.specs.Refusals.{Result, accepted, refused, outcome_of, Good}
 use Rattle.format.specs.WellFormed.{GoodHeader, AllWellFormed}
 use Rattle.format.specs.Reading.{items_of, read_from, read_outcome, read_buffer}
 use Rattle.format.specs.Codes.{header_codes}

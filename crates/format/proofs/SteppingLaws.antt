@@ -11,9 +11,7 @@ use Rattle.format.specs.Bytes.{pick, over, Bytes}
 use Rattle.format.specs.Header.{Header, shut, opened, opening_of}
 use Rattle.format.specs.State.{State, start, Record, Next, bad, end, on, made}
 use Rattle.format.specs.Sheet.{sheet_version, layout, layout_all, header_layout, sheet_of}
-use Rattle.format.specs.Refusals.{Result, stop, accepted}
-use Rattle.format.specs.declared.Verdict.TheVariants.{Good, Refusal}
-use Rattle.format.specs.declared.Verdict.{Verdict}
+use Rattle.format.specs.Refusals.{Result, stop, accepted, Good, Refusal, Verdict}
 use Rattle.format.specs.Reading.{next, ended, after_item, run, items_of, sheet_from, read_outcome, read_buffer}
 use Rattle.format.specs.Stepping.{Stand, before, stopped, open_stand, ends, refuses, Step, stop_answer, halted, recorded, step_next, step_of, stops}
 use Rattle.format.specs.Stepping.{Gathered, after_step, gathered}

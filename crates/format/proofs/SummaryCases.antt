@@ -1,5 +1,6 @@
 -- #109, worked: the words of a summary, questions, bringing it up to date, and the order of the refusals. One table under one statement.
 -- Assumes nothing.
+use Rattle.std.specs.Prelude.{Some, None}
 use Prim.Native.Nat.{ℕ}
 use mathlib.Core.Path.{◌≡◌, refl}
 use mathlib.Core.Bool.{Bool, true, false}
@@ -12,7 +13,6 @@ use Rattle.format.specs.Iterate.{iter, iter_up}
 use Rattle.format.specs.Sheet.{sheet_version, undated_version, layout, layout_all, header_layout, sheet_of, good_date, date_from, leg_entry, station_entry, section_entry, undated_section_entry, body_entry, framed, entry_of, records_step, records_from, records_of, good_text, good_header, good_front, front_header, behind_front, version_result, version_of, sheet_result}
 use Rattle.format.specs.Summary.{entrance, marks_in, marked, count_of, first_from, next_of, each, word_of, summary, bit, bit_at, marks_of, SummaryOutcome, takes, untaken, summary_outcome, summary_words, EntrancesOutcome, holds, unheld, rank_in, count_in, entrances_outcome, edited_marks, count_verdict, update_outcome, update_words}
 use Rattle.format.specs.declared.Dated.TheVariants.{Undated}
-use Rattle.format.specs.declared.NextEntrance.TheVariants.{At, Nowhere}
 use Rattle.format.proofs.Cases.{origin}
 
 -- a row: what the definitions give, and what is due
@@ -34,8 +34,8 @@ words_told (takes n) = 0 ∷ n ∷ []
 words_told (untaken n p) = n ∷ p ∷ []
 
 abbrev told : EntrancesOutcome → List ℕ
-told (holds n (At r)) = 0 ∷ n ∷ r ∷ []
-told (holds n Nowhere) = 0 ∷ n ∷ []
+told (holds n (Some r)) = 0 ∷ n ∷ r ∷ []
+told (holds n None) = 0 ∷ n ∷ []
 told (unheld n p) = n ∷ p ∷ []
 
 -- 66 records, of which the first, the third, the 64th and the 66th are entrances

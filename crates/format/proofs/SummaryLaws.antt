@@ -2,6 +2,7 @@
 -- difference of two ranks, and a rank is a total and the ones below it. The next entrance is the least marked record. After an accepted edit the
 -- words brought up to date are those made afresh of the new file's sheet, because the marks of the edited records are the edited marks.
 -- Assumes nothing.
+use Rattle.std.specs.Prelude.{Some, None}
 use mathlib.Core.Path.{◌≡◌, refl, sym, ap, ap₂, ◌∙◌, subst}
 use mathlib.Core.Bool.{Bool, true, false, ◌||◌}
 use mathlib.Core.List.{List, [], ◌∷◌, ◌++◌, map}
@@ -15,15 +16,12 @@ use borrow.Author.Tests.{ne_eqb, le-ltb, ltb-false}
 use Rattle.format.specs.Bytes.{pick, over, Bytes}
 use Rattle.format.specs.Header.{Header, opened, opening_of}
 use Rattle.format.specs.State.{Record}
-use Rattle.format.specs.Refusals.{Result, accepted}
+use Rattle.format.specs.Refusals.{Result, accepted, Verdict, Good, Refusal}
 use Rattle.format.specs.Sheet.{sheet_version, records_of, sheet_result}
 use Rattle.format.specs.WellFormed.{GoodHeader}
 use Rattle.format.specs.Reading.{items_of, sheet_from}
 use Rattle.format.specs.Editing.{edited, edit_outcome, edit_buffer}
 use Rattle.format.specs.Summary.{entrance, marks_in, marked, count_of, first_from, next_of, words_for, needed, summary, marks_of, takes, untaken, holds, unheld, summed_from, made_outcome, made_words, summary_outcome, summary_words, outside, looked, rank_in, count_in, entrances_outcome, edited_marks, count_verdict, update_outcome, update_words}
-use Rattle.format.specs.declared.Verdict.{Verdict}
-use Rattle.format.specs.declared.Verdict.TheVariants.{Good, Refusal}
-use Rattle.format.specs.declared.NextEntrance.TheVariants.{At, Nowhere}
 use Rattle.format.proofs.Basics.{pick_false, neither}
 use Rattle.format.proofs.HeaderLaws.{opening_fits}
 use Rattle.format.proofs.SheetLaws.{sheet_records, records_formed}
@@ -52,7 +50,7 @@ count_split ms a b h =
 
 -- ---- `looked`: the next entrance is the least marked record
 
-first_within : (l : List Bool) (i r : ℕ) → first_from i l ≡ At r → (i ≤ r) × (r < i + length l) × (get_or l (r - i) false ≡ true) × ((k : ℕ) → k < r - i → get_or l k false ≡ false)
+first_within : (l : List Bool) (i r : ℕ) → first_from i l ≡ Some r → (i ≤ r) × (r < i + length l) × (get_or l (r - i) false ≡ true) × ((k : ℕ) → k < r - i → get_or l k false ≡ false)
 unfolding first_from
 first_within [] i r e = absurd (let z : ◌≡◌ {A = ℕ} 0 1 = cc in omega arith)
 first_within (true ∷ l) i r e =
@@ -75,7 +73,7 @@ pub record Least (ms : List Bool) (a r : ℕ) : Type 0 where
   pub marks : get_or ms r false ≡ true
   pub least : (i : ℕ) → a ≤ i → i < r → get_or ms i false ≡ false
 
-pub next_least : (ms : List Bool) (a r : ℕ) → next_of ms a ≡ At r → Least ms a r
+pub next_least : (ms : List Bool) (a r : ℕ) → next_of ms a ≡ Some r → Least ms a r
 unfolding next_of
 next_least ms a r e =
     let h = first_within (drop a ms) a r e in
@@ -89,7 +87,7 @@ next_least ms a r e =
           ap (λ (k : ℕ). get_or ms k false) (sym f) ∙ sym (get_or-drop a ms (i - a) false) ∙ h.3 (i - a) (omega arith);
     }
 
-none_within : (l : List Bool) (i : ℕ) → first_from i l ≡ Nowhere → (k : ℕ) → get_or l k false ≡ false
+none_within : (l : List Bool) (i : ℕ) → first_from i l ≡ None → (k : ℕ) → get_or l k false ≡ false
 unfolding first_from
 none_within [] i e k = refl
 none_within (true ∷ l) i e k = absurd (let z : ◌≡◌ {A = ℕ} 0 1 = cc in omega arith)
@@ -97,7 +95,7 @@ none_within (false ∷ l) i e zero = refl
 none_within (false ∷ l) i e (suc k) = none_within l (suc i) e k
 
 -- "none" where no record is marked from there on
-pub next_none : (ms : List Bool) (a : ℕ) → next_of ms a ≡ Nowhere → (i : ℕ) → a ≤ i → get_or ms i false ≡ false
+pub next_none : (ms : List Bool) (a : ℕ) → next_of ms a ≡ None → (i : ℕ) → a ≤ i → get_or ms i false ≡ false
 unfolding next_of
 next_none ms a e i h =
     let d : a + (i - a) ≡ i = omega arith in

@@ -13,8 +13,7 @@ use Rattle.format.specs.Bytes.{pick, Bytes}
 use Rattle.format.specs.Header.{Header}
 use Rattle.format.specs.State.{Record}
 use Rattle.format.specs.Sheet.{sheet_version, records_of}
-use Rattle.format.specs.Refusals.{Result, buffer_of}
-use Rattle.format.specs.declared.Verdict.TheVariants.{Good}
+use Rattle.format.specs.Refusals.{Result, buffer_of, Good}
 use Rattle.format.specs.Reading.{items_of}
 use Rattle.format.specs.Writing.{v8, file_of, written_outcome}
 use Rattle.format.specs.Editing.{edited, run_verdict}

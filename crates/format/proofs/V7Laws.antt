@@ -1,6 +1,8 @@
 -- Laws of writing v7 (#110). A label is shortened by codes of its own, which make no record; the item behind them appends. So from a state
 -- whose style is not said, reading the codes of a record makes that record, its style not said, leaves the state that writing leaves, and goes
 -- on at what follows. Assumes nothing.
+use Rattle.std.specs.Prelude.{Some, Option}
+use Rattle.format.specs.declared.Point.{Point}
 use Prim.Native.Nat.{ℕ, zero, suc, ◌+◌, ◌-◌, ◌*◌, ◌/◌, ◌%◌, ◌≤◌, ◌<◌}
 use mathlib.Core.Path.{◌≡◌, refl, sym, ◌∙◌, subst}
 use mathlib.Core.List.{List, [], ◌∷◌, ◌++◌, append_assoc, append-nil}
@@ -12,23 +14,18 @@ use lib.Dec.{eqb, ltb}
 use borrow.Author.Tests.{ltb-true, ltb-false, eqb-true, eqb-false, lt-ltb, le-ltb, ne_eqb}
 use Rattle.format.specs.Bytes.{pick, le16, le32, to_le16, to_le32}
 use Rattle.format.specs.Label.{kept_of, labelled, label_step, label_limit}
-use Rattle.format.specs.declared.Kept.TheVariants.{Keeps}
 use Rattle.format.specs.declared.Cut.TheVariants.{Trim, Back}
-use Rattle.format.specs.Items.{Shorten, whole, old_part, station_item, line_item, section_item, move_item, error_item, v7_date_item, old_middle_item}
+use Rattle.format.specs.Items.{Shorten, whole, old_part, station_item, line_item, section_item, move_item, error_item, v7_date_item, old_middle_item, numbers}
 use Rattle.format.specs.Items.{old_low_item, old_high_item, item_of}
-use Rattle.format.specs.declared.LabelPart.TheVariants.{Numbers}
 use Rattle.format.specs.State.{not_said, State, Record, leg, station, section, error, named, dated_by, moved, on, made}
 use Rattle.format.specs.Sheet.{point_bytes, dimension_bytes, traverse_bytes}
 use Rattle.format.specs.WellFormed.{GoodLeg, GoodStation, GoodSection, WellFormed}
-use Rattle.format.specs.Refusals.{stop}
-use Rattle.format.specs.declared.Verdict.TheVariants.{Good}
+use Rattle.format.specs.Refusals.{stop, Good}
 use Rattle.format.specs.Reading.{next, run}
 use Rattle.format.specs.Codes.{common, date_if, move_if, all_short}
 use Rattle.format.specs.V7Codes.{sixteens, trim_codes, shorten_codes, old_length_codes, added_codes, labelled_codes, v7_dates, v7_section_codes, v7_codes}
 use Rattle.format.specs.V7Codes.{unstyled, v7_after, v7_closing, v7_unable}
 use Rattle.format.specs.declared.Dated.{Dated}
-use Rattle.format.specs.declared.Position.{Position}
-use Rattle.format.specs.declared.Position.TheVariants.{Stands}
 use Rattle.format.specs.declared.Leg.{Leg}
 use Rattle.format.specs.declared.Station.{Station}
 use Rattle.format.specs.declared.Section.{Section}
@@ -88,12 +85,12 @@ code_error t = simp (there 0x22 t)
 
 -- ---- the length of what is appended is read back
 
-old_length_read : (n : ℕ) (rest : List ℕ) → n < 4294967296 → old_part (old_length_codes n ++ rest) ≡ Numbers (length (old_length_codes n)) 0 n
+old_length_read : (n : ℕ) (rest : List ℕ) → n < 4294967296 → old_part (old_length_codes n ++ rest) ≡ numbers (length (old_length_codes n)) 0 n
 unfolding old_part old_length_codes to_le16 to_le32 pick
 old_length_read n rest h =
-    pick_case (λ (x : List ℕ). old_part (x ++ rest) ≡ Numbers (length x) 0 n) (ltb n 0xfe) _ _
+    pick_case (λ (x : List ℕ). old_part (x ++ rest) ≡ numbers (length x) 0 n) (ltb n 0xfe) _ _
     (λ e. simp (le-ltb (suc (length rest)) 1 (omega arith), e))
-    (λ e. pick_case (λ (x : List ℕ). old_part (x ++ rest) ≡ Numbers (length x) 0 n) (ltb n 65790) _ _
+    (λ e. pick_case (λ (x : List ℕ). old_part (x ++ rest) ≡ numbers (length x) 0 n) (ltb n 65790) _ _
     (λ q.
     let low = ltb-false n 0xfe e in
     let high = ltb-true n 65790 q in
@@ -115,7 +112,7 @@ unfolding next pick
 trim_next st rest c h0 h1 h2 h3 =
     let l = st.label in
     let n = c - 15 in
-    let k : kept_of l (Trim n) ≡ Keeps (length l - n) = simp (lt-ltb n (length l) h2) in
+    let k : kept_of l (Trim n) ≡ Some (length l - n) = simp (lt-ltb n (length l) h2) in
     let e : label_step l (Trim n) [] ≡ labelled (take (length l - n) l) = step_fits l (Trim n) [] (length l - n) k (omega arith) ∙ rw append-nil in
     rw (code_trim c rest h0 h1, e)
 
@@ -264,7 +261,7 @@ module _ (st : State) (rest : List ℕ) (hl : length st.label ≤ label_limit) (
       )))
 
   -- LINE, where date and position are the leg's and the style is not said
-  line_go : (g : Leg) → GoodLeg g m → st.setting.style ≡ not_said → st.setting.date ≡ g.date → st.setting.position ≡ Stands g.from
+  line_go : (g : Leg) → GoodLeg g m → st.setting.style ≡ not_said → st.setting.date ≡ g.date → st.setting.position ≡ Some g.from
       → Goes 7 (labelled_codes st.label m (0x80 + g.flags) (point_bytes to_le32 g.to) ++ rest) st (unstyled (leg g m) ∷ [])
       (length (labelled_codes st.label m (0x80 + g.flags) (point_bytes to_le32 g.to))) (moved g.to (named m st))
   unfolding added_codes next
@@ -283,10 +280,10 @@ module _ (st : State) (rest : List ℕ) (hl : length st.label ≤ label_limit) (
 -- ---- the codes of a record
 
 -- a state whose style is not said
-abbrev unsaid : List ℕ → Dated → Position → State
+abbrev unsaid : List ℕ → Dated → Option Point → State
 unsaid l date position = record { label = l; setting = record { style = not_said; date = date; position = position } }
 
-module _ (l : List ℕ) (date : Dated) (position : Position) (hl : length l ≤ label_limit) (rest : List ℕ) where
+module _ (l : List ℕ) (date : Dated) (position : Option Point) (hl : length l ≤ label_limit) (rest : List ℕ) where
   abbrev here : State
   here = unsaid l date position
 

@@ -10,7 +10,7 @@ use lib.Dec.{leb}
 use borrow.Author.Tests.{ne_eqb, lt-leb}
 use Rattle.format.specs.Bytes.{pick, be16, be32, to_be16, to_be32, Bytes}
 use Rattle.format.specs.State.{State, section}
-use Rattle.format.specs.Refusals.{stop}
+use Rattle.format.specs.Refusals.{stop, Good, Refusal}
 use Rattle.format.specs.Sheet.{sheet_version, undated_version, section_size, undated_section_body, layout, Entry, flawed, entry, good_date, date_from}
 use Rattle.format.specs.Sheet.{section_entry, body_entry, framed, entry_of, good_front, front_header, version_result, version_of, sheet_result}
 use Rattle.format.specs.Codes.{same_date, v8_dates, date_if, section_codes, codes}
@@ -18,7 +18,6 @@ use Rattle.format.specs.Writing.{Writer, write_outcome, write_buffer, twin}
 use Rattle.format.specs.declared.Section.{Section}
 use Rattle.format.specs.declared.Dated.{Dated}
 use Rattle.format.specs.declared.Dated.TheVariants.{Undated, Day, Range}
-use Rattle.format.specs.declared.Verdict.TheVariants.{Good, Refusal}
 use Rattle.format.proofs.Basics.{pick_case, pick_false, be16_to}
 use Rattle.format.proofs.SheetLaws.{records_sheet, sheet_records}
 

@@ -17,7 +17,7 @@ use lib.Ieee.Back.{round_whole}
 use borrow.Author.Tests.{ne_eqb, ltb-true, ltb-false, lt-ltb, le-ltb}
 use Rattle.format.specs.Bytes.{pick, Bytes}
 use Rattle.format.specs.State.{Record, leg, station, section, error}
-use Rattle.format.specs.Refusals.{Result, refused}
+use Rattle.format.specs.Refusals.{Result, refused, Verdict, Good, Refusal}
 use Rattle.format.specs.Sheet.{layout, layout_all, header_layout, sheet_of, version_result, version_of, sheet_result, front_header, behind_front}
 use Rattle.format.specs.Writing.{Writer, headed_by, filed_outcome, written_outcome, write_outcome}
 use Rattle.format.specs.Reach.{axis_x, axis_y, axis_z, legs_of, ends, bounds_of, spans, unspanned, reach_from, reach_of}
@@ -27,8 +27,6 @@ use Rattle.format.specs.Answers.{row_of}
 use Rattle.format.specs.declared.Corner.{Corner}
 use Rattle.format.specs.declared.Origin.{Origin}
 use Rattle.format.specs.declared.Leg.{Leg}
-use Rattle.format.specs.declared.Verdict.{Verdict}
-use Rattle.format.specs.declared.Verdict.TheVariants.{Good, Refusal}
 use Rattle.format.proofs.Basics.{pick_case, pick_true, pick_false, second_picked, neither, or_false}
 use Rattle.format.proofs.ReachLaws.{takes_all, Among, Spans}
 use Rattle.format.proofs.OurFiles.{IsNot, records_not}

@@ -1,5 +1,6 @@
 -- Laws of writing: any writer's codes of records in a row, and for v8 `codes_read`: from any state, reading the codes of a record makes
 -- exactly that record, leaves the state that writing leaves, and goes on at what follows. Assumes nothing.
+use Rattle.std.specs.Prelude.{Some}
 use Prim.Native.Nat.{ℕ, suc, ◌+◌, ◌-◌, ◌*◌, ◌/◌, ◌%◌, ◌≤◌, ◌<◌}
 use mathlib.Core.Path.{◌≡◌, refl, sym, ap, ap₂, ◌∙◌}
 use mathlib.Core.List.{List, [], ◌∷◌, ◌++◌, append_assoc}
@@ -12,12 +13,10 @@ use borrow.Author.Tests.{ltb-true, leb-true, eqb-true, eqb-false, lt-ltb, le-ltb
 use Rattle.format.specs.Bytes.{pick, same, to_le16, to_le32}
 use Rattle.format.specs.Label.{labelled, label_step, label_limit}
 use Rattle.format.specs.declared.Cut.TheVariants.{Back}
-use Rattle.format.specs.Items.{Style, Xsect, Label, Line, whole, sized, length_size, length_value, long_part, new_part, labelled_item, station_item, line_item, section_item, move_item, error_item, new_date_item, new_low_item, new_high_item, item_of}
-use Rattle.format.specs.declared.LabelPart.TheVariants.{Numbers}
+use Rattle.format.specs.Items.{Style, Xsect, Label, Line, whole, sized, length_size, length_value, long_part, new_part, labelled_item, station_item, line_item, section_item, move_item, error_item, new_date_item, new_low_item, new_high_item, item_of, numbers}
 use Rattle.format.specs.State.{State, Record, leg, station, section, error, named, styled, dated_by, moved, on, made}
 use Rattle.format.specs.Sheet.{point_bytes, dimension_bytes, traverse_bytes}
-use Rattle.format.specs.Refusals.{stop}
-use Rattle.format.specs.declared.Verdict.TheVariants.{Good}
+use Rattle.format.specs.Refusals.{stop, Good}
 use Rattle.format.specs.WellFormed.{GoodPoint, GoodDimensions, GoodTraverse, GoodLeg, GoodStation, GoodSection, WellFormed}
 use Rattle.format.specs.Reading.{next, run}
 use Rattle.format.specs.Writing.{Writer, codes_all, after_all, encode_all, records_verdict}
@@ -25,7 +24,6 @@ use Rattle.format.specs.Codes.{common, length_codes, part_codes, label_codes, ke
 use Rattle.format.specs.declared.Point.{Point}
 use Rattle.format.specs.declared.Dimensions.{Dimensions}
 use Rattle.format.specs.declared.Traverse.{Traverse}
-use Rattle.format.specs.declared.Position.TheVariants.{Stands}
 use Rattle.format.specs.declared.Setting.{Setting}
 use Rattle.format.specs.declared.Fields.{Fields}
 use Rattle.format.specs.declared.Fields.TheVariants.{Leg as FieldsLeg, Station as FieldsStation, Section as FieldsSection, Error as FieldsError}
@@ -144,7 +142,7 @@ unfolding length_codes to_le32
 length_codes_lem n = pick_case (λ (x : List ℕ). (1 ≤ length x) × (length x ≤ 5)) _ _ _ (λ e. (omega arith, omega arith)) (λ e. (omega arith, omega arith))
 
 long_read : (d a : ℕ) (rest : List ℕ) → d < 4294967296 → a < 4294967296
-    → long_part (0 ∷ (length_codes d ++ (length_codes a ++ rest))) ≡ Numbers (length (0 ∷ (length_codes d ++ length_codes a))) d a
+    → long_part (0 ∷ (length_codes d ++ (length_codes a ++ rest))) ≡ numbers (length (0 ∷ (length_codes d ++ length_codes a))) d a
 unfolding long_part pick
 long_read d a rest hd ha =
     let D = length_codes d in
@@ -164,12 +162,12 @@ either_positive d a e = go (ltb 0 d) refl e
     go false q e = omega (arith, ltb-true 0 a e)
 
 -- the numbers of a label part are read back
-pub part_read : (d a : ℕ) (rest : List ℕ) → d < 4294967296 → a < 4294967296 → new_part (part_codes d a ++ rest) ≡ Numbers (length (part_codes d a)) d a
+pub part_read : (d a : ℕ) (rest : List ℕ) → d < 4294967296 → a < 4294967296 → new_part (part_codes d a ++ rest) ≡ numbers (length (part_codes d a)) d a
 unfolding new_part part_codes pick
 part_read d a rest hd ha = go ((leb d 15 && leb a 15) && (ltb 0 d || ltb 0 a)) refl
   where
     go : (b : Bool) → ((leb d 15 && leb a 15) && (ltb 0 d || ltb 0 a)) ≡ b
-        → new_part (pick b ((16 * d + a) ∷ []) (0 ∷ (length_codes d ++ length_codes a)) ++ rest) ≡ Numbers (length (pick b ((16 * d + a) ∷ []) (0 ∷ (length_codes d ++ length_codes a)))) d a
+        → new_part (pick b ((16 * d + a) ∷ []) (0 ∷ (length_codes d ++ length_codes a)) ++ rest) ≡ numbers (length (pick b ((16 * d + a) ∷ []) (0 ∷ (length_codes d ++ length_codes a)))) d a
     go true e =
         let p = both (leb d 15 && leb a 15) (ltb 0 d || ltb 0 a) e in
         let q = both (leb d 15) (leb a 15) p.0 in
@@ -213,7 +211,7 @@ module _ (c : ℕ) (t : List ℕ) where
   unfolding item_of new_high_item pick
   code_line h k = simp (there c t, le-ltb c 48 (omega arith), le-ltb c 52 (omega arith), le-ltb c 64 (omega arith), lt-ltb c 72 k)
 
-  code_same_line : 96 ≤ c → c < 104 → item_of 8 (c ∷ t) ≡ line_item (c - 0x60) (Numbers 0 0 0) t
+  code_same_line : 96 ≤ c → c < 104 → item_of 8 (c ∷ t) ≡ line_item (c - 0x60) (numbers 0 0 0) t
   unfolding item_of new_high_item pick
   code_same_line h k =
       simp (there c t, le-ltb c 48 (omega arith), le-ltb c 52 (omega arith), le-ltb c 64 (omega arith), le-ltb c 72 (omega arith), le-ltb c 96 (omega arith), lt-ltb c 104 k)
@@ -356,7 +354,7 @@ module _ (st : State) (rest : List ℕ) (hl : length st.label ≤ label_limit) w
   leg_along flags from to = record { flags = flags; style = st.setting.style; date = st.setting.date; from = from; to = to }
 
   -- LINE, where the position is the leg's "from"
-  line_read : (flags : ℕ) (from to : Point) (label : List ℕ) → flags ≤ 7 → GoodPoint to → length label ≤ label_limit → st.setting.position ≡ Stands from
+  line_read : (flags : ℕ) (from to : Point) (label : List ℕ) → flags ≤ 7 → GoodPoint to → length label ≤ label_limit → st.setting.position ≡ Some from
       → Reads (line_codes st.label flags to label) (leg (leg_along flags from to) label) (moved to (named label st))
   unfolding line_codes next
   line_read flags from to label hf g hm hp =

@@ -1,5 +1,6 @@
 -- Items as a writer makes them, whatever the version: what stands behind a code is read back. A version says which item a code is, and a
 -- label part how its numbers are read; the rest is argued once. Assumes nothing.
+use Rattle.std.specs.Prelude.{Option, None, Some}
 use Prim.Native.Nat.{ℕ, suc, ◌+◌, ◌-◌, ◌%◌, ◌≤◌, ◌<◌}
 use mathlib.Core.Path.{◌≡◌, refl, sym, ap, ap₂, ◌∙◌, subst}
 use mathlib.Core.List.{List, [], ◌∷◌, ◌++◌, append_assoc}
@@ -10,10 +11,9 @@ use lib.Seq.{take-append_seam, drop-append_seam, drop-append-add}
 use lib.Dec.{eqb, ltb}
 use borrow.Author.Tests.{eqb-true, lt-ltb, le-ltb, eq-eqb, ne_eqb}
 use Rattle.format.specs.Bytes.{pick, le16, le32, to_le16, to_le32}
-use Rattle.format.specs.Items.{point_of, traverse_of, Item, NoDate, Xsect, Label, Line, whole, sized, labelled_item, station_item, line_item}
+use Rattle.format.specs.Items.{point_of, traverse_of, Item, NoDate, Xsect, Label, Line, whole, sized, labelled_item, station_item, line_item, numbers}
 use Rattle.format.specs.Items.{section_item, move_item, error_item, day_item, span_item, days_item, item_of}
 use Rattle.format.specs.declared.LabelPart.{LabelPart}
-use Rattle.format.specs.declared.LabelPart.TheVariants.{Numbers}
 use Rattle.format.specs.State.{State, error, dated_by, moved, on, made, date_of, bad_dates}
 use Rattle.format.specs.Sheet.{point_bytes, dimension_bytes, traverse_bytes}
 use Rattle.format.specs.WellFormed.{GoodPoint, GoodDimensions, GoodTraverse, GoodDated}
@@ -25,8 +25,6 @@ use Rattle.format.specs.declared.Dimensions.{Dimensions}
 use Rattle.format.specs.declared.Traverse.{Traverse}
 use Rattle.format.specs.declared.Dated.{Dated}
 use Rattle.format.specs.declared.Dated.TheVariants.{Undated, Day, Range}
-use Rattle.format.specs.declared.Position.{Position}
-use Rattle.format.specs.declared.Position.TheVariants.{Unset, Stands}
 use Rattle.format.proofs.Basics.{pick_case, pick_true, pick_false, and_true, both, le16_to}
 use Rattle.format.proofs.Rows.{le16_width, le32_width, point_back, traverse_back, wide_dimensions_back, short_dimensions_back}
 use Rattle.format.proofs.GoingLaws.{Goes, stays, goes_on_lem}
@@ -38,10 +36,10 @@ there c t = le-ltb (suc (length t)) 1 (omega arith)
 -- ---- an item with a label
 
 -- the bytes P are read as the numbers of a label part: D bytes to drop, and those of `added` to append
-pub record PartRead (part : List ℕ → LabelPart) (P : List ℕ) (D : ℕ) (added : List ℕ) : Type 0 where
-  pub numbers : (tail : List ℕ) → part (P ++ (added ++ tail)) ≡ Numbers (length P) D (length added)
+pub record PartRead (part : List ℕ → Option LabelPart) (P : List ℕ) (D : ℕ) (added : List ℕ) : Type 0 where
+  pub numbers : (tail : List ℕ) → part (P ++ (added ++ tail)) ≡ numbers (length P) D (length added)
 
-module _ (version : ℕ) {part : List ℕ → LabelPart} {P : List ℕ} {D : ℕ} {added : List ℕ} (reads : PartRead part P D added) where
+module _ (version : ℕ) {part : List ℕ → Option LabelPart} {P : List ℕ} {D : ℕ} {added : List ℕ} (reads : PartRead part P D added) where
   -- a code, the label part and what follows it
   abbrev pub item : ℕ → List ℕ → List ℕ
   item c fields = c ∷ ((P ++ added) ++ fields)
@@ -183,12 +181,12 @@ pub same_point_refl : (p : Point) → same_point p p ≡ true
 unfolding same_point
 same_point_refl p = and_true (eq-eqb p.x p.x refl) (and_true (eq-eqb p.y p.y refl) (eq-eqb p.z p.z refl))
 
-pub stands_at_lem : (q : Position) (p : Point) → stands_at q p ≡ true → q ≡ Stands p
-stands_at_lem Unset p t = cc
-stands_at_lem (Stands q) p t = ap Stands (same_point_lem q p t)
+pub stands_at_lem : (q : Option Point) (p : Point) → stands_at q p ≡ true → q ≡ Some p
+stands_at_lem None p t = cc
+stands_at_lem (Some q) p t = ap Some (same_point_lem q p t)
 
 -- the state with another position
-abbrev placed : Position → State → State
+abbrev placed : Option Point → State → State
 placed q st = record { label = st.label; setting = record { style = st.setting.style; date = st.setting.date; position = q } }
 
 module _ (version : ℕ) (st : State) (rest : List ℕ) where
@@ -215,6 +213,6 @@ module _ (version : ℕ) (st : State) (rest : List ℕ) where
   unfolding move_if
   move_if_read is from g =
       let n : length (0x0f ∷ point_bytes to_le32 from) ≡ 13 = simp (length-append, le32_width) in
-      written_if version (λ s. s.setting.position) placed (λ s. refl) st (Stands from) _ (0x0f ∷ point_bytes to_le32 from) rest
+      written_if version (λ s. s.setting.position) placed (λ s. refl) st (Some from) _ (0x0f ∷ point_bytes to_le32 from) rest
       (stands_at_lem st.setting.position from)
       (λ e. rw n (move_next is from g))

@@ -1,5 +1,5 @@
 -- The codes of v8, document 01, "Writing v8": those of each record, of the header and of the end, and refusal 13. Assumes nothing.
-use Rattle.std.specs.Prelude.{ℕ, suc, ◌+◌, ◌-◌, ◌*◌, List, [], ◌∷◌, ◌++◌, Bool, true, false, ◌&&◌, ◌||◌, not, length, drop, eqb, ltb, leb}
+use Rattle.std.specs.Prelude.{ℕ, suc, ◌+◌, ◌-◌, ◌*◌, List, [], ◌∷◌, ◌++◌, Bool, true, false, ◌&&◌, ◌||◌, not, length, drop, eqb, ltb, leb, Option, None, Some}
 use Rattle.format.specs.Bytes.{pick, same, to_le16, to_le32}
 use Rattle.format.specs.Header.{Header, magic, title_limit, time_limit}
 use Rattle.format.specs.Label.{label_limit}
@@ -11,8 +11,6 @@ use Rattle.format.specs.declared.Traverse.{Traverse}
 use Rattle.format.specs.declared.Dated.{Dated}
 use Rattle.format.specs.declared.DateCodes.{DateCodes}
 use Rattle.format.specs.declared.Dated.TheVariants.{Undated, Day, Range}
-use Rattle.format.specs.declared.Position.{Position}
-use Rattle.format.specs.declared.Position.TheVariants.{Unset, Stands}
 use Rattle.format.specs.declared.Setting.{Setting}
 use Rattle.format.specs.declared.Station.{Station}
 use Rattle.format.specs.declared.Section.{Section}
@@ -71,9 +69,9 @@ v8_dates = record { none = 0x10; day = 0x11; span = 0x12; days = 0x13 }
 unfoldable pub same_point : Point → Point → Bool
 same_point p q = eqb p.x q.x && (eqb p.y q.y && eqb p.z q.z)
 
-abbrev pub stands_at : Position → Point → Bool
-stands_at Unset p = false
-stands_at (Stands q) p = same_point q p
+abbrev pub stands_at : Option Point → Point → Bool
+stands_at None p = false
+stands_at (Some q) p = same_point q p
 
 -- ---- the parts of a leg's codes, in their order; a section has its date before it too
 
@@ -86,7 +84,7 @@ unfoldable pub date_if : DateCodes → Dated → Dated → List ℕ
 date_if c current date = pick (same_date current date) [] (dated_codes c date)
 
 -- "MOVE if the position is unset or differs from "from""
-unfoldable pub move_if : Position → Point → List ℕ
+unfoldable pub move_if : Option Point → Point → List ℕ
 move_if current from = pick (stands_at current from) [] (0x0f ∷ point_bytes to_le32 from)
 
 -- "a leg with the same label uses 0x20"; `last` is the previous label
@@ -133,7 +131,7 @@ codes st (error t) = error_codes t
 
 -- the style, date and position that they leave
 abbrev pub setting_after : Setting → Record → Setting
-setting_after setting (leg g label) = record { style = g.style; date = g.date; position = Stands g.to }
+setting_after setting (leg g label) = record { style = g.style; date = g.date; position = Some g.to }
 setting_after setting (station s label) = setting
 setting_after setting (section s label) = record { style = setting.style; date = s.date; position = setting.position }
 setting_after setting (error t) = setting

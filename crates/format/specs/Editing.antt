@@ -5,9 +5,7 @@ use Rattle.format.specs.Bytes.{pick, same}
 use Rattle.format.specs.Header.{Header, Opening, shut, opened, opening_of}
 use Rattle.format.specs.State.{State, start, Record}
 use Rattle.format.specs.Sheet.{sheet_version, records_of}
-use Rattle.format.specs.Refusals.{Result, or_else, Outcome, refused, buffer_of}
-use Rattle.format.specs.declared.Verdict.TheVariants.{Good, Refusal}
-use Rattle.format.specs.declared.Verdict.{Verdict}
+use Rattle.format.specs.Refusals.{Result, or_else, Outcome, refused, buffer_of, Good, Refusal, Verdict}
 use Rattle.format.specs.Reading.{items_of, Reached}
 use Rattle.format.specs.Writing.{v8, codes_all, file_of, written_outcome}
 use Rattle.format.specs.Codes.{header_codes}

@@ -1,11 +1,10 @@
 -- Items, document 01, "Items, v3 to v7" and "Items, v8": the item at the front of the bytes, or refusal 4 or 5.
 -- Nothing here looks at the state. Assumes nothing.
-use Rattle.std.specs.Prelude.{ℕ, ◌+◌, ◌-◌, ◌/◌, ◌%◌, List, length, get_or, take, drop, eqb, ltb}
+use Rattle.std.specs.Prelude.{ℕ, ◌+◌, ◌-◌, ◌/◌, ◌%◌, List, length, get_or, take, drop, eqb, ltb, Option, None, Some}
 use Rattle.format.specs.Bytes.{pick, le16, le32, widened}
 use Rattle.format.specs.declared.Cut.{Cut}
 use Rattle.format.specs.declared.Cut.TheVariants.{ToDot, Trim}
 use Rattle.format.specs.declared.LabelPart.{LabelPart}
-use Rattle.format.specs.declared.LabelPart.TheVariants.{Unfinished, Numbers}
 use Rattle.format.specs.declared.Point.{Point}
 use Rattle.format.specs.declared.Dimensions.{Dimensions}
 use Rattle.format.specs.declared.Traverse.{Traverse}
@@ -56,14 +55,18 @@ sized n s it = pick (ltb (length s) n) (faulty 5) (whole n it)
 
 -- ---- label parts: the bytes t after the code begin with the size of the part's own numbers, then the bytes to append
 
+-- the numbers of a label part: its own size, D and A
+abbrev pub numbers : ℕ → ℕ → ℕ → Option LabelPart
+numbers k d a = Some (record { size = k; drop = d; add = a })
+
 -- v3 to v7: "A label is a length and bytes to append: 00-fd itself; fe and u16 plus 254; ff and u32"
-unfoldable pub old_part : List ℕ → LabelPart
+unfoldable pub old_part : List ℕ → Option LabelPart
 old_part t =
-    pick (ltb (length t) 1) Unfinished
-    (pick (ltb (get_or t 0 0) 0xfe) (Numbers 1 0 (get_or t 0 0))
+    pick (ltb (length t) 1) None
+    (pick (ltb (get_or t 0 0) 0xfe) (numbers 1 0 (get_or t 0 0))
     (pick (eqb (get_or t 0 0) 0xfe)
-    (pick (ltb (length t) 3) Unfinished (Numbers 3 0 (le16 (drop 1 t) + 254)))
-    (pick (ltb (length t) 5) Unfinished (Numbers 5 0 (le32 (drop 1 t))))))
+    (pick (ltb (length t) 3) None (numbers 3 0 (le16 (drop 1 t) + 254)))
+    (pick (ltb (length t) 5) None (numbers 5 0 (le32 (drop 1 t))))))
 
 -- v8: "each one byte below ff, or ff and u32": the size of the number at the front of t, 0 where it is unfinished
 unfoldable pub length_size : List ℕ → ℕ
@@ -74,41 +77,41 @@ unfoldable pub length_value : List ℕ → ℕ
 length_value t = pick (ltb (get_or t 0 0) 0xff) (get_or t 0 0) (le32 (drop 1 t))
 
 -- "or 00, then D, then A"
-unfoldable pub long_part : List ℕ → LabelPart
+unfoldable pub long_part : List ℕ → Option LabelPart
 long_part t =
     let d = length_size (drop 1 t) in
     let a = length_size (drop (1 + d) t) in
-    pick (eqb d 0) Unfinished
-    (pick (eqb a 0) Unfinished (Numbers (1 + d + a) (length_value (drop 1 t)) (length_value (drop (1 + d) t))))
+    pick (eqb d 0) None
+    (pick (eqb a 0) None (numbers (1 + d + a) (length_value (drop 1 t)) (length_value (drop (1 + d) t))))
 
 -- v8: "A label is D bytes to drop, then A to append: one non-zero byte 16D+A; or 00, then D, then A"
-unfoldable pub new_part : List ℕ → LabelPart
+unfoldable pub new_part : List ℕ → Option LabelPart
 new_part t =
-    pick (ltb (length t) 1) Unfinished
-    (pick (eqb (get_or t 0 0) 0x00) (long_part t) (Numbers 1 (get_or t 0 0 / 16) (get_or t 0 0 % 16)))
+    pick (ltb (length t) 1) None
+    (pick (eqb (get_or t 0 0) 0x00) (long_part t) (numbers 1 (get_or t 0 0 / 16) (get_or t 0 0 % 16)))
 
 -- an item of a code, a label part and n more bytes: `make` is given D, the bytes to append and what follows them
-abbrev pub with_part : LabelPart → List ℕ → ℕ → (ℕ → List ℕ → List ℕ → Item) → Decoded
-with_part Unfinished t n make = faulty 5
-with_part (Numbers k d a) t n make = sized (k + a + n) t (make d (take a (drop k t)) (drop (k + a) t))
+abbrev pub with_part : Option LabelPart → List ℕ → ℕ → (ℕ → List ℕ → List ℕ → Item) → Decoded
+with_part None t n make = faulty 5
+with_part (Some q) t n make = sized (q.size + q.add + n) t (make q.drop (take q.add (drop q.size t)) (drop (q.size + q.add) t))
 
 -- the code's own byte added to a size
 abbrev pub behind_code : Decoded → Decoded
 behind_code (faulty k) = faulty k
 behind_code (whole n it) = whole (1 + n) it
 
-unfoldable pub labelled_item : LabelPart → List ℕ → ℕ → (ℕ → List ℕ → List ℕ → Item) → Decoded
+unfoldable pub labelled_item : Option LabelPart → List ℕ → ℕ → (ℕ → List ℕ → List ℕ → Item) → Decoded
 labelled_item p t n make = behind_code (with_part p t n make)
 
 -- LABEL and LINE: flags, label, x y z
-unfoldable pub station_item : ℕ → LabelPart → List ℕ → Decoded
+unfoldable pub station_item : ℕ → Option LabelPart → List ℕ → Decoded
 station_item flags p t = labelled_item p t 12 (λ d added rest. Label flags (point_of le32 rest) d added)
 
-unfoldable pub line_item : ℕ → LabelPart → List ℕ → Decoded
+unfoldable pub line_item : ℕ → Option LabelPart → List ℕ → Decoded
 line_item flags p t = labelled_item p t 12 (λ d added rest. Line flags (point_of le32 rest) d added)
 
 -- 30-31, 32-33: "XSECT: label, then L R U D as i16 or i32; bit 0: last in passage"
-unfoldable pub section_item : ℕ → LabelPart → List ℕ → Decoded
+unfoldable pub section_item : ℕ → Option LabelPart → List ℕ → Decoded
 section_item code p t =
     pick (ltb code 0x32)
     (labelled_item p t 8 (λ d added rest. Xsect (code % 2) (dimensions_of 2 (λ s. widened (le16 s)) rest) d added))
@@ -212,7 +215,7 @@ new_high_item code t =
     (pick (ltb code 0x40) reserved
     (pick (ltb code 0x48) (line_item (code - 0x40) (new_part t) t)
     (pick (ltb code 0x60) reserved
-    (pick (ltb code 0x68) (line_item (code - 0x60) (Numbers 0 0 0) t)
+    (pick (ltb code 0x68) (line_item (code - 0x60) (numbers 0 0 0) t)
     (pick (ltb code 0x80) reserved
     (station_item (code - 0x80) (new_part t) t))))))
 

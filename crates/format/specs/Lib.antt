@@ -4,6 +4,7 @@ pub mod Label
 pub mod Items
 pub mod State
 pub mod Iterate
+pub mod Faults
 pub mod Refusals
 pub mod Sheet
 pub mod WellFormed

@@ -3,12 +3,10 @@ use Rattle.std.specs.Prelude.{ℕ, ◌-◌, List, [], ◌∷◌, ◌++◌, Bool,
 use Rattle.std.specs.Int.Signed.{lt_z}
 use Rattle.format.specs.Bytes.{pick, same}
 use Rattle.format.specs.State.{Record, leg, station, section, error}
-use Rattle.format.specs.Refusals.{Result}
+use Rattle.format.specs.Refusals.{Result, Verdict, Good, Refusal}
 use Rattle.format.specs.Sheet.{sheet_result}
 use Rattle.format.specs.declared.Point.{Point}
 use Rattle.format.specs.declared.Leg.{Leg}
-use Rattle.format.specs.declared.Verdict.{Verdict}
-use Rattle.format.specs.declared.Verdict.TheVariants.{Good, Refusal}
 
 -- ---- "coordinates i32 centimetres"
 

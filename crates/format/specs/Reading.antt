@@ -6,9 +6,7 @@ use Rattle.format.specs.Header.{Opening, shut, opened, opening_of}
 use Rattle.format.specs.Items.{item_of}
 use Rattle.format.specs.State.{State, start, Record, Next, bad, end, on, made, next_of}
 use Rattle.format.specs.Sheet.{sheet_version, sheet_of}
-use Rattle.format.specs.Refusals.{Result, stop, also, Outcome, refused, outcome_of, buffer_of}
-use Rattle.format.specs.declared.Verdict.TheVariants.{Good, Refusal}
-use Rattle.format.specs.declared.Verdict.{Verdict}
+use Rattle.format.specs.Refusals.{Result, stop, also, Outcome, refused, outcome_of, buffer_of, Good, Refusal, Verdict}
 use Rattle.format.specs.Iterate.{iter}
 
 -- ---- the items of a file, in order

@@ -3,8 +3,11 @@
 use Rattle.std.specs.Prelude.{ℕ, List, [], ◌∷◌, Bool, ◌&&◌, ◌||◌, eqb, ltb, leb}
 use Rattle.format.specs.Bytes.{pick, over}
 use Rattle.format.specs.State.{Record}
-use Rattle.format.specs.declared.Verdict.{Verdict}
-use Rattle.format.specs.declared.Verdict.TheVariants.{Good, Refusal}
+
+-- none, or a refusal's number and place
+pub data Verdict : Type 0 where
+  Good : Verdict
+  Refusal : ℕ → ℕ → Verdict
 
 -- the first refusal of two
 abbrev pub or_else : Verdict → Verdict → Verdict

@@ -6,7 +6,7 @@ use Rattle.format.specs.Header.{Header, line_end, ends_in_return, title_limit, t
 use Rattle.format.specs.Label.{label_limit}
 use Rattle.format.specs.Items.{point_of, dimensions_of, traverse_of}
 use Rattle.format.specs.State.{Record, leg, station, section, error}
-use Rattle.format.specs.Refusals.{Result, stop, also}
+use Rattle.format.specs.Refusals.{Result, stop, also, Good, Refusal}
 use Rattle.format.specs.Iterate.{iter}
 use Rattle.format.specs.declared.Point.{Point}
 use Rattle.format.specs.declared.Dimensions.{Dimensions}
@@ -16,7 +16,6 @@ use Rattle.format.specs.declared.Station.{Station}
 use Rattle.format.specs.declared.Section.{Section}
 use Rattle.format.specs.declared.Dated.{Dated}
 use Rattle.format.specs.declared.Dated.TheVariants.{Undated, Day, Range}
-use Rattle.format.specs.declared.Verdict.TheVariants.{Good, Refusal}
 
 -- ---- numbers in a row, each written by `bytes`
 

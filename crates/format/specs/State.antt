@@ -1,5 +1,5 @@
 -- State and records, document 01, "State and sheet": what an item does to the state, with refusals 6, 7, 9, 8. Assumes nothing.
-use Rattle.std.specs.Prelude.{ℕ, List, [], Bool, ◌&&◌, ◌||◌, length, eqb, ltb}
+use Rattle.std.specs.Prelude.{ℕ, List, [], Bool, ◌&&◌, ◌||◌, length, eqb, ltb, Option, None, Some}
 use Rattle.format.specs.Bytes.{pick}
 use Rattle.format.specs.Label.{Labelled, too_short, too_long, labelled, label_step}
 use Rattle.format.specs.declared.Cut.TheVariants.{Empty, Back}
@@ -11,8 +11,6 @@ use Rattle.format.specs.declared.Section.{Section}
 use Rattle.format.specs.declared.Traverse.{Traverse}
 use Rattle.format.specs.declared.Dated.{Dated}
 use Rattle.format.specs.declared.Dated.TheVariants.{Undated, Day, Range}
-use Rattle.format.specs.declared.Position.{Position}
-use Rattle.format.specs.declared.Position.TheVariants.{Unset, Stands}
 use Rattle.format.specs.declared.Setting.{Setting}
 
 -- what items and records find and change: the current label; style, date and position
@@ -26,7 +24,7 @@ not_said = 5
 
 -- "At the start the label is empty, the date none, the style "not said" (5 ..), the position unset"
 abbrev pub start_setting : Setting
-start_setting = record { style = not_said; date = Undated; position = Unset }
+start_setting = record { style = not_said; date = Undated; position = None }
 
 abbrev pub start : State
 start = record { label = []; setting = start_setting }
@@ -50,7 +48,7 @@ abbrev pub dated_by : Dated → State → State
 dated_by d st = record { label = st.label; setting = record { style = st.setting.style; date = d; position = st.setting.position } }
 
 abbrev pub moved : Point → State → State
-moved p st = record { label = st.label; setting = record { style = st.setting.style; date = st.setting.date; position = Stands p } }
+moved p st = record { label = st.label; setting = record { style = st.setting.style; date = st.setting.date; position = Some p } }
 
 -- ---- what an item comes to
 
@@ -76,9 +74,9 @@ on_label too_long go = bad 7
 on_label (labelled l) go = go l
 
 -- a leg from the position; 8: "LINE with no position"
-abbrev pub leg_from : Position → ℕ → State → ℕ → Point → List ℕ → Next
-leg_from Unset n st flags to l = bad 8
-leg_from (Stands from) n st flags to l = made n (leg (record { flags = flags; style = st.setting.style; date = st.setting.date; from = from; to = to }) l) (moved to (named l st))
+abbrev pub leg_from : Option Point → ℕ → State → ℕ → Point → List ℕ → Next
+leg_from None n st flags to l = bad 8
+leg_from (Some from) n st flags to l = made n (leg (record { flags = flags; style = st.setting.style; date = st.setting.date; from = from; to = to }) l) (moved to (named l st))
 
 -- what an item of n bytes does to the state
 abbrev pub apply : State → ℕ → Item → Next

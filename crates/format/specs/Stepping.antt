@@ -1,11 +1,10 @@
 -- Stepping, document 01, "Stepping": opening, and one step. Assumes nothing.
+use Rattle.format.specs.Refusals.{Good, Refusal, Verdict}
 use Rattle.std.specs.Prelude.{ℕ, zero, suc, ◌+◌, List, [], ◌++◌, length, drop, ltb}
 use Rattle.format.specs.Bytes.{pick, over}
 use Rattle.format.specs.Header.{Opening, shut, opened, opening_of}
 use Rattle.format.specs.State.{State, start, Record, Next, bad, end, on, made}
 use Rattle.format.specs.Sheet.{sheet_version, layout}
-use Rattle.format.specs.declared.Verdict.TheVariants.{Good, Refusal}
-use Rattle.format.specs.declared.Verdict.{Verdict}
 use Rattle.format.specs.Reading.{next, ended}
 use Rattle.format.specs.Items.{item_of}
 use Rattle.format.specs.Outline.{drop_leaves}

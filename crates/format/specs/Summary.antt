@@ -1,14 +1,10 @@
 -- Entrances at a glance, document 02, #109: the summary of a sheet's entrances, a question to it, and bringing it up to date after an edit.
 -- Assumes nothing.
-use Rattle.std.specs.Prelude.{ℕ, zero, suc, ◌+◌, ◌*◌, ◌-◌, ◌/◌, ◌%◌, ◌^◌, max, Bool, true, false, ◌||◌, List, [], ◌∷◌, ◌++◌, map, length, take, drop, get_or, ltb, eqb}
+use Rattle.std.specs.Prelude.{ℕ, zero, suc, ◌+◌, ◌*◌, ◌-◌, ◌/◌, ◌%◌, ◌^◌, max, Bool, true, false, ◌||◌, List, [], ◌∷◌, ◌++◌, map, length, take, drop, get_or, ltb, eqb, Option, Some, None}
 use Rattle.format.specs.Bytes.{pick, over}
 use Rattle.format.specs.State.{Record, leg, station, section, error}
-use Rattle.format.specs.Refusals.{Result, or_else}
+use Rattle.format.specs.Refusals.{Result, or_else, Verdict, Good, Refusal}
 use Rattle.format.specs.Sheet.{sheet_version, records_of, sheet_result}
-use Rattle.format.specs.declared.Verdict.{Verdict}
-use Rattle.format.specs.declared.Verdict.TheVariants.{Good, Refusal}
-use Rattle.format.specs.declared.NextEntrance.{NextEntrance}
-use Rattle.format.specs.declared.NextEntrance.TheVariants.{At, Nowhere}
 
 -- ---- looking at each record
 
@@ -36,13 +32,13 @@ marked (b ∷ ms) = one b + marked ms
 unfoldable pub count_of : List Bool → ℕ → ℕ → ℕ
 count_of ms a b = marked (take (b - a) (drop a ms))
 
-unfoldable pub first_from : ℕ → List Bool → NextEntrance
-first_from i [] = Nowhere
-first_from i (true ∷ ms) = At i
+unfoldable pub first_from : ℕ → List Bool → Option ℕ
+first_from i [] = None
+first_from i (true ∷ ms) = Some i
 first_from i (false ∷ ms) = first_from (suc i) ms
 
 -- "The next entrance is the least marked record at or after a, even past b"
-unfoldable pub next_of : List Bool → ℕ → NextEntrance
+unfoldable pub next_of : List Bool → ℕ → Option ℕ
 next_of ms a = first_from a (drop a ms)
 
 -- ---- the summary
@@ -119,7 +115,7 @@ summary_words sheet old = made_words (sheet_result sheet) old
 
 -- the count and the next entrance; or a refusal's number and place
 pub data EntrancesOutcome : Type 0 where
-  holds : ℕ → NextEntrance → EntrancesOutcome
+  holds : ℕ → Option ℕ → EntrancesOutcome
   unheld : ℕ → ℕ → EntrancesOutcome
 
 -- 15: "a is above b or either is above the record count"

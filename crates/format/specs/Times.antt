@@ -1,11 +1,9 @@
 -- Time lines, document 01, "Which is later", with refusal 17. Assumes nothing.
-use Rattle.std.specs.Prelude.{ℕ, zero, suc, ◌+◌, ◌-◌, ◌*◌, ◌%◌, List, [], ◌∷◌, Bool, true, ◌&&◌, ◌||◌, length, get_or, take, drop, eqb, ltb, leb}
+use Rattle.std.specs.Prelude.{ℕ, zero, suc, ◌+◌, ◌-◌, ◌*◌, ◌%◌, List, [], ◌∷◌, Bool, true, ◌&&◌, ◌||◌, length, get_or, take, drop, eqb, ltb, leb, Option, Some, None, Result, Ok, Err}
 use Rattle.format.specs.Bytes.{pick, same}
 use Rattle.format.specs.Header.{Opening, shut, opened, opening_of}
-use Rattle.format.specs.declared.Spelled.{Spelled}
-use Rattle.format.specs.declared.Spelled.TheVariants.{Number, Unreadable}
+use Rattle.format.specs.declared.Refusal.{Refusal}
 use Rattle.format.specs.declared.Stamp.{Stamp}
-use Rattle.format.specs.declared.Stamp.TheVariants.{Unstamped, Stamped}
 use Rattle.format.specs.declared.Handed.{Handed}
 
 -- ---- digits
@@ -101,20 +99,20 @@ text_seconds line =
     + (decimal (field line 15 2) * 3600 + (decimal (field line 18 2) * 60 + decimal (field line 21 2)))
 
 -- the seconds since 1970 that a time line spells
-unfoldable pub seconds_of : List ℕ → Spelled
-seconds_of line = pick (at_form line) (Number (decimal (drop 1 line))) (pick (text_form line) (Number (text_seconds line)) Unreadable)
+unfoldable pub seconds_of : List ℕ → Option ℕ
+seconds_of line = pick (at_form line) (Some (decimal (drop 1 line))) (pick (text_form line) (Some (text_seconds line)) None)
 
 -- ---- a file's time: 16, 1, 2, 3, 4, then 17 at the time line's first byte
 
-abbrev pub stamp_from : Spelled → ℕ → ℕ → Stamp
-stamp_from Unreadable place n = Unstamped 17 place
-stamp_from (Number t) place n = Stamped t place n
+abbrev pub stamp_from : Option ℕ → ℕ → ℕ → Result Stamp Refusal
+stamp_from None place n = Err (record { number = 17; place = place })
+stamp_from (Some t) place n = Ok (record { seconds = t; place = place; size = n })
 
-abbrev pub stamp_opened : Opening → Stamp
-stamp_opened (shut n p) = Unstamped n p
+abbrev pub stamp_opened : Opening → Result Stamp Refusal
+stamp_opened (shut n p) = Err (record { number = n; place = p })
 stamp_opened (opened version place h) = stamp_from (seconds_of h.time) (25 + length h.title) (length h.time)
 
-unfoldable pub stamp_of : List ℕ → Stamp
+unfoldable pub stamp_of : List ℕ → Result Stamp Refusal
 stamp_of file = stamp_opened (opening_of file)
 
 -- ---- "The answer is first, second or same, with the time line of the later file, handed back as that part of the file it came from"
@@ -127,25 +125,28 @@ pub data Comparison : Type 0 where
   first_refused : ℕ → ℕ → Comparison
   second_refused : ℕ → ℕ → Comparison
 
-abbrev pub judged : Stamp → Stamp → Comparison
-judged (Unstamped n p) b = first_refused n p
-judged (Stamped t p n) (Unstamped m q) = second_refused m q
-judged (Stamped t p n) (Stamped u q m) = pick (ltb u t) first (pick (ltb t u) second equal)
+abbrev pub judged : Result Stamp Refusal → Result Stamp Refusal → Comparison
+judged (Err r) b = first_refused r.number r.place
+judged (Ok s) (Err r) = second_refused r.number r.place
+judged (Ok s) (Ok t) = pick (ltb t.seconds s.seconds) first (pick (ltb s.seconds t.seconds) second equal)
 
 unfoldable pub compare_of : List ℕ → List ℕ → Comparison
 compare_of a b = judged (stamp_of a) (stamp_of b)
 
 -- "an empty part when same or refused": which file the part is of (1 or 2; 0 for an empty part), its place and its length
-abbrev pub part_of : ℕ → Stamp → Handed
-part_of k (Unstamped n p) = record { file = 0; place = 0; size = 0 }
-part_of k (Stamped t p n) = record { file = k; place = p; size = n }
+abbrev pub no_part : Handed
+no_part = record { file = 0; place = 0; size = 0 }
 
-abbrev pub handed : Comparison → Stamp → Stamp → Handed
+abbrev pub part_of : ℕ → Result Stamp Refusal → Handed
+part_of k (Err r) = no_part
+part_of k (Ok s) = record { file = k; place = s.place; size = s.size }
+
+abbrev pub handed : Comparison → Result Stamp Refusal → Result Stamp Refusal → Handed
 handed first a b = part_of 1 a
 handed second a b = part_of 2 b
-handed equal a b = part_of 0 (Unstamped 0 0)
-handed (first_refused n p) a b = part_of 0 (Unstamped 0 0)
-handed (second_refused n p) a b = part_of 0 (Unstamped 0 0)
+handed equal a b = no_part
+handed (first_refused n p) a b = no_part
+handed (second_refused n p) a b = no_part
 
 unfoldable pub later_part : List ℕ → List ℕ → Handed
 later_part a b = handed (compare_of a b) (stamp_of a) (stamp_of b)

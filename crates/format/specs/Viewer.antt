@@ -5,15 +5,13 @@ use Rattle.std.specs.Float.Ieee.{of_int}
 use Rattle.std.specs.Float.Ieee.Exact.{HasValue}
 use Rattle.format.specs.Bytes.{pick}
 use Rattle.format.specs.State.{Record, leg, station, section, error}
-use Rattle.format.specs.Refusals.{Result, or_else}
+use Rattle.format.specs.Refusals.{Result, or_else, Verdict, Good, Refusal}
 use Rattle.format.specs.Sheet.{sheet_result}
 use Rattle.format.specs.Reach.{axis_x, axis_y, axis_z, legs_of}
 use Rattle.format.specs.declared.Point.{Point}
 use Rattle.format.specs.declared.Corner.{Corner}
 use Rattle.format.specs.declared.Origin.{Origin}
 use Rattle.format.specs.declared.Leg.{Leg}
-use Rattle.format.specs.declared.Verdict.{Verdict}
-use Rattle.format.specs.declared.Verdict.TheVariants.{Good, Refusal}
 
 -- ---- the numbers of a leg
 

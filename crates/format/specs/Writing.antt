@@ -4,12 +4,10 @@ use Rattle.std.specs.Prelude.{ℕ, ◌+◌, List, [], ◌∷◌, map, ◌++◌, 
 use Rattle.format.specs.Bytes.{pick}
 use Rattle.format.specs.Header.{Header, file_limit}
 use Rattle.format.specs.State.{State, start, Record}
-use Rattle.format.specs.Refusals.{Result, or_else, Outcome, outcome_of, buffer_of}
+use Rattle.format.specs.Refusals.{Result, or_else, Outcome, outcome_of, buffer_of, Verdict, Good, Refusal}
 use Rattle.format.specs.Sheet.{sheet_version, sheet_of, front_header, sheet_result}
 use Rattle.format.specs.Codes.{header_codes, codes_limit, codes, after, closing, unsayable}
 use Rattle.format.specs.V7Codes.{v7_header_codes, v7_codes, v7_after, v7_codes_limit, v7_closing, v7_bars, v7_unable, unstyled}
-use Rattle.format.specs.declared.Verdict.{Verdict}
-use Rattle.format.specs.declared.Verdict.TheVariants.{Good, Refusal}
 
 -- ---- a writer
 

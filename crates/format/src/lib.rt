@@ -5,6 +5,7 @@
 
 ghost use Rattle.std.specs.Prelude.{◌≡◌};
 ghost use Rattle.format.specs.State.{start_setting};
+ghost use Rattle.format.specs.Faults.{fault_number};
 
 // The limits of document 01, in bytes: a label, a title and a time line without their
 // linefeeds, and a file.
@@ -25,9 +26,88 @@ pub const UNDATED_VERSION: u8 = 1;
 // The style that is not said.
 pub const NOT_SAID: u8 = 5;
 
+// Why something is refused, in the order of the numbers that documents 01 and 02 give.
+#[derive(Clone, Copy, PartialEq, Eq)]
+pub enum Fault {
+    NotSurvex,
+    UnknownVersion,
+    BrokenHeader,
+    Reserved,
+    Unfinished,
+    LabelTooShort,
+    LabelTooLong,
+    NoPosition,
+    BadDate,
+    BytesAfterEnd,
+    BufferTooSmall,
+    BrokenLayout,
+    StyleUnsaid,
+    NotHouseWritten,
+    PastRecords,
+    FileTooLong,
+    TimeUnreadable,
+    UnknownStation,
+    StationMoved,
+    TooFar,
+    NoLegs,
+    NoRoomForNames,
+    NotInV7,
+}
+
+// A refusal by its number and place. (The number is no Fault: C hands a stand's refusal in as any
+// byte, and each of them is answered again.)
+#[derive(Clone, Copy, PartialEq, Eq)]
+pub struct Refusal {
+    pub number: u8,
+    pub place: usize,
+}
+
+impl Fault {
+    // The number of a refusal for this.
+    pub fn number(self) -> u8
+        ensures { result ≡ fault_number self }
+    {
+        match self {
+            Fault::NotSurvex => 1,
+            Fault::UnknownVersion => 2,
+            Fault::BrokenHeader => 3,
+            Fault::Reserved => 4,
+            Fault::Unfinished => 5,
+            Fault::LabelTooShort => 6,
+            Fault::LabelTooLong => 7,
+            Fault::NoPosition => 8,
+            Fault::BadDate => 9,
+            Fault::BytesAfterEnd => 10,
+            Fault::BufferTooSmall => 11,
+            Fault::BrokenLayout => 12,
+            Fault::StyleUnsaid => 13,
+            Fault::NotHouseWritten => 14,
+            Fault::PastRecords => 15,
+            Fault::FileTooLong => 16,
+            Fault::TimeUnreadable => 17,
+            Fault::UnknownStation => 18,
+            Fault::StationMoved => 19,
+            Fault::TooFar => 20,
+            Fault::NoLegs => 21,
+            Fault::NoRoomForNames => 22,
+            Fault::NotInV7 => 23,
+        }
+    }
+
+    // A refusal for this, with its place.
+    pub fn at(self, place: usize) -> Refusal
+        ensures { result ≡ record { number = fault_number self; place = place } }
+    {
+        Refusal {
+            number: self.number(),
+            place,
+        }
+    }
+}
+
 // A place, in centimetres. Coordinates, dimensions and traverse errors are i32,
 // kept as their bit patterns: nothing here computes with them.
-#[derive(Clone, Copy)]
+#[derive(Clone, Copy, PartialEq, Eq)]
 pub struct Point {
     pub x: u32,
     pub y: u32,
@@ -35,7 +115,7 @@ pub struct Point {
 }
 
 // A passage's left, right, up and down.
-#[derive(Clone, Copy)]
+#[derive(Clone, Copy, PartialEq, Eq)]
 pub struct Dimensions {
     pub left: u32,
     pub right: u32,
@@ -45,7 +125,7 @@ pub struct Dimensions {
 
 // The error of a traverse: its legs, its length, and the error with its
 // horizontal and vertical parts.
-#[derive(Clone, Copy)]
+#[derive(Clone, Copy, PartialEq, Eq)]
 pub struct Traverse {
     pub legs: u32,
     pub total: u32,
@@ -55,7 +135,7 @@ pub struct Traverse {
 }
 
 // A survey date, in days; day 0 is 1 January 1900.
-#[derive(Clone, Copy)]
+#[derive(Clone, Copy, PartialEq, Eq)]
 pub enum Dated {
     Undated,
     Day { day: u16 },
@@ -73,7 +153,7 @@ pub struct DateCodes {
 
 // How an item shortens the label: it empties it; 16 bytes off, then back to a dot;
 // some bytes off, and one at least stays; some bytes off.
-#[derive(Clone, Copy)]
+#[derive(Clone, Copy, PartialEq, Eq)]
 pub enum Cut {
     Empty,
     ToDot { dots: usize },
@@ -81,44 +161,21 @@ pub enum Cut {
     Back { bytes: usize },
 }
 
-// How many bytes of the label stay, or that it is too short.
-#[derive(Clone, Copy)]
-pub enum Kept {
-    Keeps { bytes: usize },
-    Lacks,
+// The numbers of a label part: its own size, and D and A.
+#[derive(Clone, Copy, PartialEq, Eq)]
+pub struct LabelPart {
+    pub size: usize,
+    pub drop: usize,
+    pub add: usize,
 }
 
-// The numbers of a label part: unfinished; or their size, D and A.
-#[derive(Clone, Copy)]
-pub enum LabelPart {
-    Unfinished,
-    Numbers {
-        size: usize,
-        drop: usize,
-        add: usize,
-    },
-}
-
-// The number that bytes of a time line spell, or that they are not readable.
-#[derive(Clone, Copy)]
-pub enum Spelled {
-    Number { value: u64 },
-    Unreadable,
-}
-
-// What a file says of its time: a refusal; or the seconds since 1970, and the
-// place and the length of the time line.
-#[derive(Clone, Copy)]
-pub enum Stamp {
-    Unstamped {
-        number: u8,
-        place: usize,
-    },
-    Stamped {
-        seconds: u64,
-        place: usize,
-        size: usize,
-    },
+// What a file says of its time: the seconds since 1970, and the place and the length of
+// the time line.
+#[derive(Clone, Copy, PartialEq, Eq)]
+pub struct Stamp {
+    pub seconds: u64,
+    pub place: usize,
+    pub size: usize,
 }
 
 // A part of one of two files: the file, 1 or 2, and the part's place and length in it;
@@ -130,19 +187,12 @@ pub struct Handed {
     pub size: usize,
 }
 
-// The position that MOVE and LINE set.
-#[derive(Clone, Copy)]
-pub enum Position {
-    Unset,
-    Stands { point: Point },
-}
-
-// Style, date and position: the state but for the label.
+// Style, date and position, which MOVE and LINE set: the state but for the label.
 #[derive(Clone, Copy)]
 pub struct Setting {
     pub style: u8,
     pub date: Dated,
-    pub position: Position,
+    pub position: Option<Point>,
 }
 
 // Style, date and position at the start of a file.
@@ -152,7 +202,7 @@ pub fn start_setting() -> Setting
     Setting {
         style: NOT_SAID,
         date: Dated::Undated,
-        position: Position::Unset,
+        position: None,
     }
 }
 
@@ -209,75 +259,60 @@ pub enum Fields {
     },
 }
 
-// A refusal by its number and place, or none.
-#[derive(Clone, Copy)]
-pub enum Verdict {
-    Good,
-    Refusal { number: u8, place: usize },
+// What reading, writing, converting and editing answer where they succeed.
+#[derive(Clone, Copy, PartialEq, Eq)]
+pub struct Done {
+    pub bytes: usize,
+    pub records: usize,
+    pub version: u8,
 }
 
-// The answer of reading, writing, converting and editing.
-#[derive(Clone, Copy)]
-pub enum Answer {
-    Done {
-        bytes: usize,
-        records: usize,
-        version: u8,
-    },
-    Refused {
-        number: u8,
-        place: usize,
-    },
+// What opening a step reader answers: the version and the first item's place.
+#[derive(Clone, Copy, PartialEq, Eq)]
+pub struct Opened {
+    pub version: u8,
+    pub place: usize,
 }
 
-// The answer of opening a step reader: the version and the first item's place.
-#[derive(Clone, Copy)]
-pub enum Opened {
-    At { version: u8, place: usize },
-    Refused { number: u8, place: usize },
-}
-
-// The answer of one step: a record of so many bytes and how many bytes of the label
-// were kept since the last that carried one, no record, the end, or a refusal.
-#[derive(Clone, Copy)]
+// What one step comes to: a record of so many bytes and how many bytes of the label were
+// kept since the last that carried one, no record, or the end.
+#[derive(Clone, Copy, PartialEq, Eq)]
 pub enum Stepped {
     Record { bytes: usize, kept: usize },
     Nothing,
     End,
-    Refused { number: u8, place: usize },
 }
 
-// The answer of a comparison: the later file, or the refusal with the file that it names.
-#[derive(Clone, Copy)]
+// Which of two files is later.
+#[derive(Clone, Copy, PartialEq, Eq)]
 pub enum Later {
     First,
     Second,
     Same,
-    FirstRefused { number: u8, place: usize },
-    SecondRefused { number: u8, place: usize },
+}
+
+// The refusal of a comparison, with the file that it names.
+#[derive(Clone, Copy, PartialEq, Eq)]
+pub enum Incomparable {
+    First { refusal: Refusal },
+    Second { refusal: Refusal },
 }
 
 // A corner of a box: x, y and z in centimetres, as numbers.
-#[derive(Clone, Copy)]
+#[derive(Clone, Copy, PartialEq, Eq)]
 pub struct Corner {
     pub x: i32,
     pub y: i32,
     pub z: i32,
 }
 
-// The answer of how far a survey reaches: how many legs took part, the least and the
-// greatest x, y and z of their ends; or a refusal.
-#[derive(Clone, Copy)]
-pub enum Reached {
-    Box {
-        legs: usize,
-        least: Corner,
-        greatest: Corner,
-    },
-    Refused {
-        number: u8,
-        place: usize,
-    },
+// How far a survey reaches: how many legs took part, the least and the greatest x, y and
+// z of their ends.
+#[derive(Clone, Copy, PartialEq, Eq)]
+pub struct Reached {
+    pub legs: usize,
+    pub least: Corner,
+    pub greatest: Corner,
 }
 
 // What the viewer counts from: x, y and z in centimetres, as numbers.
@@ -288,32 +323,10 @@ pub struct Origin {
     pub z: i32,
 }
 
-// The answer of legs for the viewer: how many came, or a refusal.
-#[derive(Clone, Copy)]
-pub enum Viewed {
-    Legs { legs: usize },
-    Refused { number: u8, place: usize },
-}
-
-// The next entrance: the least marked record at or after another, or none.
-#[derive(Clone, Copy)]
-pub enum NextEntrance {
-    At { record: usize },
-    Nowhere,
-}
-
-// The answer of a question over a stretch of records: how many entrances it holds and
-// where the next one is; or a refusal.
-#[derive(Clone, Copy)]
-pub enum Entrances {
-    Hold { count: u64, next: NextEntrance },
-    Refused { number: u8, place: usize },
-}
-
-// The answer of making a summary and of bringing it up to date: the words that it takes;
-// or a refusal.
-#[derive(Clone, Copy)]
-pub enum Summed {
-    Takes { words: usize },
-    Refused { number: u8, place: usize },
+// What a stretch of records holds: how many entrances, and the next one, the least marked
+// record at or after another.
+#[derive(Clone, Copy, PartialEq, Eq)]
+pub struct Entrances {
+    pub count: u64,
+    pub next: Option<usize>,
 }

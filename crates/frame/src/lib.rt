@@ -16,8 +16,7 @@ pub fn put_header(out: &mut [u8], extended: u8, title: &[u8], time: &[u8]) -> us
     let linefeed = [10];
     let c = part::put(out, b, &linefeed);
     let d = part::put(out, c, time);
-    let last = [10, extended * 0x80];
-    part::put(out, d, &last)
+    part::put(out, d, &[10, extended * 0x80])
 }
 
 // 00 unless the style is normal, then 00.
@@ -25,9 +24,7 @@ pub fn put_closing(out: &mut [u8], style: u8) -> usize
     ensures { Puts out.old out.new (closing style) 2 result }
 {
     if style == 0 {
-        let code = [0x00];
-        return part::put(out, 0, &code);
+        return part::put(out, 0, &[0x00]);
     }
-    let code = [0x00, 0x00];
-    part::put(out, 0, &code)
+    part::put(out, 0, &[0x00, 0x00])
 }

@@ -13,7 +13,7 @@ use Rattle.format.specs.Bytes.{pick}
 use Rattle.format.specs.Header.{line_end, ends_in_return, good_line, good_version, title_line, time_line, closed_header, shut}
 use Rattle.format.proofs.Basics.{both, less_or_not}
 use Rattle.header.specs.Head.{line_of, saying}
-use Rattle.header.specs.declared.TextLine.TheVariants.{Ends, Broken}
+use Rattle.std.specs.Prelude.{Some, None}
 
 -- ---- the version
 
@@ -52,12 +52,12 @@ versioned file g =
 -- ---- a line
 
 module _ (limit : ℕ) (s : List ℕ) where
-  pub line_unended : length s ≤ line_end s → Broken ≡ line_of limit s
+  pub line_unended : length s ≤ line_end s → None ≡ line_of limit s
   unfolding line_of good_line pick
   line_unended h = simp (le-ltb _ _ h)
 
   module _ (h : line_end s < length s) where
-    pub line_long : limit < line_end s → Broken ≡ line_of limit s
+    pub line_long : limit < line_end s → None ≡ line_of limit s
     unfolding line_of good_line pick
     line_long k = simp (lt-ltb _ _ h, lt-leb _ _ k)
 
@@ -65,7 +65,7 @@ module _ (limit : ℕ) (s : List ℕ) where
       last_byte : get_or (take (line_end s) s) (length (take (line_end s) s) - 1) 0 ≡ get_or (take (line_end s) s) (line_end s - 1) 0
       last_byte = rw (length-take-le (line_end s) s (le_of_lt h))
 
-      pub line_empty : line_end s ≡ 0 → Ends 0 ≡ line_of limit s
+      pub line_empty : line_end s ≡ 0 → Some 0 ≡ line_of limit s
       unfolding line_of good_line pick ends_in_return
       line_empty e = rw (lt-ltb _ _ h, le-leb _ _ k, e)
 
@@ -76,11 +76,11 @@ module _ (limit : ℕ) (s : List ℕ) where
             let z : line_end s - 1 < line_end s = omega arith in
             rw (last_byte, get_or-take (line_end s) s (line_end s - 1) 0 z)
 
-        pub line_returned : get_or s (line_end s - 1) 0 ≡ 13 → Broken ≡ line_of limit s
+        pub line_returned : get_or s (line_end s - 1) 0 ≡ 13 → None ≡ line_of limit s
         unfolding line_of good_line pick
         line_returned e = simp (lt-ltb _ _ h, le-leb _ _ k, returned, eq-eqb _ _ e)
 
-        pub line_ends : (get_or s (line_end s - 1) 0 ≡ 13 → ⊥) → Ends (line_end s) ≡ line_of limit s
+        pub line_ends : (get_or s (line_end s - 1) 0 ≡ 13 → ⊥) → Some (line_end s) ≡ line_of limit s
         unfolding line_of good_line pick
         line_ends e = simp (lt-ltb _ _ h, le-leb _ _ k, returned, ne_eqb _ _ e)
 
@@ -100,27 +100,27 @@ module _ (limit : ℕ) (s : List ℕ) where
       let p = both (ltb (line_end s) (length s)) (leb (line_end s) limit && r) g in
       (ltb-true _ _ p.0, leb-true _ _ (both (leb (line_end s) limit) r p.1).0)
 
-  pub line_found : (n : ℕ) → Ends n ≡ line_of limit s → Line limit s n
+  pub line_found : (n : ℕ) → Some n ≡ line_of limit s → Line limit s n
   unfolding line_of pick
   line_found n = go (good_line limit s) refl
     where
-      go : (b : Bool) → good_line limit s ≡ b → Ends n ≡ pick b (Ends (line_end s)) Broken → Line limit s n
+      go : (b : Bool) → good_line limit s ≡ b → Some n ≡ pick b (Some (line_end s)) None → Line limit s n
       go true g e =
           let q : n ≡ line_end s = cc in
           let p = good_short g in
           record { is = q; ended = omega arith; short = omega arith; good = g }
       go false g e = absurd (let z : ◌≡◌ {A = ℕ} 0 1 = cc in omega arith)
 
-  pub line_broken : Broken ≡ line_of limit s → good_line limit s ≡ false
+  pub line_broken : None ≡ line_of limit s → good_line limit s ≡ false
   unfolding line_of pick
   line_broken = go (good_line limit s)
     where
-      go : (b : Bool) → Broken ≡ pick b (Ends (line_end s)) Broken → b ≡ false
+      go : (b : Bool) → None ≡ pick b (Some (line_end s)) None → b ≡ false
       go true e = cc
       go false e = refl
 
 module _ (v : ℕ) (file : List ℕ) where
-  pub title_broken : Broken ≡ line_of 4096 (drop 24 file) → shut 3 24 ≡ title_line v file
+  pub title_broken : None ≡ line_of 4096 (drop 24 file) → shut 3 24 ≡ title_line v file
   unfolding title_line pick
   title_broken e = simp (line_broken 4096 (drop 24 file) e)
 
@@ -129,7 +129,7 @@ module _ (v : ℕ) (file : List ℕ) where
   title_found t l = simp (l.good, ← l.is)
 
   module _ (t : ℕ) where
-    pub time_broken : Broken ≡ line_of 64 (drop (25 + t) file) → shut 3 (25 + t) ≡ time_line v file t
+    pub time_broken : None ≡ line_of 64 (drop (25 + t) file) → shut 3 (25 + t) ≡ time_line v file t
     unfolding time_line pick
     time_broken e = simp (line_broken 64 (drop (25 + t) file) e)
 

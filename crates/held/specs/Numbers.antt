@@ -1,11 +1,10 @@
 -- The stand that a reader's numbers say: every list of numbers says one. Assumes nothing.
-use Rattle.std.specs.Prelude.{ℕ, ◌%◌, List, get_or, eqb}
+use Rattle.format.specs.declared.Point.{Point}
+use Rattle.std.specs.Prelude.{ℕ, ◌%◌, List, get_or, eqb, Option, None, Some}
 use Rattle.format.specs.Bytes.{pick}
 use Rattle.format.specs.Stepping.{Stand}
 use Rattle.format.specs.declared.Dated.{Dated}
 use Rattle.format.specs.declared.Dated.TheVariants.{Undated, Day, Range}
-use Rattle.format.specs.declared.Position.{Position}
-use Rattle.format.specs.declared.Position.TheVariants.{Unset, Stands}
 use Rattle.step.specs.Standing.{stand_seen}
 use Rattle.step.specs.declared.Phase.{Phase}
 use Rattle.step.specs.declared.Phase.TheVariants.{Going, Ended, Refused}
@@ -13,15 +12,15 @@ use Rattle.step.specs.declared.Stand.{Stand as Held}
 
 -- 0 going, 1 at the end, any other refused with a number and a place
 unfoldable pub phase_of : ℕ → ℕ → ℕ → Phase
-phase_of kind number place = pick (eqb kind 0) Going (pick (eqb kind 1) Ended (Refused (number % 256) place))
+phase_of kind number place = pick (eqb kind 0) Going (pick (eqb kind 1) Ended (Refused (record { number = number % 256; place = place })))
 
 -- 0 no date, 1 a day, any other a range
 unfoldable pub date_of : ℕ → ℕ → ℕ → Dated
 date_of kind day last = pick (eqb kind 0) Undated (pick (eqb kind 1) (Day (day % 65536)) (Range (day % 65536) (last % 65536)))
 
 -- 0 unset, any other a place
-unfoldable pub position_of : ℕ → ℕ → ℕ → ℕ → Position
-position_of kind x y z = pick (eqb kind 0) Unset (Stands (record { x = x % 4294967296; y = y % 4294967296; z = z % 4294967296 }))
+unfoldable pub position_of : ℕ → ℕ → ℕ → ℕ → Option Point
+position_of kind x y z = pick (eqb kind 0) None (Some (record { x = x % 4294967296; y = y % 4294967296; z = z % 4294967296 }))
 
 -- phase, number and place of its refusal; version, the next item's place, the label's length; style, date, position
 abbrev pub held_of : List ℕ → Held
@@ -42,7 +41,7 @@ abbrev pub state_stand : List ℕ → List ℕ → Stand
 state_stand s label = stand_seen (held_of s) label
 
 -- a stand at another place, with another label length and position
-abbrev pub stands_at : Held → ℕ → ℕ → Position → Held
+abbrev pub stands_at : Held → ℕ → ℕ → Option Point → Held
 stands_at h place len position = record {
   phase = h.phase;
   version = h.version;

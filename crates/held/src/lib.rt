@@ -1,16 +1,16 @@
 // Where a step reader stands, as numbers that its caller holds from one step to the next.
-// Any numbers are some stand: nothing that a caller puts there is unsafe.
+// Any numbers are some stand: nothing that a caller puts there is unsafe. C holds them too,
+// so a kind is a number here, and not an enum.
 #![tactic(auto)]
 
-ghost use Rattle.std.specs.Prelude.{◌≡◌, ◌+◌, ◌%◌, ◌≤◌, ◌<◌};
+ghost use Rattle.std.specs.Prelude.{◌≡◌, ◌+◌, ◌%◌, ◌≤◌, ◌<◌, Some};
 ghost use Rattle.format.specs.Label.{label_limit};
 ghost use Rattle.format.specs.Answers.{stepped_of};
 ghost use Rattle.held.specs.declared.Brief.TheVariants.{Record as RecordBrief};
-ghost use Rattle.format.specs.declared.Position.TheVariants.{Stands};
 ghost use Rattle.held.specs.Numbers.{phase_of, date_of, position_of, held_of, stands_at};
 ghost use Rattle.held.specs.Shortly.{Briefly, StepsOn};
 
-use format::{Dated, LABEL_LIMIT, Point, Position, Setting, Stepped};
+use format::{Dated, LABEL_LIMIT, Point, Refusal, Setting, Stepped};
 use laying::Quick;
 use step::{Phase, Stand};
 
@@ -65,23 +65,24 @@ fn low32(x: u64) -> u32
 fn wide8(x: u8) -> u64
     ensures { (result ≡ x) × (result < 256) }
 {
-    x as u64
+    u64::from(x)
 }
 
 fn wide16(x: u16) -> u64
     ensures { (result ≡ x) × (result < 65536) }
 {
-    x as u64
+    u64::from(x)
 }
 
 fn wide32(x: u32) -> u64
     ensures { (result ≡ x) × (result < 4294967296) }
 {
-    x as u64
+    u64::from(x)
 }
 
 // ---- the stand that numbers say
 
+#[tactic(auto, unfolding(crate::specs::Numbers::phase_of, format::specs::Bytes::pick))]
 fn phase_of(kind: u64, number: u64, place: u64) -> Phase
     ensures { result ≡ phase_of kind number place }
 {
@@ -92,11 +93,14 @@ fn phase_of(kind: u64, number: u64, place: u64) -> Phase
         return Phase::Ended;
     }
     Phase::Refused {
-        number: low8(number),
-        place: place as usize,
+        refusal: Refusal {
+            number: low8(number),
+            place: place as usize,
+        },
     }
 }
 
+#[tactic(auto, unfolding(crate::specs::Numbers::date_of, format::specs::Bytes::pick))]
 fn date_of(kind: u64, day: u64, last: u64) -> Dated
     ensures { result ≡ date_of kind day last }
 {
@@ -112,18 +116,19 @@ fn date_of(kind: u64, day: u64, last: u64) -> Dated
     }
 }
 
-fn position_of(kind: u64, x: u64, y: u64, z: u64) -> Position
+#[tactic(auto, unfolding(crate::specs::Numbers::position_of, format::specs::Bytes::pick))]
+fn position_of(kind: u64, x: u64, y: u64, z: u64) -> Option<Point>
     ensures { result ≡ position_of kind x y z }
 {
     if kind == 0 {
-        return Position::Unset;
+        return None;
     }
     let point = Point {
         x: low32(x),
         y: low32(y),
         z: low32(z),
     };
-    Position::Stands { point }
+    Some(point)
 }
 
 pub fn held_of(s: &[u64; STAND_NUMBERS]) -> Stand
@@ -148,6 +153,7 @@ pub fn held_of(s: &[u64; STAND_NUMBERS]) -> Stand
 
 // ---- the numbers of a stand
 
+#[tactic(auto, using(crate::proofs::Narrow::narrow), unfolding(crate::specs::Numbers::phase_of, format::specs::Bytes::pick))]
 fn phase_numbers(phase: Phase) -> PhaseNumbers
     ensures { phase_of result.kind result.number result.place ≡ phase }
 {
@@ -162,14 +168,15 @@ fn phase_numbers(phase: Phase) -> PhaseNumbers
             number: 0,
             place: 0,
         },
-        Phase::Refused { number, place } => PhaseNumbers {
+        Phase::Refused { refusal } => PhaseNumbers {
             kind: 2,
-            number: wide8(number),
-            place: place as u64,
+            number: wide8(refusal.number),
+            place: refusal.place as u64,
         },
     }
 }
 
+#[tactic(auto, using(crate::proofs::Narrow::narrow), unfolding(crate::specs::Numbers::date_of, format::specs::Bytes::pick))]
 fn date_numbers(date: Dated) -> DateNumbers
     ensures { date_of result.kind result.day result.last ≡ date }
 {
@@ -192,17 +199,18 @@ fn date_numbers(date: Dated) -> DateNumbers
     }
 }
 
-fn place_numbers(position: Position) -> PlaceNumbers
+#[tactic(auto, using(crate::proofs::Narrow::narrow), unfolding(crate::specs::Numbers::position_of, format::specs::Bytes::pick))]
+fn place_numbers(position: Option<Point>) -> PlaceNumbers
     ensures { position_of result.kind result.x result.y result.z ≡ position }
 {
     match position {
-        Position::Unset => PlaceNumbers {
+        None => PlaceNumbers {
             kind: 0,
             x: 0,
             y: 0,
             z: 0,
         },
-        Position::Stands { point } => PlaceNumbers {
+        Some(point) => PlaceNumbers {
             kind: 1,
             x: wide32(point.x),
             y: wide32(point.y),
@@ -286,17 +294,16 @@ fn pass_on(s: &mut [u64; STAND_NUMBERS], place: usize, len: usize)
 
 // The same with the position where a leg or a MOVE leads.
 fn lead_on(s: &mut [u64; STAND_NUMBERS], place: usize, len: usize, to: Point)
-    ensures { held_of s.new ≡ stands_at (held_of s.old) place len (Stands to) }
+    ensures { held_of s.new ≡ stands_at (held_of s.old) place len (Some to) }
 {
-    let position = place_numbers(Position::Stands { point: to });
+    let position = place_numbers(Some(to));
     let after = moved_on(s, place, len, position);
     *s = after;
 }
 
-// What a step came to: a record; none; or it was not taken.
+// What a step came to: a record, or none.
 #[derive(Clone, Copy)]
 pub enum Brief {
-    Other,
     Nothing,
     Record { bytes: usize, kept: usize },
 }
@@ -311,19 +318,18 @@ fn leg_record(len: usize, kept: usize) -> Brief
 }
 
 // One step from the stand that the numbers say, where the item is one of the commonest and
-// there is room for every record. Else nothing is touched.
+// there is room for every record. Else it is not taken, and nothing is touched.
 pub fn short_step(
     file: &[u8],
     s: &mut [u64; STAND_NUMBERS],
     bytes: &mut [u8; LABEL_LIMIT],
     out: &mut [u8],
-) -> Brief
+) -> Option<Brief>
     ensures { Briefly result s.old bytes.old file.now out.old s.new bytes.new out.new }
 {
     let stand = held_of(s);
-    let quick = step::short_at(file, stand, bytes, out);
+    let quick = step::short_at(file, stand, bytes, out)?;
     match quick {
-        Quick::Other => Brief::Other,
         Quick::Leg {
             size,
             len,
@@ -331,7 +337,7 @@ pub fn short_step(
             kept,
         } => {
             lead_on(s, stand.place + size, len, to);
-            leg_record(len, kept)
+            Some(leg_record(len, kept))
         }
         Quick::Made {
             size,
@@ -340,15 +346,15 @@ pub fn short_step(
             kept,
         } => {
             pass_on(s, stand.place + size, len);
-            Brief::Record { bytes: n, kept }
+            Some(Brief::Record { bytes: n, kept })
         }
         Quick::Trim { len } => {
             pass_on(s, stand.place + 1, len);
-            Brief::Nothing
+            Some(Brief::Nothing)
         }
         Quick::Move { len, to } => {
             lead_on(s, stand.place + 13, len, to);
-            Brief::Nothing
+            Some(Brief::Nothing)
         }
     }
 }
@@ -361,7 +367,7 @@ fn any_step(
     s: &mut [u64; STAND_NUMBERS],
     bytes: &mut [u8; LABEL_LIMIT],
     out: &mut [u8],
-) -> Stepped
+) -> Result<Stepped, Refusal>
     ensures { StepsOn (stepped_of result) s.old bytes.old file.now out.old s.new bytes.new out.new }
 {
     let stand = held_of(s);
@@ -380,13 +386,12 @@ pub fn one_step(
     s: &mut [u64; STAND_NUMBERS],
     bytes: &mut [u8; LABEL_LIMIT],
     out: &mut [u8],
-) -> Stepped
+) -> Result<Stepped, Refusal>
     ensures { StepsOn (stepped_of result) s.old bytes.old file.now out.old s.new bytes.new out.new }
 {
-    let brief = short_step(file, s, bytes, out);
-    match brief {
-        Brief::Record { bytes: n, kept } => Stepped::Record { bytes: n, kept },
-        Brief::Nothing => Stepped::Nothing,
-        Brief::Other => any_step(file, s, bytes, out),
+    match short_step(file, s, bytes, out) {
+        Some(Brief::Record { bytes: n, kept }) => Ok(Stepped::Record { bytes: n, kept }),
+        Some(Brief::Nothing) => Ok(Stepped::Nothing),
+        None => any_step(file, s, bytes, out),
     }
 }

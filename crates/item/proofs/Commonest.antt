@@ -1,5 +1,6 @@
 -- The steps of the commonest items: the label is extended in its buffer by sixteen bytes of the file, whatever it gains, and its first bytes
 -- are then the label that `short` tells. So each is the step that `take_item` would answer. Assumes nothing.
+use Rattle.std.specs.Prelude.{Some, Ok}
 use Prim.Native.Nat.{ℕ, ◌+◌, ◌≤◌, ◌<◌}
 use mathlib.Core.Path.{◌≡◌, sym, ap, ◌∙◌}
 use mathlib.Core.List.{List, ◌++◌}
@@ -11,7 +12,6 @@ use Rattle.format.specs.Label.{label_limit}
 use Rattle.format.specs.Fields.{state_of}
 use Rattle.format.specs.Reading.{next}
 use Rattle.format.specs.declared.Point.{Point}
-use Rattle.format.specs.declared.Position.TheVariants.{Stands}
 use Rattle.format.specs.declared.Setting.{Setting}
 use Rattle.wire.specs.Laid.{laid}
 use Rattle.wire.proofs.Laws.{length_laid}
@@ -54,8 +54,8 @@ module _ {version : ℕ} {s : List ℕ} {len keep add k size : ℕ} {make : ℕ 
   label_short = omega (arith, B.few, B.add_few)
 
 module _ (version : ℕ) (s : List ℕ) (len keep add k size : ℕ) (b : List ℕ) (setting : Setting) (w : length b ≡ label_limit) (h : len ≤ label_limit) where
-  pub leg_told : (flags : ℕ) (from : Point) → Brief version s len keep add k size (make_line flags) → setting.position ≡ Stands from
-      → Tells (leg_step keep add size setting (leg_at s k flags setting from)) (extended b keep s) (next version s (state_of setting (take len b)))
+  pub leg_told : (flags : ℕ) (from : Point) → Brief version s len keep add k size (make_line flags) → setting.position ≡ Some from
+      → Tells (Ok (leg_step keep add size setting (leg_at s k flags setting from))) (extended b keep s) (next version s (state_of setting (take len b)))
   leg_told flags from B p =
       record {
         same = rw (extended_is B b w h) (sym (brief_leg_lem B (state_of setting (take len b)) (text_length B b w h) from p));
@@ -64,7 +64,7 @@ module _ (version : ℕ) (s : List ℕ) (len keep add k size : ℕ) (b : List �
       }
 
   pub station_told : (flags : ℕ) → Brief version s len keep add k size (make_station flags)
-      → Tells (station_step keep add size setting (station_at s k flags)) (extended b keep s) (next version s (state_of setting (take len b)))
+      → Tells (Ok (station_step keep add size setting (station_at s k flags))) (extended b keep s) (next version s (state_of setting (take len b)))
   station_told flags B =
       record {
         same = rw (extended_is B b w h) (sym (brief_station B (state_of setting (take len b)) (text_length B b w h)));
@@ -73,7 +73,7 @@ module _ (version : ℕ) (s : List ℕ) (len keep add k size : ℕ) (b : List �
       }
 
   pub section_told : (code : ℕ) → Brief version s len keep add k size (make_section code)
-      → Tells (section_step keep add size setting (section_at s k code setting)) (extended b keep s) (next version s (state_of setting (take len b)))
+      → Tells (Ok (section_step keep add size setting (section_at s k code setting))) (extended b keep s) (next version s (state_of setting (take len b)))
   section_told code B =
       record {
         same = rw (extended_is B b w h) (sym (brief_section code B (state_of setting (take len b)) (text_length B b w h)));
@@ -82,12 +82,12 @@ module _ (version : ℕ) (s : List ℕ) (len keep add k size : ℕ) (b : List �
       }
 
 pub move_told : (version : ℕ) (s : List ℕ) (len : ℕ) (b : List ℕ) (setting : Setting) → length b ≡ label_limit → len ≤ label_limit → Moves version s
-    → Tells (move_step len setting (place_at s 1)) b (next version s (state_of setting (take len b)))
+    → Tells (Ok (move_step len setting (place_at s 1))) b (next version s (state_of setting (take len b)))
 move_told version s len b setting w h M =
     record { same = sym (brief_move M (state_of setting (take len b))); whole = w; short = h }
 
 pub trim_told : (version : ℕ) (s : List ℕ) (len keep : ℕ) (b : List ℕ) (setting : Setting) → length b ≡ label_limit → Trimmed version s len keep
-    → Tells (trim_step keep setting) b (next version s (state_of setting (take len b)))
+    → Tells (Ok (trim_step keep setting)) b (next version s (state_of setting (take len b)))
 trim_told version s len keep b setting w T =
     let n : length (take len b) ≡ len = length-take-le len b (omega (arith, T.short)) in
     let e : take keep b ≡ take keep (take len b) = sym (take-take keep len b (omega (arith, T.kept))) in

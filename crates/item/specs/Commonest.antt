@@ -1,8 +1,7 @@
 -- The commonest items as steps: what `take_item` answers of them. Assumes nothing.
-use Rattle.std.specs.Prelude.{ℕ, ◌+◌, List, take, drop}
+use Rattle.std.specs.Prelude.{ℕ, ◌+◌, List, take, drop, Some}
 use Rattle.wire.specs.Laid.{laid}
 use Rattle.format.specs.declared.Point.{Point}
-use Rattle.format.specs.declared.Position.TheVariants.{Stands}
 use Rattle.format.specs.declared.Setting.{Setting}
 use Rattle.format.specs.declared.Leg.{Leg}
 use Rattle.format.specs.declared.Station.{Station}
@@ -13,7 +12,7 @@ use Rattle.item.specs.declared.Step.TheVariants.{On, Made}
 
 -- the setting with another position
 abbrev pub moved_to : Setting → Point → Setting
-moved_to setting p = record { style = setting.style; date = setting.date; position = Stands p }
+moved_to setting p = record { style = setting.style; date = setting.date; position = Some p }
 
 -- the label's buffer b after an item at the front of s that kept so many bytes of the label: what stands behind the label is free
 abbrev pub extended : List ℕ → ℕ → List ℕ → List ℕ

@@ -1,32 +1,26 @@
 // What an item of a file does to the state. The label is lent, so nothing is copied but
 // the bytes that the label gains.
+// A label's bytes and its length stand apart: C lends the bytes and has the length in its stand.
 #![tactic(auto)]
 
-ghost use Rattle.std.specs.Prelude.{◌≡◌, [], ℕ, ◌+◌, ◌≤◌, ◌<◌, length, take, drop};
+ghost use Rattle.std.specs.Prelude.{◌≡◌, [], ℕ, ◌+◌, ◌≤◌, ◌<◌, length, take, Ok, Some};
 ghost use Rattle.format.specs.Items.{Style as style_item, Date as date_item, item_of};
 ghost use Rattle.format.specs.Label.{label_limit};
 ghost use Rattle.format.specs.Outline.{drop_leaves};
 ghost use Rattle.format.specs.State.{date_of, apply};
 ghost use Rattle.format.specs.Fields.{state_of};
-ghost use Rattle.format.specs.declared.Fields.TheVariants.{Error as errorFields};
 ghost use Rattle.format.specs.Reading.{next};
 ghost use Rattle.short.specs.Brief.{leg_at, station_at, section_at};
-ghost use Rattle.item.specs.Seen.{Does, Tells, TellsKept, Follows, made_of};
+ghost use Rattle.item.specs.Seen.{Does, Tells, TellsKept, made_of};
 
 use decode::{Body, Item, decode, get_point, long_dimensions, short_dimensions};
-use format::{
-    Dated, Fields, LABEL_LIMIT, Leg, Point, Position, Section, Setting, Station, Traverse,
-};
-use label::{Relabelled, label_step};
+use format::{Dated, Fault, Fields, LABEL_LIMIT, Leg, Point, Section, Setting, Station};
+use label::label_step;
 
-// What an item comes to: a refusal; the end; its size and the label's new length,
-// with the setting after it; the same with a record, and how many bytes of the label
-// before it were kept.
+// What an item comes to: the end; its size and the label's new length, with the setting
+// after it; the same with a record, and how many bytes of the label before it were kept.
 #[derive(Clone, Copy)]
 pub enum Step {
-    Bad {
-        number: u8,
-    },
     End,
     On {
         size: usize,
@@ -42,63 +36,28 @@ pub enum Step {
     },
 }
 
-// The setting with another style, date or position.
-fn with_style(setting: Setting, style: u8) -> Setting
-    ensures { result ≡ record { style = style; date = setting.date; position = setting.position } }
-{
-    let date = setting.date;
-    let position = setting.position;
-    Setting {
-        style,
-        date,
-        position,
-    }
-}
-
-fn with_date(setting: Setting, date: Dated) -> Setting
-    ensures { result ≡ record { style = setting.style; date = date; position = setting.position } }
-{
-    let style = setting.style;
-    let position = setting.position;
-    Setting {
-        style,
-        date,
-        position,
-    }
-}
-
+// The setting with another position.
 pub fn with_position(setting: Setting, place: Point) -> Setting
-    ensures { result ≡ record { style = setting.style; date = setting.date; position = Position.Stands place } }
+    ensures { result ≡ record { style = setting.style; date = setting.date; position = Some place } }
 {
-    let style = setting.style;
-    let date = setting.date;
     Setting {
-        style,
-        date,
-        position: Position::Stands { point: place },
+        position: Some(place),
+        ..setting
     }
 }
 
 // A style; normal where it is normal already is the end.
 fn style_step(style: u8, len: usize, setting: Setting) -> Step
-    ensures { Does result (λ b. apply (state_of setting (take len b)) 1 (style_item style)) len }
+    ensures { Does (Ok result) (λ b. apply (state_of setting (take len b)) 1 (style_item style)) len }
 {
-    let after = with_style(setting, style);
-    if style != 0 {
-        return Step::On {
-            size: 1,
-            len,
-            setting: after,
-        };
+    if style == 0 && setting.style == 0 {
+        return Step::End;
     }
-    if setting.style != 0 {
-        return Step::On {
-            size: 1,
-            len,
-            setting: after,
-        };
+    Step::On {
+        size: 1,
+        len,
+        setting: Setting { style, ..setting },
     }
-    Step::End
 }
 
 // Two days as a date: equal ones are a single day.
@@ -116,137 +75,135 @@ fn date_of(first: u32, last: u32) -> Dated
 }
 
 // A date; refused where the last day is before the first or over 65535.
-fn date_step(size: usize, first: u32, last: u32, len: usize, setting: Setting) -> Step
+fn date_step(
+    size: usize,
+    first: u32,
+    last: u32,
+    len: usize,
+    setting: Setting,
+) -> Result<Step, Fault>
     ensures { Does result (λ b. apply (state_of setting (take len b)) size (date_item first last)) len }
 {
-    if last < first {
-        return Step::Bad { number: 9 };
-    }
-    if 65535 < last {
-        return Step::Bad { number: 9 };
+    if last < first || 65535 < last {
+        return Err(Fault::BadDate);
     }
     let date = date_of(first, last);
-    Step::On {
+    Ok(Step::On {
         size,
         len,
-        setting: with_date(setting, date),
-    }
+        setting: Setting { date, ..setting },
+    })
 }
 
 // A leg from the position, which must be set.
-fn leg_step(size: usize, len: usize, setting: Setting, flags: u8, place: Point, kept: usize) -> Step
+fn leg_step(
+    size: usize,
+    len: usize,
+    setting: Setting,
+    flags: u8,
+    place: Point,
+    kept: usize,
+) -> Result<Step, Fault>
     ensures { Does result (λ b. made_of (Body.Line flags place) (state_of setting []) size (take len b)) len × TellsKept result kept }
 {
-    let style = setting.style;
-    let date = setting.date;
     let position = setting.position;
-    match position {
-        Position::Unset => Step::Bad { number: 8 },
-        Position::Stands { point } => Step::Made {
-            size,
-            len,
-            setting: with_position(setting, place),
-            fields: Fields::Leg {
-                flags,
-                style,
-                date,
-                from: point,
-                to: place,
-            },
-            kept,
+    let Some(from) = position else {
+        return Err(Fault::NoPosition);
+    };
+    Ok(Step::Made {
+        size,
+        len,
+        setting: with_position(setting, place),
+        fields: Fields::Leg {
+            flags,
+            style: setting.style,
+            date: setting.date,
+            from,
+            to: place,
         },
-    }
+        kept,
+    })
 }
 
 // What an item comes to once its label, of len bytes, is in the buffer.
-pub fn made_step(size: usize, len: usize, setting: Setting, body: Body, kept: usize) -> Step
+pub fn made_step(
+    size: usize,
+    len: usize,
+    setting: Setting,
+    body: Body,
+    kept: usize,
+) -> Result<Step, Fault>
     ensures { Does result (λ b. made_of body (state_of setting []) size (take len b)) len × TellsKept result kept }
 {
-    let in_force = setting.date;
-    match body {
-        Body::Only => Step::On { size, len, setting },
-        Body::Section { last, size: dims } => Step::Made {
-            size,
-            len,
-            setting,
-            fields: Fields::Section {
-                last,
-                unused: 0,
-                date: in_force,
-                size: dims,
-            },
-            kept,
+    let fields = match body {
+        Body::Only => return Ok(Step::On { size, len, setting }),
+        Body::Section { last, size: dims } => Fields::Section {
+            last,
+            unused: 0,
+            date: setting.date,
+            size: dims,
         },
-        Body::Station { flags, place } => Step::Made {
-            size,
-            len,
-            setting,
-            fields: Fields::Station {
-                station: Station { flags, place },
-            },
-            kept,
+        Body::Station { flags, place } => Fields::Station {
+            station: Station { flags, place },
         },
-        Body::Line { flags, place } => leg_step(size, len, setting, flags, place, kept),
-    }
-}
-
-// An item that changes the label, by what its label step came to: 6 and 7 before all else.
-fn relabel_step(after: Relabelled, size: usize, setting: Setting, body: Body) -> Step
-    ensures { Follows result after (λ l. made_of body (state_of setting []) size l) }
-{
-    match after {
-        Relabelled::TooShort => Step::Bad { number: 6 },
-        Relabelled::TooLong => Step::Bad { number: 7 },
-        Relabelled::Fits { len, kept } => made_step(size, len, setting, body, kept),
-    }
-}
-
-// An item that makes no record.
-fn on_step(size: usize, len: usize, setting: Setting) -> Step
-    ensures { result ≡ Step.On size len setting }
-{
-    Step::On { size, len, setting }
-}
-
-// An error record.
-fn error_step(len: usize, setting: Setting, traverse: Traverse) -> Step
-    ensures { result ≡ Step.Made 21 len setting (errorFields traverse) 0 }
-{
-    Step::Made {
-        size: 21,
+        Body::Line { flags, place } => return leg_step(size, len, setting, flags, place, kept),
+    };
+    Ok(Step::Made {
+        size,
         len,
         setting,
-        fields: Fields::Error { traverse },
-        kept: 0,
-    }
+        fields,
+        kept,
+    })
 }
 
 // What the item at the front of s comes to, in the state of a setting and a label: its
 // answer, with how many bytes of the label it kept, and the label's bytes after it.
+// An item that changes the label is refused by 6 or 7 before all else.
 pub fn take_item(
     version: u8,
     s: &[u8],
     bytes: &mut [u8; LABEL_LIMIT],
     len: usize,
     setting: Setting,
-) -> Step
+) -> Result<Step, Fault>
     requires { (len ≤ label_limit) × (length bytes.old ≡ label_limit) }
     ensures { Tells result bytes.new (next version s.now (state_of setting (take len bytes.old))) × TellsKept result (drop_leaves (take len bytes.old) (item_of version s.now)) }
 {
-    let it = decode(version, s);
+    let it = decode(version, s)?;
     match it {
-        Item::Faulty { number } => Step::Bad { number },
         Item::Stop => {
             if len == 0 {
-                return Step::End;
+                return Ok(Step::End);
             }
-            on_step(1, 0, setting)
+            Ok(Step::On {
+                size: 1,
+                len: 0,
+                setting,
+            })
         }
-        Item::Style { style } => style_step(style, len, setting),
-        Item::Move { place } => on_step(13, len, with_position(setting, place)),
-        Item::NoDate => on_step(1, len, with_date(setting, Dated::Undated)),
+        Item::Style { style } => Ok(style_step(style, len, setting)),
+        Item::Move { place } => Ok(Step::On {
+            size: 13,
+            len,
+            setting: with_position(setting, place),
+        }),
+        Item::NoDate => Ok(Step::On {
+            size: 1,
+            len,
+            setting: Setting {
+                date: Dated::Undated,
+                ..setting
+            },
+        }),
         Item::Date { size, first, last } => date_step(size, first, last, len, setting),
-        Item::Error { traverse } => error_step(len, setting, traverse),
+        Item::Error { traverse } => Ok(Step::Made {
+            size: 21,
+            len,
+            setting,
+            fields: Fields::Error { traverse },
+            kept: 0,
+        }),
         Item::Relabel {
             size,
             cut,
@@ -255,8 +212,8 @@ pub fn take_item(
             body,
         } => {
             let to = from + count;
-            let after = label_step(bytes, len, cut, &s[from..to]);
-            relabel_step(after, size, setting, body)
+            let after = label_step(bytes, len, cut, &s[from..to])?;
+            made_step(size, after.len, setting, body, after.kept)
         }
     }
 }
@@ -268,15 +225,12 @@ pub fn leg_at(s: &[u8], k: usize, flags: u8, setting: Setting, from: Point) -> L
     requires { k + 12 ≤ length s.now }
     ensures { result ≡ leg_at s.now k flags setting from }
 {
-    let to = get_point(&s[k..]);
-    let style = setting.style;
-    let date = setting.date;
     Leg {
         flags,
-        style,
-        date,
+        style: setting.style,
+        date: setting.date,
         from,
-        to,
+        to: get_point(&s[k..]),
     }
 }
 
@@ -285,8 +239,10 @@ pub fn station_at(s: &[u8], k: usize, flags: u8) -> Station
     requires { k + 12 ≤ length s.now }
     ensures { result ≡ station_at s.now k flags }
 {
-    let place = get_point(&s[k..]);
-    Station { flags, place }
+    Station {
+        flags,
+        place: get_point(&s[k..]),
+    }
 }
 
 // The cross-section of an XSECT, the same.
@@ -294,12 +250,14 @@ pub fn section_at(s: &[u8], k: usize, code: u8, setting: Setting) -> Section
     requires { k + 16 ≤ length s.now }
     ensures { result ≡ section_at s.now k code setting }
 {
-    let date = setting.date;
-    let last = code % 2;
-    if code < 0x32 {
-        let size = short_dimensions(&s[k..]);
-        return Section { last, date, size };
+    let size = if code < 0x32 {
+        short_dimensions(&s[k..])
+    } else {
+        long_dimensions(&s[k..])
+    };
+    Section {
+        last: code % 2,
+        date: setting.date,
+        size,
     }
-    let size = long_dimensions(&s[k..]);
-    Section { last, date, size }
 }

@@ -1,5 +1,6 @@
 -- A LINE with a label part of one byte is what the writing rules give for the leg that it makes, where nothing stands before it and no more
 -- of the label could have stayed. Then `codes_go` says what reading it makes. Assumes nothing.
+use Rattle.std.specs.Prelude.{Some}
 use Prim.Native.Nat.{ℕ, suc, ◌+◌, ◌-◌, ◌/◌, ◌%◌, ◌≤◌, ◌<◌}
 use mathlib.Core.Path.{◌≡◌, refl, sym, ap, ap₂, ◌∙◌}
 use mathlib.Core.Bool.{Bool, true, false, ◌&&◌, ◌||◌, not}
@@ -9,7 +10,6 @@ use native.Mathlib.Omega.{arith}
 use lib.ListN.{length, get_or, take, drop, length-append, length-drop, take-append-drop}
 use lib.Seq.{drop-drop, get_or-drop, get_or-take, take-add, take-take, length-take-le, drop-append_seam}
 use lib.Dec.{eqb, ltb}
-use borrow.Author.Rules.{part_to_end}
 use borrow.Author.Tests.{eq-eqb, lt-ltb, le-ltb, le-leb}
 use Rattle.format.specs.Bytes.{same, le32, to_le32, Bytes}
 use Rattle.format.specs.Items.{point_of}
@@ -19,7 +19,6 @@ use Rattle.format.specs.Sheet.{point_bytes}
 use Rattle.format.specs.WellFormed.{GoodPoint, WellFormed}
 use Rattle.format.specs.Codes.{dated_codes, v8_dates, common, short_part, part_codes, label_codes, style_if, date_if, move_if, line_codes, codes, unsayable}
 use Rattle.format.specs.declared.Point.{Point}
-use Rattle.format.specs.declared.Position.TheVariants.{Stands}
 use Rattle.format.proofs.Basics.{pick_true, pick_false, and_true, less_or_not}
 use Rattle.format.proofs.SheetLaws.{bytes_drop}
 use Rattle.format.proofs.WrittenItems.{same_date_refl, same_point_refl}
@@ -137,7 +136,7 @@ module _ (s l : List ℕ) (keep add : ℕ) (L : BriefLine s l keep add) (bytes :
 
 -- ---- the leg
 
-module _ (s : List ℕ) (st : State) (from : Point) (keep add : ℕ) (stands : st.setting.position ≡ Stands from) (L : BriefLine s st.label keep add)
+module _ (s : List ℕ) (st : State) (from : Point) (keep add : ℕ) (stands : st.setting.position ≡ Some from) (L : BriefLine s st.label keep add)
     (bytes : Bytes s) where
   -- style, date and MOVE are left out
   pub brief_codes : codes st (brief_leg s st from keep add) ≡ take (14 + add) s
@@ -162,7 +161,7 @@ again s st from keep add = go (eqb st.setting.style 5)
     go false = refl
 
 -- `take_brief`
-module _ (file : List ℕ) (p : Place) (b : List ℕ) (R : Ready file p b) (bytes : Bytes file) (from : Point) (stands : p.setting.position ≡ Stands from)
+module _ (file : List ℕ) (p : Place) (b : List ℕ) (R : Ready file p b) (bytes : Bytes file) (from : Point) (stands : p.setting.position ≡ Some from)
     (keep add : ℕ)
     (L : BriefLine (drop p.at file) (take p.len b) keep add) where
   abbrev st : State
@@ -209,7 +208,7 @@ module _ (file : List ℕ) (p : Place) (b : List ℕ) (R : Ready file p b) (byte
       (record {
         at = p.at + 14 + add;
         len = m;
-        setting = record { style = p.setting.style; date = p.setting.date; position = Stands (point_of le32 (drop (2 + add) s)) };
+        setting = record { style = p.setting.style; date = p.setting.date; position = Some (point_of le32 (drop (2 + add) s)) };
       })
       b'
   takes_brief m b' K =
@@ -221,18 +220,11 @@ module _ (file : List ℕ) (p : Place) (b : List ℕ) (R : Ready file p b) (byte
       record {
         made = r;
         steps = steps file p b R r formed (again s st from keep add) (ap (λ (n : ℕ). take n s) size ∙ sym codes_are) _ b' (omega (arith, size))
-            (ap (state_of (record { style = p.setting.style; date = p.setting.date; position = Stands (point_of le32 (drop (2 + add) s)) })) l)
+            (ap (state_of (record { style = p.setting.style; date = p.setting.date; position = Some (point_of le32 (drop (2 + add) s)) })) l)
             K.label_short K.label_whole;
       }
 
--- ---- `point_at` and `brief_line`
-
-pub point_room : (s : List ℕ) (k : ℕ) → k + 12 ≤ length s → 12 ≤ length (take (length s - k) (drop k s))
-point_room s k h = simp (part_to_end, length-drop) (omega arith)
-
-pub point_told : (s : List ℕ) {x y z : ℕ} → x ≡ le32 s → y ≡ le32 (drop 4 s) → z ≡ le32 (drop 8 s)
-    → ◌≡◌ {A = Point} (record { x = x; y = y; z = z }) (point_of le32 s)
-point_told s e f g = λ i. record { x = e i; y = f i; z = g i }
+-- ---- `brief_line`
 
 pub brief_line_is : (s b : List ℕ) (len part : ℕ) → len ≤ 4096 → length b ≡ 4096 → 29 ≤ length s → 0x40 ≤ get_or s 0 0 → get_or s 0 0 ≤ 0x47
     → part ≡ get_or s 1 0 → part < 256 → (part ≡ 0 → ⊥) → part / 16 ≤ len

@@ -1,5 +1,6 @@
 -- One record held to the writing rules, on plain values. Where its codes stand, reading them makes it and leaves the state that writing
 -- leaves (`codes_go`); where others stand, no file that the rules give goes on so. Assumes nothing.
+use Rattle.std.specs.Prelude.{Ok, Err}
 use Prim.Native.Nat.{ℕ, ◌+◌, ◌-◌, ◌≤◌, ◌<◌}
 use mathlib.Core.Path.{◌≡◌, refl, sym, ap, ap₂, ◌∙◌}
 use mathlib.Core.Bool.{Bool, true, false}
@@ -10,9 +11,8 @@ use lib.Seq.{drop-drop, drop-append_seam, take_at, length-take-le}
 use Rattle.format.specs.Bytes.{same, over}
 use Rattle.format.specs.Label.{label_limit}
 use Rattle.format.specs.State.{State, Record}
-use Rattle.format.specs.Refusals.{Result, stop, also}
+use Rattle.format.specs.Refusals.{Result, stop, also, Good, Refusal}
 use Rattle.format.specs.WellFormed.{WellFormed, AllWellFormed}
-use Rattle.format.specs.declared.Verdict.TheVariants.{Good, Refusal}
 use Rattle.format.specs.Reading.{run}
 use Rattle.format.specs.Writing.{v8, encode_all}
 use Rattle.format.specs.Codes.{codes, setting_after, label_after, after, closing, unsayable}
@@ -20,13 +20,14 @@ use Rattle.format.specs.Fields.{record_of, state_of}
 use Rattle.format.specs.declared.Fields.{Fields}
 use Rattle.format.specs.declared.Fields.TheVariants.{Leg, Station, Section, Error}
 use Rattle.format.specs.declared.Setting.{Setting}
+use Rattle.format.specs.declared.Refusal.{Refusal as Refused}
 use Rattle.format.proofs.Basics.{same_true, same_refl}
 use Rattle.format.proofs.GoingLaws.{goes_run}
 use Rattle.format.proofs.WritingLaws.{setting_at, able, codes_go}
 use Rattle.part.specs.Lays.{Puts}
 use Rattle.scan.specs.Places.{label_in, state_at, left_at, Finds}
 use Rattle.scan.specs.Keeping.{Swaps, Keeps}
-use Rattle.scan.specs.declared.Found.TheVariants.{Refused as FoundRefused, End as FoundEnd, Record as FoundRecord}
+use Rattle.scan.specs.declared.Found.TheVariants.{End as FoundEnd, Record as FoundRecord}
 use Rattle.wire.proofs.Laws.{same_false}
 use Rattle.scan.specs.declared.Place.{Place}
 use Rattle.judge.specs.Walking.{rest_of, rules_from, Ready, Met, Steps}
@@ -145,20 +146,20 @@ module _ (file : List ℕ) (p : Place) (b s s' : List ℕ) (m : ℕ) (K : Swaps 
   copy_reads : rest_of file p.at (state_at p b) ≡ left_at 8 file (record { at = p.at; len = m; setting = p.setting }) s
   copy_reads = ap (λ (l : List ℕ). run 8 p.at (drop p.at file) (state_of p.setting l)) (sym K.label_is)
 
-  pub found_refused : {n q : ℕ} → Finds 8 file (record { at = p.at; len = m; setting = p.setting }) s (FoundRefused n q) s'
-      → rest_of file p.at (state_at p b) ≡ stop (Refusal n q)
+  pub found_refused : {r : Refused} → Finds 8 file (record { at = p.at; len = m; setting = p.setting }) s (Err r) s'
+      → rest_of file p.at (state_at p b) ≡ stop (Refusal r.number r.place)
   found_refused F = copy_reads ∙ F.same
 
-  pub found_end : Finds 8 file (record { at = p.at; len = m; setting = p.setting }) s FoundEnd s'
+  pub found_end : Finds 8 file (record { at = p.at; len = m; setting = p.setting }) s (Ok FoundEnd) s'
       → same (drop p.at file) (closing p.setting.style) ≡ true
       → (rest_of file p.at (state_at p b) ≡ stop Good) × (drop p.at file ≡ closing p.setting.style)
   found_end F e = (copy_reads ∙ F.same, same_true _ _ e)
 
-  pub found_foreign : Finds 8 file (record { at = p.at; len = m; setting = p.setting }) s FoundEnd s'
+  pub found_foreign : Finds 8 file (record { at = p.at; len = m; setting = p.setting }) s (Ok FoundEnd) s'
       → same (drop p.at file) (closing p.setting.style) ≡ false → drop p.at file ≡ rules_from file p.at (state_at p b) → ⊥
   found_foreign F e q =
       differs _ _ e (q ∙ ap (λ (x : Result). encode_all v8 (state_at p b) x.records) (copy_reads ∙ F.same) ∙ encode_none v8 (state_at p b))
 
-  pub found_met : {to : Place} {f : Fields} → Finds 8 file (record { at = p.at; len = m; setting = p.setting }) s (FoundRecord to f) s'
+  pub found_met : {to : Place} {f : Fields} → Finds 8 file (record { at = p.at; len = m; setting = p.setting }) s (Ok (FoundRecord to f)) s'
       → Met file p b (record_of f (label_in to s'))
   found_met {to} F = record { others = (left_at 8 file to s').records; records = ap (λ (x : Result). x.records) (copy_reads ∙ F.same) }

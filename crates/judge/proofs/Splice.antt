@@ -1,5 +1,6 @@
 -- A file that the writing rules give, cut before one of its records: what stands from there on is what they give for the records that are
 -- left, in the state that reading has reached there. So two files in the same state before the same records go on alike. Assumes nothing.
+use Rattle.format.specs.Refusals.{Good}
 use Prim.Native.Nat.{ℕ, zero, suc, ◌+◌, ◌≤◌, ◌<◌}
 use mathlib.Core.Path.{◌≡◌, refl, ◌∙◌, subst}
 use mathlib.Core.List.{List, [], ◌∷◌}
@@ -10,7 +11,6 @@ use Rattle.format.specs.Bytes.{pick}
 use Rattle.format.specs.Header.{Header}
 use Rattle.format.specs.Label.{label_limit}
 use Rattle.format.specs.State.{State, start_setting, start, Record, leg, station, section, error}
-use Rattle.format.specs.declared.Verdict.TheVariants.{Good}
 use Rattle.format.specs.WellFormed.{WellFormed, AllWellFormed}
 use Rattle.format.specs.Reading.{run}
 use Rattle.format.specs.Writing.{v8, after_all, file_of, records_verdict}

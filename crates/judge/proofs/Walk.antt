@@ -7,8 +7,7 @@ use native.Mathlib.Nat.{add-zero}
 use lib.ListN.{length, take, drop, length-append, length-drop, take-append-drop}
 use lib.Seq.{drop-drop, take-add, drop-append_seam}
 use Rattle.format.specs.State.{State, Record}
-use Rattle.format.specs.Refusals.{Result, stop}
-use Rattle.format.specs.declared.Verdict.TheVariants.{Good, Refusal}
+use Rattle.format.specs.Refusals.{Result, stop, Good}
 use Rattle.format.specs.Writing.{v8, codes_all, after_all, encode_all}
 use Rattle.format.specs.Codes.{closing, header_limit}
 use Rattle.format.proofs.WritingLaws.{codes_append, after_append, encode_append}
@@ -133,9 +132,6 @@ module _ {file : List ℕ} {p : Place} {b : List ℕ} {limit : ℕ} {q : Place} 
 
   pub judging_ready : Ready file q c
   judging_ready = record { small = G.start.small; inside = W.inside; sound = walk_sound W G.start.sound }
-
-  pub judging_refused : (n k : ℕ) → rest_of file q.at (state_at q c) ≡ stop (Refusal n k) → (rest_of file p.at (state_at p b)).verdict ≡ Refusal n k
-  judging_refused n k e = sym W.verdict ∙ ap (λ (x : Result). x.verdict) e
 
   pub judging_foreign : (drop q.at file ≡ rules_from file q.at (state_at q c) → ⊥) → drop p.at file ≡ rules_from file p.at (state_at p b) → ⊥
   judging_foreign f e = f (walk_foreign W e)

@@ -1,4 +1,5 @@
 -- A file judged whole, on plain values: its header, the records before the run, the run, and what is behind it. Assumes nothing.
+use Rattle.std.specs.Prelude.{Result as Answered, Ok, Err}
 use Prim.Native.Nat.{ℕ, ◌+◌, ◌-◌, ◌≤◌, ◌<◌}
 use mathlib.Core.Path.{◌≡◌, refl, sym, ap, ap₂, ◌∙◌, subst}
 use mathlib.Core.Bool.{Bool, true, false}
@@ -10,14 +11,14 @@ use lib.Seq.{drop-append_seam, take_at, length-take-le}
 use Rattle.format.specs.Bytes.{same, Bytes}
 use Rattle.format.specs.Header.{Header, opened, opening_of}
 use Rattle.format.specs.State.{State, start, Record}
-use Rattle.format.specs.Refusals.{Result}
-use Rattle.format.specs.declared.Verdict.TheVariants.{Good, Refusal}
+use Rattle.format.specs.Refusals.{Result, Good, Refusal}
 use Rattle.format.specs.Reading.{items_of}
 use Rattle.format.specs.Writing.{v8, encode_all, file_of}
 use Rattle.format.specs.Codes.{header_codes}
 use Rattle.format.specs.Editing.{house_written, codes_place}
 use Rattle.format.specs.Fields.{state_of}
 use Rattle.format.specs.declared.Fields.{Fields}
+use Rattle.format.specs.declared.Refusal.{Refusal as Refused}
 use Rattle.format.proofs.Basics.{same_true, same_refl}
 use Rattle.format.proofs.HeaderLaws.{opening_read, opening_fits}
 use Rattle.format.proofs.GoodRecords.{items_formed, items_sayable}
@@ -25,14 +26,14 @@ use Rattle.wire.proofs.Laws.{same_false}
 use Rattle.scan.specs.Places.{left_at, state_at, Inside, Starts, Finds}
 use Rattle.scan.specs.Keeping.{Swaps}
 use Rattle.scan.specs.declared.Place.{Place}
-use Rattle.scan.specs.declared.Found.TheVariants.{Refused as FoundRefused, End as FoundEnd, Record as FoundRecord}
+use Rattle.scan.specs.declared.Found.TheVariants.{End as FoundEnd, Record as FoundRecord}
 use Rattle.scan.proofs.Starting.{starts_state, starts_left}
 use Rattle.judge.specs.Walking.{rest_of, rules_from, Ready, Walks, Ends}
 use Rattle.judge.specs.Judging.{old_header, OldOpens, old_result, Begins, Stands, House, Cuts, Judges, Fails}
-use Rattle.judge.specs.declared.Old.{Old}
+use Rattle.header.specs.declared.Head.{Head}
 use Rattle.judge.specs.declared.Run.{Run}
 use Rattle.judge.specs.declared.Judged.{Judged}
-use Rattle.judge.specs.declared.Judged.TheVariants.{Refused, Foreign, Short, Cut}
+use Rattle.judge.specs.declared.Judged.TheVariants.{Foreign, Short, Cut}
 use Rattle.judge.proofs.One.{differs}
 use Rattle.judge.proofs.Splice.{good_start}
 use Rattle.judge.proofs.Walk.{walk_none, walk_sound, walk_foreign, walk_ends, walk_then}
@@ -54,7 +55,7 @@ module _ (p : Place) (b b' : List ℕ) (n : ℕ) (K : Swaps b' (take p.len b) n)
 -- ---- the header
 
 -- its codes, as the code cuts the texts out of the file
-pub header_told : (file : List ℕ) (old : Old) {t : Bool}
+pub header_told : (file : List ℕ) (old : Head) {t : Bool}
     → t
     ≡ same (take old.place file)
     (header_codes
@@ -70,7 +71,7 @@ header_told file old e =
     let c : 24 + old.title + 1 ≡ 25 + old.title = omega arith in
     rw (a, b, c) at e
 
-module _ (file : List ℕ) (old : Old) (O : OldOpens file old) where
+module _ (file : List ℕ) (old : Head) (O : OldOpens file old) where
   abbrev h : Header
   h = old_header file old
 
@@ -110,18 +111,18 @@ module _ (file : List ℕ) (old : Old) (O : OldOpens file old) where
 
   -- ---- the reader's refusal comes before 14
 
-  pub fails_judges : (run : Run) (r : Judged) (b b' : List ℕ) → Fails file old r → house_written file h rs ≡ false → Judges file old run r b b'
-  fails_judges run (Refused n p) b b' F e = F
-  fails_judges run Foreign b b' F e = (F, e)
-  fails_judges run (Short n) b b' F e = absurd F
-  fails_judges run (Cut front back rest) b b' F e = absurd F
+  pub fails_judges : (run : Run) (r : Answered Judged Refused) (b b' : List ℕ) → Fails file old r → house_written file h rs ≡ false → Judges file old run r b b'
+  fails_judges run (Err r) b b' F e = F
+  fails_judges run (Ok Foreign) b b' F e = (F, e)
+  fails_judges run (Ok (Short n)) b b' F e = absurd F
+  fails_judges run (Ok (Cut front back rest)) b b' F e = absurd F
 
 -- the loop of `foreign`
-pub record Reading (file : List ℕ) (old : Old) (p : Place) (b : List ℕ) : Type 0 where
+pub record Reading (file : List ℕ) (old : Head) (p : Place) (b : List ℕ) : Type 0 where
   pub inside : Inside file p b
   pub verdict : (left_at old.version file p b).verdict ≡ (old_result file old).verdict
 
-pub reading_first : (file : List ℕ) (old : Old) (p : Place) (b : List ℕ) → old.place ≤ length file → Starts p old.place → length b ≡ 4096
+pub reading_first : (file : List ℕ) (old : Head) (p : Place) (b : List ℕ) → old.place ≤ length file → Starts p old.place → length b ≡ 4096
     → Reading file old p b
 reading_first file old p b i s w =
     record {
@@ -129,19 +130,19 @@ reading_first file old p b i s w =
       verdict = ap (λ (x : Result). x.verdict) (starts_left old.version file p old.place b s);
     }
 
-module _ {file : List ℕ} {old : Old} {p : Place} {b b' : List ℕ} (G : Reading file old p b) where
-  pub reading_refused : (n q : ℕ) → Finds old.version file p b (FoundRefused n q) b' → (old_result file old).verdict ≡ Refusal n q
-  reading_refused n q F = sym G.verdict ∙ ap (λ (x : Result). x.verdict) F.same
+module _ {file : List ℕ} {old : Head} {p : Place} {b b' : List ℕ} (G : Reading file old p b) where
+  pub reading_refused : (r : Refused) → Finds old.version file p b (Err r) b' → (old_result file old).verdict ≡ Refusal r.number r.place
+  reading_refused r F = sym G.verdict ∙ ap (λ (x : Result). x.verdict) F.same
 
-  pub reading_end : Finds old.version file p b FoundEnd b' → (old_result file old).verdict ≡ Good
+  pub reading_end : Finds old.version file p b (Ok FoundEnd) b' → (old_result file old).verdict ≡ Good
   reading_end F = sym G.verdict ∙ ap (λ (x : Result). x.verdict) F.same
 
-  pub reading_more : (to : Place) (f : Fields) → Finds old.version file p b (FoundRecord to f) b' → Reading file old to b'
+  pub reading_more : (to : Place) (f : Fields) → Finds old.version file p b (Ok (FoundRecord to f)) b' → Reading file old to b'
   reading_more to f F = record { inside = F.further.1; verdict = sym (ap (λ (x : Result). x.verdict) F.same) ∙ G.verdict }
 
 -- ---- up to a place
 
-module _ {file : List ℕ} {old : Old} {j : ℕ} {p : Place} {b : List ℕ} (B : Begins file old j p b) where
+module _ {file : List ℕ} {old : Head} {j : ℕ} {p : Place} {b : List ℕ} (B : Begins file old j p b) where
   abbrev O : OldOpens file old
   O = B.opens
 
@@ -203,7 +204,7 @@ module _ {file : List ℕ} {old : Old} {j : ℕ} {p : Place} {b : List ℕ} (B :
         state = rw result_is W.state;
       }
 
-pub begins_first : (file : List ℕ) (old : Old) → OldOpens file old → take old.place file ≡ header_codes (old_header file old) → (p : Place) (b : List ℕ)
+pub begins_first : (file : List ℕ) (old : Head) → OldOpens file old → take old.place file ≡ header_codes (old_header file old) → (p : Place) (b : List ℕ)
     → Starts p old.place → length b ≡ 4096 → Begins file old 0 p b
 begins_first file old o e p b s w =
     let i : Inside file p b =
@@ -218,7 +219,7 @@ begins_first file old o e p b s w =
     }
 
 -- from the first record on
-module _ {file : List ℕ} {old : Old} {p : Place} {b : List ℕ} (B : Begins file old 0 p b) where
+module _ {file : List ℕ} {old : Head} {p : Place} {b : List ℕ} (B : Begins file old 0 p b) where
   pub first_then : {k : ℕ} {q : Place} {c : List ℕ} → Walks file p.at (state_at p b) k q c → Begins file old k q c
   first_then {k} {q} {c} Z = subst (λ (n : ℕ). Begins file old n q c) (zero-add k) (begins_then B Z)
 
@@ -227,7 +228,7 @@ module _ {file : List ℕ} {old : Old} {p : Place} {b : List ℕ} (B : Begins fi
   first_short {n} run E l = (begins_house B E, sym (zero-add n) ∙ (begins_count B E).0, l)
 
 -- the run is cut out
-pub begins_cuts : {file : List ℕ} {old : Old} (run : Run) {front back : Place} {b b' : List ℕ} {rest : ℕ} → Begins file old run.first front b
+pub begins_cuts : {file : List ℕ} {old : Head} (run : Run) {front back : Place} {b b' : List ℕ} {rest : ℕ} → Begins file old run.first front b
     → (B : Begins file old (run.first + run.count) back b')
     → Ends file back.at (state_at back b') rest → Cuts file old run front b back b' rest
 begins_cuts run {rest = rest} A B E =

@@ -1,31 +1,26 @@
 -- Records of a file read one after another, each with the codes that the writing rules give. Assumes nothing.
-use Rattle.std.specs.Prelude.{ℕ, ◌+◌, ◌-◌, ◌*◌, ◌≤◌, ◌<◌, ◌≡◌, List, ◌∷◌, ◌++◌, length, get_or, take, drop}
+use Rattle.std.specs.Prelude.{ℕ, ◌+◌, ◌-◌, ◌*◌, ◌≤◌, ◌<◌, ◌≡◌, List, ◌∷◌, ◌++◌, length, get_or, take, drop, Option, None, Some, Result as Answered, Ok, Err}
 use Rattle.format.specs.Bytes.{le32}
 use Rattle.format.specs.Items.{point_of}
 use Rattle.format.specs.Label.{label_limit}
 use Rattle.format.specs.declared.Point.{Point}
-use Rattle.format.specs.declared.Position.{Position}
-use Rattle.format.specs.declared.Position.TheVariants.{Unset, Stands}
 use Rattle.format.specs.declared.Setting.{Setting}
 use Rattle.format.specs.Header.{file_limit}
 use Rattle.format.specs.State.{State, Record, leg}
-use Rattle.format.specs.Refusals.{Result, stop, also}
+use Rattle.format.specs.Refusals.{Result, stop, also, Good, Refusal}
 use Rattle.format.specs.WellFormed.{GoodDated, GoodPoint, AllWellFormed}
-use Rattle.format.specs.declared.Verdict.TheVariants.{Good, Refusal}
 use Rattle.format.specs.Reading.{run}
 use Rattle.format.specs.Writing.{v8, codes_all, after_all, encode_all, records_verdict}
 use Rattle.format.specs.Codes.{codes, after, closing}
 use Rattle.format.specs.Fields.{record_of}
 use Rattle.scan.specs.Places.{label_in, state_at, Inside}
 use Rattle.scan.specs.declared.Place.{Place}
+use Rattle.format.specs.declared.Refusal.{Refusal as Refused}
 use Rattle.judge.specs.declared.Brief.{Brief}
-use Rattle.judge.specs.declared.Brief.TheVariants.{Other, Line}
-use Rattle.judge.specs.declared.Passing.{Passing}
-use Rattle.judge.specs.declared.Passing.TheVariants.{Other as PassingOther, Passed as PassingPassed}
 use Rattle.judge.specs.declared.Taken.{Taken}
-use Rattle.judge.specs.declared.Taken.TheVariants.{Refused, Foreign, End, Record as Next}
+use Rattle.judge.specs.declared.Taken.TheVariants.{Foreign, End, Record as Next}
 use Rattle.judge.specs.declared.Stretch.{Stretch}
-use Rattle.judge.specs.declared.Stretch.TheVariants.{Refused as StretchRefused, Foreign as StretchForeign, End as StretchEnd, Passed}
+use Rattle.judge.specs.declared.Stretch.TheVariants.{Foreign as StretchForeign, End as StretchEnd, Passed}
 
 -- ---- from a byte on, in a state
 
@@ -38,9 +33,9 @@ abbrev pub rules_from : List ℕ → ℕ → State → List ℕ
 rules_from file at st = encode_all v8 st (rest_of file at st).records
 
 -- style, date and position as reading leaves them
-abbrev pub GoodPosition : Position → Type 0
-GoodPosition Unset = Unit
-GoodPosition (Stands p) = GoodPoint p
+abbrev pub GoodPosition : Option Point → Type 0
+GoodPosition None = Unit
+GoodPosition (Some p) = GoodPoint p
 
 pub record GoodSetting (s : Setting) : Type 0 where
   pub style_fits : s.style ≤ 5
@@ -75,11 +70,11 @@ pub record Steps (file : List ℕ) (p : Place) (b : List ℕ) (to : Place) (b' :
   pub further : p.at < to.at
   pub left : rest_of file p.at (state_at p b) ≡ also r (rest_of file to.at (state_at to b'))
 
-abbrev pub Takes : List ℕ → Place → List ℕ → Taken → List ℕ → Type 0
-Takes file p b (Refused n q) b' = rest_of file p.at (state_at p b) ≡ stop (Refusal n q)
-Takes file p b Foreign b' = drop p.at file ≡ rules_from file p.at (state_at p b) → ⊥
-Takes file p b End b' = (rest_of file p.at (state_at p b) ≡ stop Good) × (drop p.at file ≡ closing p.setting.style)
-Takes file p b (Next to f) b' = Steps file p b to b' (record_of f (label_in to b'))
+abbrev pub Takes : List ℕ → Place → List ℕ → Answered Taken Refused → List ℕ → Type 0
+Takes file p b (Err r) b' = rest_of file p.at (state_at p b) ≡ stop (Refusal r.number r.place)
+Takes file p b (Ok Foreign) b' = drop p.at file ≡ rules_from file p.at (state_at p b) → ⊥
+Takes file p b (Ok End) b' = (rest_of file p.at (state_at p b) ≡ stop Good) × (drop p.at file ≡ closing p.setting.style)
+Takes file p b (Ok (Next to f)) b' = Steps file p b to b' (record_of f (label_in to b'))
 
 -- ---- the commonest record
 
@@ -97,9 +92,9 @@ pub record BriefLine (s l : List ℕ) (keep add : ℕ) : Type 0 where
   pub few : keep + 16 ≤ label_limit
   pub differs : 0 < length l - keep → 0 < add → get_or l keep 0 ≡ get_or s 2 0 → ⊥
 
-abbrev pub Briefs : Brief → List ℕ → List ℕ → Type 0
-Briefs Other s l = Unit
-Briefs (Line keep add) s l = BriefLine s l keep add
+abbrev pub Briefs : Option Brief → List ℕ → List ℕ → Type 0
+Briefs None s l = Unit
+Briefs (Some line) s l = BriefLine s l line.keep line.add
 
 -- the leg that it makes
 abbrev pub brief_leg : List ℕ → State → Point → ℕ → ℕ → Record
@@ -112,9 +107,9 @@ pub record PassedOn (file : List ℕ) (p : Place) (b : List ℕ) (to : Place) (b
   pub made : Record
   pub steps : Steps file p b to b' made
 
-abbrev pub Passes : List ℕ → Place → List ℕ → Passing → List ℕ → Type 0
-Passes file p b PassingOther b' = b' ≡ b
-Passes file p b (PassingPassed to) b' = PassedOn file p b to b'
+abbrev pub Passes : List ℕ → Place → List ℕ → Option Place → List ℕ → Type 0
+Passes file p b None b' = b' ≡ b
+Passes file p b (Some to) b' = PassedOn file p b to b'
 
 -- ---- records one after another
 
@@ -137,8 +132,8 @@ pub record Ends (file : List ℕ) (at : ℕ) (st : State) (n : ℕ) : Type 0 whe
   pub ours : drop at file ≡ rules_from file at st
 
 -- at most so many records
-abbrev pub Stretches : List ℕ → Place → List ℕ → ℕ → Stretch → List ℕ → Type 0
-Stretches file p b limit (StretchRefused n q) b' = (rest_of file p.at (state_at p b)).verdict ≡ Refusal n q
-Stretches file p b limit StretchForeign b' = drop p.at file ≡ rules_from file p.at (state_at p b) → ⊥
-Stretches file p b limit (StretchEnd n) b' = Ends file p.at (state_at p b) n × (n < limit)
-Stretches file p b limit (Passed to) b' = Walks file p.at (state_at p b) limit to b'
+abbrev pub Stretches : List ℕ → Place → List ℕ → ℕ → Answered Stretch Refused → List ℕ → Type 0
+Stretches file p b limit (Err r) b' = (rest_of file p.at (state_at p b)).verdict ≡ Refusal r.number r.place
+Stretches file p b limit (Ok StretchForeign) b' = drop p.at file ≡ rules_from file p.at (state_at p b) → ⊥
+Stretches file p b limit (Ok (StretchEnd n)) b' = Ends file p.at (state_at p b) n × (n < limit)
+Stretches file p b limit (Ok (Passed to)) b' = Walks file p.at (state_at p b) limit to b'

@@ -1,15 +1,15 @@
 // Whether a file is house-written (request #114's word for one that document 01's writing
 // rules would have produced): its records are read one after another, and the codes of each
 // are compared with the file's bytes.
+// A label's bytes and its length stand apart: C lends the bytes and has the length in its stand.
 #![tactic(auto)]
 
-ghost use Rattle.std.specs.Prelude.{◌≡◌, ◌+◌, ◌-◌, ◌≤◌, length, take, drop};
-ghost use Rattle.format.specs.Bytes.{same, le32};
+ghost use Rattle.std.specs.Prelude.{◌≡◌, ◌+◌, ◌-◌, ◌≤◌, length, take, drop, Ok};
+ghost use Rattle.format.specs.Bytes.{same};
 ghost use Rattle.format.specs.Fields.{record_of};
 ghost use Rattle.format.specs.Header.{file_limit};
 ghost use Rattle.format.specs.WellFormed.{WellFormed};
 ghost use Rattle.format.specs.Codes.{codes, codes_limit, closing, header_codes, header_limit};
-ghost use Rattle.format.specs.Items.{point_of};
 ghost use Rattle.format.specs.Label.{label_limit};
 ghost use Rattle.part.specs.Lays.{Puts};
 ghost use Rattle.scan.specs.Keeping.{Swaps, Keeps};
@@ -17,18 +17,9 @@ ghost use Rattle.scan.specs.Places.{state_at};
 ghost use Rattle.judge.specs.Walking.{Ready, Met, Takes, Briefs, Passes, Stretches};
 ghost use Rattle.judge.specs.Judging.{OldOpens, old_header, Begins, Fails, Judges, JudgesRest};
 
-use format::{Fields, LABEL_LIMIT, Point, Position, Setting};
+use format::{Fields, LABEL_LIMIT, Refusal, Setting};
+use header::Head;
 use scan::{Found, Place};
-
-// A file's header, as opening the file found it.
-#[derive(Clone, Copy)]
-pub struct Old {
-    pub version: u8,
-    pub place: usize,
-    pub extended: u8,
-    pub title: usize,
-    pub time: usize,
-}
 
 // A run of `count` records from `first` on.
 #[derive(Clone, Copy)]
@@ -37,11 +28,10 @@ pub struct Run {
     pub count: usize,
 }
 
-// What stands next: a refusal; what the writing rules do not give; the end; or a
-// record, and where reading then stands.
+// What stands next: what the writing rules do not give; the end; or a record, and where
+// reading then stands.
 #[derive(Clone, Copy)]
 pub enum Taken {
-    Refused { number: u8, place: usize },
     Foreign,
     End,
     Record { place: Place, fields: Fields },
@@ -50,20 +40,15 @@ pub enum Taken {
 // The same of some records: the end comes after fewer, or they are passed.
 #[derive(Clone, Copy)]
 enum Stretch {
-    Refused { number: u8, place: usize },
     Foreign,
     End { records: usize },
     Passed { place: Place },
 }
 
-// A refusal; a file that is not house-written; one that is and has too few records; or
-// where reading stands before the run and behind it, with so many records to follow.
+// A file that is not house-written; one that is and has too few records; or where
+// reading stands before the run and behind it, with so many records to follow.
 #[derive(Clone, Copy)]
 pub enum Judged {
-    Refused {
-        number: u8,
-        place: usize,
-    },
     Foreign,
     Short {
         records: usize,
@@ -104,8 +89,7 @@ fn copy_label(label: &[u8; LABEL_LIMIT], len: usize, spare: &mut [u8; LABEL_LIMI
     requires { (len ≤ label_limit) × (length label.now ≡ label_limit) × (length spare.old ≡ label_limit) }
     ensures { Swaps spare.new (take len label.now) result }
 {
-    let own = &label[..];
-    scan::swap_label(spare, 0, &own[..len])
+    scan::swap_label(spare, 0, &label[..len])
 }
 
 // The codes of a record of this name, after what reading finds at `from`.
@@ -119,9 +103,7 @@ fn put_codes(
     requires { (from.len ≤ label_limit) × (length last.now ≡ label_limit) × WellFormed (record_of fields name.now) }
     ensures { Puts room.old room.new (codes (state_at from last.now) (record_of fields name.now)) codes_limit result }
 {
-    let before = &last[..];
-    let len = from.len;
-    codes::put_record(room, from.setting, &before[..len], name, fields)
+    codes::put_record(room, from.setting, &last[..from.len], name, fields)
 }
 
 // The record that reading made, of this name, held to the writing rules.
@@ -134,20 +116,16 @@ fn take_made(
     room: &mut [u8],
 ) -> Taken
     requires { Ready file.now from label.old × Met file.now from label.old (record_of fields name.now) × (length name.now ≤ label_limit) × (length room.old ≡ header_limit) }
-    ensures { Takes file.now from label.old result label.new × (length room.new ≡ header_limit) }
+    ensures { Takes file.now from label.old (Ok result) label.new × (length room.new ≡ header_limit) }
 {
-    let at = from.at;
-    let len = from.len;
-    let setting = from.setting;
     let size = put_codes(room, from, label, name, fields);
-    if !stands(file, at, &room[..size]) {
+    if !stands(file, from.at, &room[..size]) {
         return Taken::Foreign;
     }
-    let m = scan::keep_label(label, len, name, fields);
     let place = Place {
-        at: at + size,
-        len: m,
-        setting: counts::setting_after(setting, fields),
+        at: from.at + size,
+        len: scan::keep_label(label, from.len, name, fields),
+        setting: counts::setting_after(from.setting, fields),
     };
     Taken::Record { place, fields }
 }
@@ -157,10 +135,8 @@ fn take_end(file: &[u8], from: Place, room: &mut [u8]) -> bool
     requires { (from.at ≤ length file.now) × (length room.old ≡ header_limit) }
     ensures { (result ≡ same (drop from.at file.now) (closing from.setting.style)) × (length room.new ≡ header_limit) }
 {
-    let at = from.at;
-    let setting = from.setting;
-    let size = frame::put_closing(room, setting.style);
-    wire::same_bytes(&file[at..], &room[..size])
+    let size = frame::put_closing(room, from.setting.style);
+    wire::same_bytes(&file[from.at..], &room[..size])
 }
 
 // The next record of a file that is as the writing rules give it up to here. The label's
@@ -171,204 +147,159 @@ pub fn take_record(
     label: &mut [u8; LABEL_LIMIT],
     spare: &mut [u8; LABEL_LIMIT],
     room: &mut [u8],
-) -> Taken
+) -> Result<Taken, Refusal>
     requires { Ready file.now from label.old × (length spare.old ≡ label_limit) × (length room.old ≡ header_limit) }
     ensures { Takes file.now from label.old result label.new × (length spare.new ≡ label_limit) × (length room.new ≡ header_limit) }
 {
     let len = copy_label(label, from.len, spare);
-    let at = from.at;
-    let setting = from.setting;
-    let found = scan::next_record(file, 8, Place { at, len, setting }, spare);
+    let found = scan::next_record(file, 8, Place { len, ..from }, spare)?;
     match found {
-        Found::Refused { number, place } => Taken::Refused { number, place },
         Found::End => {
             if take_end(file, from, room) {
-                return Taken::End;
+                return Ok(Taken::End);
             }
-            Taken::Foreign
+            Ok(Taken::Foreign)
         }
         Found::Record { place: to, fields } => {
-            let n = to.len;
-            let name = &spare[..];
-            take_made(file, from, label, &name[..n], fields, room)
+            Ok(take_made(file, from, label, &spare[..to.len], fields, room))
         }
     }
 }
 
 // ---- the commonest record, without its codes
 
-// Another item; or a LINE whose label part is one byte, and which is as the writing rules
-// give it: how many bytes of the label stay, and how many come.
+// A LINE whose label part is one byte, and which is as the writing rules give it: how
+// many bytes of the label stay, and how many come.
 #[derive(Clone, Copy)]
-enum Brief {
-    Other,
-    Line { keep: usize, add: usize },
+struct Brief {
+    keep: usize,
+    add: usize,
 }
 
-// The same, with where reading then stands.
-#[derive(Clone, Copy)]
-enum Passing {
-    Other,
-    Passed { place: Place },
-}
-
-// The LINE at the front of s, after a label of len bytes. No more of the label could have
+// The LINE at the front of s that is so, after a label of len bytes. No more of the label could have
 // stayed where nothing is dropped, nothing comes, or the first bytes differ.
-fn brief_line(s: &[u8], label: &[u8; LABEL_LIMIT], len: usize) -> Brief
+fn brief_line(s: &[u8], label: &[u8; LABEL_LIMIT], len: usize) -> Option<Brief>
     requires { (len ≤ label_limit) × (length label.now ≡ label_limit) }
     ensures { Briefs result s.now (take len label.now) }
 {
     if s.len() < 29 {
-        return Brief::Other;
+        return None;
     }
     let code = s[0];
     if code < 0x40 {
-        return Brief::Other;
+        return None;
     }
     if 0x47 < code {
-        return Brief::Other;
+        return None;
     }
     let part = number::index(s[1]);
     let off = part / 16;
     let add = part % 16;
     if part == 0 {
-        return Brief::Other;
+        return None;
     }
     if len < off {
-        return Brief::Other;
+        return None;
     }
     let keep = len - off;
     if LABEL_LIMIT - 16 < keep {
-        return Brief::Other;
+        return None;
     }
     if off != 0 {
         if add != 0 {
             if label[keep] == s[2] {
-                return Brief::Other;
+                return None;
             }
         }
     }
-    Brief::Line { keep, add }
+    Some(Brief { keep, add })
 }
 
-// The place at the front of s.
-fn point_at(s: &[u8]) -> Point
-    requires { 12 ≤ length s.now }
-    ensures { result ≡ point_of le32 s.now }
-{
-    let x = number::get_le32(s);
-    let y = number::get_le32(&s[4..]);
-    let z = number::get_le32(&s[8..]);
-    Point { x, y, z }
-}
-
-// The leg that such a LINE makes where a position is set.
-fn take_brief(file: &[u8], from: Place, label: &mut [u8; LABEL_LIMIT]) -> Passing
+// The leg that such a LINE makes where a position is set: where reading then stands.
+fn take_brief(file: &[u8], from: Place, label: &mut [u8; LABEL_LIMIT]) -> Option<Place>
     requires { Ready file.now from label.old }
     ensures { Passes file.now from label.old result label.new }
 {
     let at = from.at;
     let len = from.len;
     let setting = from.setting;
-    let position = setting.position;
-    let date = setting.date;
-    let Position::Stands { point: _ } = position else {
-        return Passing::Other;
+    let Some(_) = setting.position else {
+        return None;
     };
     let rest = &file[at..];
-    let brief = brief_line(rest, label, len);
-    let Brief::Line { keep, add } = brief else {
-        return Passing::Other;
-    };
-    let end = 2 + add;
-    let m = scan::relabel(label, len, len - keep, &rest[2..end]);
-    let point = point_at(&rest[end..]);
+    let line = brief_line(rest, label, len)?;
+    let end = 2 + line.add;
+    let m = scan::relabel(label, len, len - line.keep, &rest[2..end]);
+    let point = decode::get_point(&rest[end..]);
     let after = Setting {
-        style: setting.style,
-        date,
-        position: Position::Stands { point },
+        position: Some(point),
+        ..setting
     };
-    let place = Place {
-        at: at + 14 + add,
+    Some(Place {
+        at: at + 14 + line.add,
         len: m,
         setting: after,
-    };
-    Passing::Passed { place }
+    })
 }
 
 // ---- a stretch of records
 
 // At most `limit` records from a place on, each held to the writing rules.
-fn judge_records(file: &[u8], from: Place, label: &mut [u8; LABEL_LIMIT], limit: usize) -> Stretch
+fn judge_records(
+    file: &[u8],
+    from: Place,
+    label: &mut [u8; LABEL_LIMIT],
+    limit: usize,
+) -> Result<Stretch, Refusal>
     requires { Ready file.now from label.old }
     ensures { Stretches file.now from label.old limit result label.new }
 {
     let mut room = room();
     let mut spare = label::blank();
     let mut place = from;
-    let mut passed: usize = 0;
-    while passed < limit {
-        let brief = take_brief(file, place, label);
-        if let Passing::Passed { place: to } = brief {
+    for passed in 0..limit {
+        if let Some(to) = take_brief(file, place, label) {
             place = to;
-            passed += 1;
             continue;
         }
-        let taken = take_record(file, place, label, &mut spare.bytes, &mut room);
+        let taken = take_record(file, place, label, &mut spare.bytes, &mut room)?;
         match taken {
-            Taken::Refused { number, place: p } => return Stretch::Refused { number, place: p },
-            Taken::Foreign => return Stretch::Foreign,
-            Taken::End => return Stretch::End { records: passed },
-            Taken::Record {
-                place: to,
-                fields: _,
-            } => {
-                place = to;
-                passed += 1;
-            }
+            Taken::Foreign => return Ok(Stretch::Foreign),
+            Taken::End => return Ok(Stretch::End { records: passed }),
+            Taken::Record { place: to, .. } => place = to,
         }
     }
-    Stretch::Passed { place }
+    Ok(Stretch::Passed { place })
 }
 
 // ---- a file whole
 
 // Whether the header's codes are those that the writing rules give.
-fn our_header(file: &[u8], old: Old) -> bool
+fn our_header(file: &[u8], old: Head) -> bool
     requires { OldOpens file.now old }
     ensures { result ≡ same (take old.place file.now) (header_codes (old_header file.now old)) }
 {
     let ends = 24 + old.title;
     let from = ends + 1;
     let stops = from + old.time;
-    let place = old.place;
     let mut room = room();
     let n = frame::put_header(&mut room, old.extended, &file[24..ends], &file[from..stops]);
-    wire::same_bytes(&file[..place], &room[..n])
+    wire::same_bytes(&file[..old.place], &room[..n])
 }
 
 // A file that is not house-written: the reader's refusal comes first.
-fn foreign(file: &[u8], old: Old) -> Judged
+fn foreign(file: &[u8], old: Head) -> Result<Judged, Refusal>
     requires { old.place ≤ length file.now }
     ensures { Fails file.now old result }
 {
     let mut name = label::blank();
     let mut place = scan::first_place(old.place);
+    // Records differ in size: reading gives the place of the next.
     loop {
-        let found = scan::next_record(file, old.version, place, &mut name.bytes);
+        let found = scan::next_record(file, old.version, place, &mut name.bytes)?;
         match found {
-            Found::Refused { number, place: p } => {
-                return Judged::Refused { number, place: p };
-            }
-            Found::End => {
-                return Judged::Foreign;
-            }
-            Found::Record {
-                place: to,
-                fields: _,
-            } => {
-                place = to;
-            }
+            Found::End => return Ok(Judged::Foreign),
+            Found::Record { place: to, .. } => place = to,
         }
     }
 }
@@ -377,55 +308,44 @@ fn foreign(file: &[u8], old: Old) -> Judged
 // the writing rules give them. A file has fewer records than bytes.
 fn judge_rest(
     file: &[u8],
-    old: Old,
+    old: Head,
     run: Run,
     front: Place,
     back: Place,
     behind: &[u8; LABEL_LIMIT],
-) -> Judged
+) -> Result<Judged, Refusal>
     requires { Begins file.now old (run.first + run.count) back behind.now }
     ensures { JudgesRest file.now old run front result behind.now }
 {
     let mut last = label::blank();
     let len = copy_label(behind, back.len, &mut last.bytes);
-    let at = back.at;
-    let setting = back.setting;
-    let all = file.len();
-    let three = judge_records(file, Place { at, len, setting }, &mut last.bytes, all);
+    let three = judge_records(file, Place { len, ..back }, &mut last.bytes, file.len())?;
     match three {
-        Stretch::Refused { number, place } => Judged::Refused { number, place },
         Stretch::Foreign => foreign(file, old),
-        Stretch::End { records } => Judged::Cut {
-            front,
-            back,
-            rest: records,
-        },
-        Stretch::Passed { place: _ } => foreign(file, old),
+        Stretch::End { records: rest } => Ok(Judged::Cut { front, back, rest }),
+        Stretch::Passed { .. } => foreign(file, old),
     }
 }
 
 // The run and what is behind it.
 fn judge_run(
     file: &[u8],
-    old: Old,
+    old: Head,
     run: Run,
     front: Place,
     before: &[u8; LABEL_LIMIT],
     behind: &mut [u8; LABEL_LIMIT],
-) -> Judged
+) -> Result<Judged, Refusal>
     requires { Begins file.now old run.first front before.now × (length behind.old ≡ label_limit) }
     ensures { Judges file.now old run result before.now behind.new }
 {
     let len = copy_label(before, front.len, behind);
-    let at = front.at;
-    let setting = front.setting;
-    let two = judge_records(file, Place { at, len, setting }, behind, run.count);
+    let two = judge_records(file, Place { len, ..front }, behind, run.count)?;
     match two {
-        Stretch::Refused { number, place } => Judged::Refused { number, place },
         Stretch::Foreign => foreign(file, old),
-        Stretch::End { records } => Judged::Short {
+        Stretch::End { records } => Ok(Judged::Short {
             records: run.first + records,
-        },
+        }),
         Stretch::Passed { place: back } => judge_rest(file, old, run, front, back, behind),
     }
 }
@@ -434,11 +354,11 @@ fn judge_run(
 // run and behind it are left in the buffers.
 pub fn judge(
     file: &[u8],
-    old: Old,
+    old: Head,
     run: Run,
     before: &mut [u8; LABEL_LIMIT],
     behind: &mut [u8; LABEL_LIMIT],
-) -> Judged
+) -> Result<Judged, Refusal>
     requires { OldOpens file.now old × (length before.old ≡ label_limit) × (length behind.old ≡ label_limit) }
     ensures { Judges file.now old run result before.new behind.new }
 {
@@ -446,11 +366,10 @@ pub fn judge(
         return foreign(file, old);
     }
     let start = scan::first_place(old.place);
-    let one = judge_records(file, start, before, run.first);
+    let one = judge_records(file, start, before, run.first)?;
     match one {
-        Stretch::Refused { number, place } => Judged::Refused { number, place },
         Stretch::Foreign => foreign(file, old),
-        Stretch::End { records } => Judged::Short { records },
+        Stretch::End { records } => Ok(Judged::Short { records }),
         Stretch::Passed { place: front } => judge_run(file, old, run, front, before, behind),
     }
 }

@@ -1,9 +1,8 @@
 -- What the code's enums say of kinds of items. Assumes nothing.
-use Rattle.std.specs.Prelude.{ℕ, ◌≡◌, List, Bool, drop, ltb}
+use Rattle.std.specs.Prelude.{ℕ, ◌≡◌, List, Bool, drop, ltb, Option}
 use Rattle.format.specs.Bytes.{pick, le16, le32, widened}
-use Rattle.format.specs.Items.{Item, Stop as stop_item, Shorten as shorten_item, Style as style_item, NoDate as no_date_item, Xsect, Label as station_placed, Line as line_placed, Decoded, whole, reserved, labelled_item, point_of, dimensions_of, move_item, error_item, day_item, span_item, days_item, seconds_item, two_seconds_item, new_low_item, new_high_item}
+use Rattle.format.specs.Items.{Item, Stop as stop_item, Shorten as shorten_item, Style as style_item, NoDate as no_date_item, Xsect, Label as station_placed, Line as line_placed, Decoded, whole, reserved, labelled_item, point_of, dimensions_of, move_item, error_item, day_item, span_item, days_item, seconds_item, two_seconds_item, new_low_item, new_high_item, numbers}
 use Rattle.format.specs.declared.LabelPart.{LabelPart}
-use Rattle.format.specs.declared.LabelPart.TheVariants.{Numbers}
 use Rattle.length.specs.Parts.{finished}
 use Rattle.kind.specs.declared.Tail.{Tail}
 use Rattle.kind.specs.declared.Tail.TheVariants.{Short, Long, Station, Line}
@@ -29,15 +28,15 @@ make_of (Line flags) d added rest = line_placed flags (point_of le32 rest) d add
 -- ---- kinds
 
 -- an item with a label, after its code; a bare one has no label part
-unfoldable pub labelled_by : Bool → Tail → (List ℕ → LabelPart) → List ℕ → Decoded
-labelled_by bare tail p t = labelled_item (pick bare (Numbers 0 0 0) (p t)) t (tail_of tail) (make_of tail)
+unfoldable pub labelled_by : Bool → Tail → (List ℕ → Option LabelPart) → List ℕ → Decoded
+labelled_by bare tail p t = labelled_item (pick bare (numbers 0 0 0) (p t)) t (tail_of tail) (make_of tail)
 
 -- the label part of an item at the front of s, where it is finished and the rest of the item is there
-abbrev pub part_there : Bool → Tail → (List ℕ → LabelPart) → List ℕ → LabelPart
-part_there bare tail p s = finished (pick bare (Numbers 0 0 0) (p (drop 1 s))) (drop 1 s) (tail_of tail)
+abbrev pub part_there : Bool → Tail → (List ℕ → Option LabelPart) → List ℕ → Option LabelPart
+part_there bare tail p s = finished (pick bare (numbers 0 0 0) (p (drop 1 s))) (drop 1 s) (tail_of tail)
 
 -- the item at the front of s, where its code is of the kind, and p reads a label part
-abbrev pub kind_item : Kind → (List ℕ → LabelPart) → List ℕ → Decoded
+abbrev pub kind_item : Kind → (List ℕ → Option LabelPart) → List ℕ → Decoded
 kind_item Reserved p s = reserved
 kind_item Stop p s = whole 1 stop_item
 kind_item (Shorten cut) p s = whole 1 (shorten_item cut)
@@ -53,11 +52,11 @@ kind_item Error p s = error_item s
 kind_item (Labelled bare tail) p s = labelled_by bare tail p (drop 1 s)
 
 -- a kind says what f does of every s, where p reads a label part; and so for every p
-abbrev pub SaysBy : (List ℕ → LabelPart) → Kind → (List ℕ → Decoded) → Type 0
+abbrev pub SaysBy : (List ℕ → Option LabelPart) → Kind → (List ℕ → Decoded) → Type 0
 SaysBy p k f = (s : List ℕ) → kind_item k p s ≡ f s
 
-abbrev pub Says : Kind → ((List ℕ → LabelPart) → List ℕ → Decoded) → Type 0
-Says k f = (p : List ℕ → LabelPart) → SaysBy p k (f p)
+abbrev pub Says : Kind → ((List ℕ → Option LabelPart) → List ℕ → Decoded) → Type 0
+Says k f = (p : List ℕ → Option LabelPart) → SaysBy p k (f p)
 
 -- ---- v8
 

@@ -1,4 +1,5 @@
 -- The walk back to the nth dot from the end: what is known of the bytes passed, and why the dot found is the one looked for. Assumes nothing.
+use Rattle.std.specs.Prelude.{Some, None}
 use mathlib.Core.Path.{◌≡◌, sym, ap, ◌∙◌}
 use mathlib.Core.List.{List, [], ◌∷◌}
 use mathlib.Core.Bool.{Bool, true, false, ◌&&◌}
@@ -10,7 +11,6 @@ use lib.Dec.{eqb}
 use borrow.Author.Tests.{eq-eqb, ne_eqb}
 use Rattle.format.specs.Bytes.{pick}
 use Rattle.format.specs.Label.{dots, dot_from}
-use Rattle.format.specs.declared.Kept.TheVariants.{Keeps, Lacks}
 
 -- ---- a dot with n dots from it on is the nth from the end
 
@@ -25,7 +25,7 @@ dots_drop (b ∷ s) (suc i) = go (eqb b 46) (dots_drop s i)
     go true h = omega arith
     go false h = h
 
-pub found_from : (l : List ℕ) (k i n : ℕ) → i < length l → get_or l i 0 ≡ 46 → dots (drop i l) ≡ n → dot_from n k l ≡ Keeps (k + i + 1)
+pub found_from : (l : List ℕ) (k i n : ℕ) → i < length l → get_or l i 0 ≡ 46 → dots (drop i l) ≡ n → dot_from n k l ≡ Some (k + i + 1)
 unfolding dot_from dots pick
 found_from [] k i n h e d = absurd (omega arith)
 found_from (b ∷ s) k zero n h e d =
@@ -36,10 +36,10 @@ found_from (b ∷ s) k (suc i) n h e d =
     let r = found_from s (k + 1) i n (omega arith) e d in
     let z : k + 1 + i + 1 ≡ k + suc i + 1 = omega arith in
     let w : dots s + 1 ≡ n → ⊥ = λ q. omega (arith, dots_drop s i) in
-    go (eqb b 46) (r ∙ ap Keeps z) (ne_eqb (dots s + 1) n w)
+    go (eqb b 46) (r ∙ ap Some z) (ne_eqb (dots s + 1) n w)
   where
-    go : (t : Bool) → dot_from n (k + 1) s ≡ Keeps (k + suc i + 1) → eqb (dots s + 1) n ≡ false
-        → pick (t && eqb (dots s + 1) n) (Keeps (k + 1)) (dot_from n (k + 1) s) ≡ Keeps (k + suc i + 1)
+    go : (t : Bool) → dot_from n (k + 1) s ≡ Some (k + suc i + 1) → eqb (dots s + 1) n ≡ false
+        → pick (t && eqb (dots s + 1) n) (Some (k + 1)) (dot_from n (k + 1) s) ≡ Some (k + suc i + 1)
     go true r f = simp f r
     go false r f = r
 
@@ -76,7 +76,7 @@ module _ (l : List ℕ) (n i : ℕ) (hi : 0 < i) (h : i ≤ length l) where
 pub record Passed (b : List ℕ) (len n i d : ℕ) : Type 0 where
   pub few : d + i ≤ len
   pub count : d ≡ dots (drop i (take len b))
-  pub none : dot_from n i (drop i (take len b)) ≡ Lacks
+  pub none : dot_from n i (drop i (take len b)) ≡ None
 
 module _ (b : List ℕ) (len n : ℕ) (hb : len ≤ length b) where
   all : drop len (take len b) ≡ []
@@ -86,7 +86,7 @@ module _ (b : List ℕ) (len n : ℕ) (hb : len ≤ length b) where
   unfolding dots dot_from
   passed_start = record { few = omega arith; count = sym (ap dots all); none = ap (dot_from n len) all }
 
-  pub passed_none : (d : ℕ) → Passed b len n 0 d → Lacks ≡ dot_from n 0 (take len b)
+  pub passed_none : (d : ℕ) → Passed b len n 0 d → None ≡ dot_from n 0 (take len b)
   passed_none d P = sym P.none
 
   module _ (i d : ℕ) (hi : 0 < i) (P : Passed b len n i d) where
@@ -114,9 +114,9 @@ module _ (b : List ℕ) (len n : ℕ) (hb : len ≤ length b) where
           none = from_other (take len b) n i hi inside e' ∙ P.none;
         }
 
-    pub passed_found : get_or b (i - 1) 0 ≡ 46 → d + 1 ≡ n → Keeps (i - 1 + 1) ≡ dot_from n 0 (take len b)
+    pub passed_found : get_or b (i - 1) 0 ≡ 46 → d + 1 ≡ n → Some (i - 1 + 1) ≡ dot_from n 0 (take len b)
     passed_found e q =
         let z : 0 + (i - 1) + 1 ≡ i - 1 + 1 = omega arith in
         let e' = here ∙ e in
         let k : dots (drop (i - 1) (take len b)) ≡ n = omega (arith, P.count, dots_dot (take len b) n i hi inside e') in
-        sym (found_from (take len b) 0 (i - 1) n (omega (arith, inside)) e' k ∙ ap Keeps z)
+        sym (found_from (take len b) 0 (i - 1) n (omega (arith, inside)) e' k ∙ ap Some z)

@@ -1,4 +1,5 @@
 -- What stays of the first len bytes of a buffer, and the label after a step, on plain values. Assumes nothing.
+use Rattle.std.specs.Prelude.{Option, Some, None}
 use mathlib.Core.Path.{◌≡◌, sym, ap, ◌∙◌}
 use mathlib.Core.List.{List}
 use Prim.Native.Nat.{ℕ, ◌+◌, ◌-◌, ◌≤◌, ◌<◌}
@@ -8,9 +9,8 @@ use lib.ListN.{length, take}
 use lib.Seq.{length-take-le, take-take, take-length, paste, take-paste, length-paste}
 use borrow.Author.Tests.{lt-ltb, le-ltb}
 use Rattle.format.specs.Bytes.{pick}
-use Rattle.label.specs.Seen.{kept_after}
+use Rattle.label.specs.Seen.{kept_after, Within}
 use Rattle.format.specs.Label.{labelled, dot_from, kept_to_dot, kept_of, label_step}
-use Rattle.format.specs.declared.Kept.TheVariants.{Keeps, Lacks}
 use Rattle.format.specs.declared.Cut.{Cut}
 use Rattle.format.specs.declared.Cut.TheVariants.{Trim, Back}
 use Rattle.format.proofs.Basics.{less_or_not}
@@ -18,8 +18,12 @@ use Rattle.format.proofs.LabelLaws.{step_fits}
 
 -- ---- what stays
 
+pub within_more : (m n : ℕ) (x : Option ℕ) → m ≤ n → Within m x → Within n x
+within_more m n None h w = tt
+within_more m n (Some k) h w = omega arith
+
 module _ (b : List ℕ) (len n : ℕ) (hb : len ≤ length b) where
-  pub dot_short : len < 16 → Lacks ≡ kept_to_dot (take len b) n
+  pub dot_short : len < 16 → None ≡ kept_to_dot (take len b) n
   unfolding kept_to_dot pick
   dot_short h = simp (length-take-le len b hb, lt-ltb _ _ h)
 
@@ -49,7 +53,7 @@ module _ (b : List ℕ) (len k : ℕ) (added : List ℕ) (hb : length b ≡ 4096
   pub step_whole : length (paste b k added (length added)) ≡ 4096
   step_whole = length-paste b k added (length added) (omega arith) (omega arith) ∙ hb
 
-  pub step_laid : (cut : Cut) → Keeps k ≡ kept_of (take len b) cut
+  pub step_laid : (cut : Cut) → Some k ≡ kept_of (take len b) cut
       → labelled (take (k + length added) (paste b k added (length added))) ≡ label_step (take len b) cut added
   step_laid cut e =
       let p = take-paste b k added (length added) (omega arith) (omega arith) in

@@ -1,14 +1,15 @@
 // The current label: its buffer of 4,096 bytes, and the one step that changes it in
 // every version. The buffer is lent, beside plain numbers: nothing here copies it.
+// A label's bytes and its length stand apart: C lends the bytes and has the length in its stand.
 #![tactic(auto)]
 
 ghost use Rattle.std.specs.Prelude.{◌≡◌, ℕ, ◌+◌, ◌≤◌, length, take};
 ghost use Rattle.std.proofs.Math.Seq.{paste};
 ghost use Rattle.format.specs.Label.{dot_from, kept_to_dot, kept_of, label_step, label_limit};
-ghost use Rattle.label.specs.Seen.{dot_seen, Inside, Within, kept_after, Tells, TellsKept};
+ghost use Rattle.label.specs.Seen.{Within, kept_after, Tells, TellsKept};
 ghost use Rattle.wire.specs.Laid.{laid};
 
-use format::{Cut, Kept, LABEL_LIMIT};
+use format::{Cut, Fault, LABEL_LIMIT};
 
 #[derive(Clone, Copy)]
 pub struct Label {
@@ -16,20 +17,11 @@ pub struct Label {
     pub len: usize,
 }
 
-// The place of a dot, or the want of one.
-#[derive(Clone, Copy)]
-pub enum Dot {
-    At(usize),
-    Missing,
-}
-
-// What a step comes to: the label would be too short, or too long; or its new length,
-// and how many bytes of the old one were kept.
-#[derive(Clone, Copy)]
-pub enum Relabelled {
-    TooShort,
-    TooLong,
-    Fits { len: usize, kept: usize },
+// What a step leaves: the label's new length, and how many bytes of the old one were kept.
+#[derive(Clone, Copy, PartialEq, Eq)]
+pub struct Relabelled {
+    pub len: usize,
+    pub kept: usize,
 }
 
 // The empty label.
@@ -40,65 +32,55 @@ pub fn blank() -> Label
     Label { bytes, len: 0 }
 }
 
-// The place of the nth dot from the end of the first len bytes.
-fn nth_dot(bytes: &[u8; LABEL_LIMIT], len: usize, n: usize) -> Dot
+// What stays of the first len bytes, back to the nth dot from the end: that dot stays.
+fn nth_dot(bytes: &[u8; LABEL_LIMIT], len: usize, n: usize) -> Option<usize>
     requires { (len ≤ label_limit) × (length bytes.now ≡ label_limit) }
-    ensures { (dot_seen result ≡ dot_from n 0 (take len bytes.now)) × Inside len result }
+    ensures { (result ≡ dot_from n 0 (take len bytes.now)) × Within len result }
 {
-    let mut i = len;
     let mut dots: usize = 0;
-    let found = loop {
-        if i == 0 {
-            break Dot::Missing;
-        }
-        i -= 1;
-        if bytes[i] == 46 {
+    for i in (0..len).rev() {
+        if bytes[i] == b'.' {
             dots += 1;
             if dots == n {
-                break Dot::At(i);
+                return Some(i + 1);
             }
         }
-    };
-    found
+    }
+    None
 }
 
 // What stays of the label of len bytes, 16 bytes off and then back to the nth dot.
-fn kept_to_dot(bytes: &[u8; LABEL_LIMIT], len: usize, n: usize) -> Kept
+fn kept_to_dot(bytes: &[u8; LABEL_LIMIT], len: usize, n: usize) -> Option<usize>
     requires { (len ≤ label_limit) × (length bytes.now ≡ label_limit) }
     ensures { (result ≡ kept_to_dot (take len bytes.now) n) × Within len result }
 {
     if len < 16 {
-        return Kept::Lacks;
+        return None;
     }
-    let left = len - 16;
-    let found = nth_dot(bytes, left, n);
-    match found {
-        Dot::At(place) => Kept::Keeps { bytes: place + 1 },
-        Dot::Missing => Kept::Lacks,
-    }
+    nth_dot(bytes, len - 16, n)
 }
 
 // What stays of len bytes after off of them are dropped, where least have to stay.
-fn kept_after(len: usize, off: usize, least: usize) -> Kept
+fn kept_after(len: usize, off: usize, least: usize) -> Option<usize>
     ensures { (result ≡ kept_after len off least) × Within len result }
 {
     if len < off {
-        return Kept::Lacks;
+        return None;
     }
     let keep = len - off;
     if keep < least {
-        return Kept::Lacks;
+        return None;
     }
-    Kept::Keeps { bytes: keep }
+    Some(keep)
 }
 
 // What stays of the label of len bytes.
-pub fn kept_of(bytes: &[u8; LABEL_LIMIT], len: usize, cut: Cut) -> Kept
+pub fn kept_of(bytes: &[u8; LABEL_LIMIT], len: usize, cut: Cut) -> Option<usize>
     requires { (len ≤ label_limit) × (length bytes.now ≡ label_limit) }
     ensures { (result ≡ kept_of (take len bytes.now) cut) × Within len result }
 {
     match cut {
-        Cut::Empty => Kept::Keeps { bytes: 0 },
+        Cut::Empty => Some(0),
         Cut::ToDot { dots } => kept_to_dot(bytes, len, dots),
         Cut::Trim { bytes: off } => kept_after(len, off, 1),
         Cut::Back { bytes: off } => kept_after(len, off, 0),
@@ -136,22 +118,25 @@ pub fn extend(bytes: &mut [u8; LABEL_LIMIT], keep: usize, s: &[u8])
 
 // The label step of every version: what stays of the label of len bytes, then the
 // bytes to append; with how many stayed.
-pub fn label_step(bytes: &mut [u8; LABEL_LIMIT], len: usize, cut: Cut, added: &[u8]) -> Relabelled
+pub fn label_step(
+    bytes: &mut [u8; LABEL_LIMIT],
+    len: usize,
+    cut: Cut,
+    added: &[u8],
+) -> Result<Relabelled, Fault>
     requires { (len ≤ label_limit) × (length bytes.old ≡ label_limit) }
     ensures { Tells result bytes.new (label_step (take len bytes.old) cut added.now) × TellsKept result (kept_of (take len bytes.old) cut) }
 {
     let kept = kept_of(bytes, len, cut);
-    match kept {
-        Kept::Lacks => Relabelled::TooShort,
-        Kept::Keeps { bytes: keep } => {
-            if LABEL_LIMIT - keep < added.len() {
-                return Relabelled::TooLong;
-            }
-            append(bytes, keep, added);
-            Relabelled::Fits {
-                len: keep + added.len(),
-                kept: keep,
-            }
-        }
+    let Some(keep) = kept else {
+        return Err(Fault::LabelTooShort);
+    };
+    if LABEL_LIMIT - keep < added.len() {
+        return Err(Fault::LabelTooLong);
     }
+    append(bytes, keep, added);
+    Ok(Relabelled {
+        len: keep + added.len(),
+        kept: keep,
+    })
 }

@@ -13,7 +13,8 @@ use Rattle.format.specs.State.{Record}
 use Rattle.wire.specs.Laid.{laid}
 use Rattle.item.specs.Commonest.{extended}
 use Rattle.layout.specs.Freely.{LaidFreely}
-use Rattle.layout.proofs.Laws.{label_of, Laying, none, both}
+use Rattle.layout.proofs.Laws.{Laying, none, both}
+use Rattle.layout.specs.Fronts.{label_of}
 use Rattle.layout.proofs.Freely.{freely}
 use Rattle.laying.specs.Quickly.{name_of, Joined}
 use Rattle.laying.specs.declared.Joint.{Joint}

@@ -1,12 +1,11 @@
 -- The commonest items, whose records are laid in by themselves. Assumes nothing.
-use Rattle.std.specs.Prelude.{ℕ, ◌+◌, ◌-◌, ◌^◌, ◌≤◌, ◌<◌, ◌≡◌, List, length}
+use Rattle.std.specs.Prelude.{ℕ, ◌+◌, ◌-◌, ◌^◌, ◌≤◌, ◌<◌, ◌≡◌, List, length, Option, None, Some, Ok}
 use Rattle.format.specs.Label.{label_limit}
 use Rattle.format.specs.Sheet.{record_limit, sheet_version, layout}
 use Rattle.format.specs.State.{Record, Next, bad, end, on, made, leg}
 use Rattle.format.specs.Fields.{record_size}
 use Rattle.format.specs.declared.Point.{Point}
 use Rattle.format.specs.declared.Setting.{Setting}
-use Rattle.format.specs.declared.Position.TheVariants.{Unset, Stands}
 use Rattle.short.specs.Brief.{place_at, leg_at, name_at}
 use Rattle.format.specs.declared.Fields.{Fields}
 use Rattle.item.specs.Seen.{Tells}
@@ -15,7 +14,7 @@ use Rattle.item.specs.declared.Step.TheVariants.{Made as MadeStep}
 use Rattle.wire.specs.Laid.{laid_if}
 use Rattle.laying.specs.declared.Joint.{Joint}
 use Rattle.laying.specs.declared.Quick.{Quick}
-use Rattle.laying.specs.declared.Quick.TheVariants.{Other, Leg, Made, Trim, Move}
+use Rattle.laying.specs.declared.Quick.TheVariants.{Leg, Made, Trim, Move}
 
 -- d with the record that an item makes, if any, in it from k on, where it fits
 abbrev pub laid_by : Next → List ℕ → ℕ → List ℕ
@@ -48,26 +47,26 @@ abbrev pub made_by : Joint → ℕ → Quick
 made_by j head = Made j.size (j.keep + j.add) (head + (j.keep + j.add)) j.keep
 
 -- `lay_line`: b and d are the label's buffer and the sheet before it, b' and d' behind it
-pub record LaysLine (r : Quick) (j : Joint) (flags : ℕ) (setting : Setting) (s b b' d d' : List ℕ) : Type 0 where
-  pub unset : setting.position ≡ Unset → (r ≡ Other) × (b' ≡ b) × (d' ≡ d)
-  pub led : (from : Point) → setting.position ≡ Stands from
-      → (r ≡ led_by j (place_at s (j.size - 12))) × (b' ≡ extended b j.keep s)
+pub record LaysLine (r : Option Quick) (j : Joint) (flags : ℕ) (setting : Setting) (s b b' d d' : List ℕ) : Type 0 where
+  pub unset : setting.position ≡ None → (r ≡ None) × (b' ≡ b) × (d' ≡ d)
+  pub led : (from : Point) → setting.position ≡ Some from
+      → (r ≡ Some (led_by j (place_at s (j.size - 12)))) × (b' ≡ extended b j.keep s)
       × (d' ≡ laid_from j.out (leg (leg_at s (j.size - 12) flags setting from) (name_of j s b)) d)
 
 -- an item x that makes a record and keeps `stays` bytes of the label: its size, the label's new length, the setting after it, the record's
 -- bytes and the bytes kept, with the label's buffer b and the sheet d' after it
 pub record LaidAs (size m : ℕ) (after : Setting) (bytes kept : ℕ) (x : Next) (stays : ℕ) (b d d' : List ℕ) (out : ℕ) : Type 0 where
   pub fields : Fields
-  pub told : Tells (MadeStep size m after fields kept) b x
+  pub told : Tells (Ok (MadeStep size m after fields kept)) b x
   pub kept_is : kept ≡ stays
   pub bytes_are : bytes ≡ record_size fields m
   pub small : bytes ≤ record_limit
   pub laid : d' ≡ laid_by x d out
 
 -- an answer, with the label's buffer and the sheet before and after it, tells what the item x comes to
-abbrev pub Quickly : Quick → Next → ℕ → Setting → List ℕ → List ℕ → List ℕ → List ℕ → ℕ → Type 0
-Quickly Other x stays setting b b' d d' out = (b' ≡ b) × (d' ≡ d)
-Quickly (Leg size m to kept) x stays setting b b' d d' out = LaidAs size m (moved_to setting to) (34 + m) kept x stays b' d d' out
-Quickly (Made size m bytes kept) x stays setting b b' d d' out = LaidAs size m setting bytes kept x stays b' d d' out
-Quickly (Trim m) x stays setting b b' d d' out = Tells (trim_step m setting) b' x × (d' ≡ d)
-Quickly (Move m to) x stays setting b b' d d' out = Tells (move_step m setting to) b' x × (d' ≡ d)
+abbrev pub Quickly : Option Quick → Next → ℕ → Setting → List ℕ → List ℕ → List ℕ → List ℕ → ℕ → Type 0
+Quickly None x stays setting b b' d d' out = (b' ≡ b) × (d' ≡ d)
+Quickly (Some (Leg size m to kept)) x stays setting b b' d d' out = LaidAs size m (moved_to setting to) (34 + m) kept x stays b' d d' out
+Quickly (Some (Made size m bytes kept)) x stays setting b b' d d' out = LaidAs size m setting bytes kept x stays b' d d' out
+Quickly (Some (Trim m)) x stays setting b b' d d' out = Tells (Ok (trim_step m setting)) b' x × (d' ≡ d)
+Quickly (Some (Move m to)) x stays setting b b' d d' out = Tells (Ok (move_step m setting to)) b' x × (d' ≡ d)

@@ -2,6 +2,7 @@
 // in its buffer as it was, and for a pass of reading, which lays record behind record, so that
 // what stands behind one is free. Which item it is, reading and stepping each tell in a function
 // of their own: one with two callers would not be joined to the loop of reading.
+// A label's bytes and its length stand apart: C lends the bytes and has the length in its stand.
 #![tactic(auto)]
 
 ghost use Rattle.std.specs.Prelude.{◌≡◌, ◌+◌, ◌-◌, ◌^◌, ◌≤◌, ◌<◌, length, take};
@@ -13,16 +14,15 @@ ghost use Rattle.item.specs.Commonest.{extended};
 ghost use Rattle.layout.specs.Freely.{LaidFreely};
 ghost use Rattle.laying.specs.Quickly.{Joined, LaysLine, name_of, laid_from, led_by, made_by};
 
-use format::{LABEL_LIMIT, Leg, Point, Position, Section, Setting, Station};
+use format::{LABEL_LIMIT, Leg, Point, Section, Setting, Station};
 use item::{leg_at, station_at};
 
-// What one of the commonest items comes to: another item; a leg, with the item's size, the
-// label's new length, where it leads and how many bytes of the label were kept; a station or
-// a cross-section, with the record's bytes; the label's length after a trim; or
-// the same of a MOVE, with where it leads.
+// What one of the commonest items comes to: a leg, with the item's size, the label's new
+// length, where it leads and how many bytes of the label were kept; a station or a
+// cross-section, with the record's bytes; the label's length after a trim; or the same of a
+// MOVE, with where it leads.
 #[derive(Clone, Copy)]
 pub enum Quick {
-    Other,
     Leg {
         size: usize,
         len: usize,
@@ -54,17 +54,6 @@ pub struct Joint {
     pub out: usize,
 }
 
-pub fn joint_of(keep: usize, add: usize, size: usize, out: usize) -> Joint
-    ensures { result ≡ record { keep = keep; add = add; size = size; out = out } }
-{
-    Joint {
-        keep,
-        add,
-        size,
-        out,
-    }
-}
-
 // Lays a leg into the sheet, where it fits, and extends the label by what the item at the front
 // of s adds to it: what the item comes to.
 fn lay_leg(
@@ -82,14 +71,12 @@ fn lay_leg(
     let keep = joint.keep;
     let out = joint.out;
     let behind = 2 + joint.add;
-    layout::lay_short_leg(sheet, out, fields, bytes, keep, &s[2..behind]);
+    layout::lay_short(sheet, out, fields, bytes, keep, &s[2..behind]);
     label::extend(bytes, keep, &s[2..]);
-    let to = fields.to;
-    let len = keep + joint.add;
     Quick::Leg {
         size: joint.size,
-        len,
-        to,
+        len: keep + joint.add,
+        to: fields.to,
         kept: keep,
     }
 }
@@ -103,18 +90,13 @@ pub fn lay_line(
     flags: u8,
     setting: Setting,
     sheet: &mut [u8],
-) -> Quick
+) -> Option<Quick>
     requires { Joined joint s.now bytes.old × (12 ≤ joint.size) × (joint.size ≤ length s.now) }
     ensures { LaysLine result joint flags setting s.now bytes.old bytes.new sheet.old sheet.new }
 {
-    let position = setting.position;
-    match position {
-        Position::Unset => Quick::Other,
-        Position::Stands { point } => {
-            let leg = leg_at(s, joint.size - 12, flags, setting, point);
-            lay_leg(s, bytes, joint, leg, sheet)
-        }
-    }
+    let from = setting.position?;
+    let leg = leg_at(s, joint.size - 12, flags, setting, from);
+    Some(lay_leg(s, bytes, joint, leg, sheet))
 }
 
 // A station, in the same way.
@@ -133,7 +115,7 @@ fn lay_station(
     let keep = joint.keep;
     let out = joint.out;
     let behind = 2 + joint.add;
-    layout::lay_short_station(sheet, out, fields, bytes, keep, &s[2..behind]);
+    layout::lay_short(sheet, out, fields, bytes, keep, &s[2..behind]);
     label::extend(bytes, keep, &s[2..]);
     let len = keep + joint.add;
     Quick::Made {
@@ -177,7 +159,7 @@ pub fn lay_section(
     let keep = joint.keep;
     let out = joint.out;
     let behind = 2 + joint.add;
-    layout::lay_short_section(sheet, out, fields, bytes, keep, &s[2..behind]);
+    layout::lay_short(sheet, out, fields, bytes, keep, &s[2..behind]);
     label::extend(bytes, keep, &s[2..]);
     let len = keep + joint.add;
     Quick::Made {

@@ -10,7 +10,8 @@ use Rattle.format.specs.Bytes.{over}
 use Rattle.format.proofs.Basics.{less_or_not}
 use Rattle.format.specs.Sheet.{sheet_version, layout}
 use Rattle.format.specs.State.{Record}
-use Rattle.layout.proofs.Laws.{front_of, front_size, label_of, front_length, layout_parts, layout_length, part_laid, Laying, none, both}
+use Rattle.layout.proofs.Laws.{front_length, layout_parts, layout_length, part_laid, Laying, none, both}
+use Rattle.layout.specs.Fronts.{front_of, front_size, label_of}
 use Rattle.layout.specs.Freely.{LaidFreely, Named}
 use Rattle.layout.specs.Joined.{Joint}
 use Rattle.wire.specs.Laid.{laid, laid_if}

@@ -23,7 +23,7 @@ use Rattle.format.specs.declared.Section.{Section as SectionFields}
 use Rattle.format.specs.declared.Fields.{Fields}
 use Rattle.format.specs.declared.Fields.TheVariants.{Leg, Station, Section, Error}
 use Rattle.format.proofs.SheetLaws.{layout_leg, layout_station, layout_section}
-use Rattle.layout.specs.Fronts.{leg_front, station_front, section_front}
+use Rattle.layout.specs.Fronts.{leg_front, station_front, section_front, front_of, front_size, label_of}
 use Rattle.layout.specs.Joined.{Joint}
 use Rattle.wire.specs.Laid.{laid, laid_if}
 use Rattle.wire.proofs.Laws.{laid_zero, laid_part, laid_next, laid_none, laid_some}
@@ -56,25 +56,6 @@ section_parts s l = rw (← body_length (section_body s l) (section_size + lengt
 pub error_parts : (t : Traverse) → to_be16 error_size ++ (4 ∷ traverse_bytes to_be32 t) ≡ layout sheet_version (error t)
 unfolding layout to_be16 to_be32
 error_parts t = refl
-
--- what stands before a record's label of n bytes, its size, and the label; an error has none
-abbrev pub front_of : Record → ℕ → List ℕ
-front_of (leg g l) n = leg_front g n
-front_of (station s l) n = station_front s n
-front_of (section s l) n = section_front s n
-front_of (error t) n = to_be16 error_size ++ (4 ∷ traverse_bytes to_be32 t)
-
-abbrev pub front_size : Record → ℕ
-front_size (leg g l) = 34
-front_size (station s l) = 16
-front_size (section s l) = 25
-front_size (error t) = 23
-
-abbrev pub label_of : Record → List ℕ
-label_of (leg g l) = l
-label_of (station s l) = l
-label_of (section s l) = l
-label_of (error t) = []
 
 pub front_length : (r : Record) (n : ℕ) → length (front_of r n) ≡ front_size r
 unfolding leg_front station_front section_front to_be16 to_be32

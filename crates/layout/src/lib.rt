@@ -1,13 +1,15 @@
 // The records of a sheet, laid out in bytes.
-#![tactic(auto)]
+// A label's bytes and its length stand apart: C lends the bytes and has the length in its stand.
+#![tactic(auto, unfolding(format::specs::Bytes::to_be16, format::specs::Bytes::to_be32))]
 
-ghost use Rattle.std.specs.Prelude.{◌≡◌, List, [], ◌∷◌, ◌++◌, ℕ, ◌+◌, ◌^◌, ◌≤◌, ◌<◌, length, take};
+ghost use Rattle.std.specs.Prelude.{◌≡◌, refl, List, [], ◌∷◌, ◌++◌, ℕ, ◌+◌, ◌^◌, ◌≤◌, ◌<◌, length, take};
 ghost use Rattle.format.specs.Bytes.{over, to_be16, to_be32};
 ghost use Rattle.format.specs.Sheet.{sheet_version, point_bytes, dimension_bytes, traverse_bytes, date_kind, date_day, date_last, date_bytes, error_size, record_limit, layout, header_layout};
-ghost use Rattle.format.specs.State.{leg, station, section};
+ghost use Rattle.format.specs.State.{Record, leg, station, section};
 ghost use Rattle.format.specs.Fields.{record_of, record_size};
 ghost use Rattle.layout.specs.Freely.{LaidFreely, Named};
-ghost use Rattle.layout.specs.Fronts.{leg_front, station_front, section_front};
+ghost use Rattle.layout.specs.Fronts.{leg_front, station_front, section_front, front_of, front_size, label_of};
+ghost use Rattle.std.proofs.Common.{rules};
 ghost use Rattle.layout.specs.Joined.{Joint};
 ghost use Rattle.wire.specs.Laid.{laid, laid_if};
 ghost use Rattle.format.specs.Header.{time_limit, title_limit};
@@ -17,7 +19,7 @@ use format::{
     Dated, Dimensions, Fields, LABEL_LIMIT, Leg, Point, SHEET_VERSION, Section, Station, Traverse,
 };
 
-// A date as a sheet has it: kind, day and last day.
+// A date as a sheet has it: kind, day and last day. (The kind is the sheet's own byte.)
 #[derive(Clone, Copy)]
 pub struct Days {
     pub kind: u8,
@@ -26,7 +28,7 @@ pub struct Days {
 }
 
 fn days_of(date: Dated) -> Days
-    ensures { (result.kind ≡ date_kind date) × (result.day ≡ date_day date) × (result.last ≡ date_last date) }
+    ensures { (result.kind ≡ date_kind date) × (result.day ≡ date_day date) × (result.last ≡ date_last date) × (result.day < 65536) × (result.last < 65536) }
 {
     match date {
         Dated::Undated => Days {
@@ -51,48 +53,15 @@ fn days_of(date: Dated) -> Days
 fn error_bytes(t: Traverse) -> [u8; 23]
     ensures { result ≡ to_be16 error_size ++ (4 ∷ traverse_bytes to_be32 t) }
 {
+    let l = number::be32_bytes(t.legs);
+    let n = number::be32_bytes(t.total);
+    let e = number::be32_bytes(t.e);
+    let h = number::be32_bytes(t.h);
+    let v = number::be32_bytes(t.v);
     [
-        0,
-        21,
-        4,
-        (t.legs / 16777216 % 256) as u8,
-        (t.legs / 65536 % 256) as u8,
-        (t.legs / 256 % 256) as u8,
-        (t.legs % 256) as u8,
-        (t.total / 16777216 % 256) as u8,
-        (t.total / 65536 % 256) as u8,
-        (t.total / 256 % 256) as u8,
-        (t.total % 256) as u8,
-        (t.e / 16777216 % 256) as u8,
-        (t.e / 65536 % 256) as u8,
-        (t.e / 256 % 256) as u8,
-        (t.e % 256) as u8,
-        (t.h / 16777216 % 256) as u8,
-        (t.h / 65536 % 256) as u8,
-        (t.h / 256 % 256) as u8,
-        (t.h % 256) as u8,
-        (t.v / 16777216 % 256) as u8,
-        (t.v / 65536 % 256) as u8,
-        (t.v / 256 % 256) as u8,
-        (t.v % 256) as u8,
+        0, 21, 4, l[0], l[1], l[2], l[3], n[0], n[1], n[2], n[3], e[0], e[1], e[2], e[3], h[0],
+        h[1], h[2], h[3], v[0], v[1], v[2], v[3],
     ]
-}
-
-// Copies part into out from index k on.
-fn put_at(out: &mut [u8], k: usize, part: &[u8])
-    requires { k + length part.now ≤ length out.old }
-    ensures { out.new ≡ laid out.old k part.now }
-{
-    wire::copy(part, &mut out[k..]);
-}
-
-// Writes n into out from index k on. A word of its own is one store, where a long array
-// of bytes is a store for each.
-fn put_word(out: &mut [u8], k: usize, n: u32)
-    requires { k + 4 ≤ length out.old }
-    ensures { out.new ≡ laid out.old k (to_be32 n) }
-{
-    number::put_be32(&mut out[k..], n);
 }
 
 // Writes a place into out from index k on.
@@ -100,9 +69,9 @@ fn put_point(out: &mut [u8], k: usize, p: Point)
     requires { k + 12 ≤ length out.old }
     ensures { out.new ≡ laid out.old k (point_bytes to_be32 p) }
 {
-    put_word(out, k, p.x);
-    put_word(out, k + 4, p.y);
-    put_word(out, k + 8, p.z);
+    wire::lay_be32(p.x, out, k);
+    wire::lay_be32(p.y, out, k + 4);
+    wire::lay_be32(p.z, out, k + 8);
 }
 
 // Writes dimensions into out from index k on.
@@ -110,10 +79,10 @@ fn put_dimensions(out: &mut [u8], k: usize, d: Dimensions)
     requires { k + 16 ≤ length out.old }
     ensures { out.new ≡ laid out.old k (dimension_bytes to_be32 d) }
 {
-    put_word(out, k, d.left);
-    put_word(out, k + 4, d.right);
-    put_word(out, k + 8, d.up);
-    put_word(out, k + 12, d.down);
+    wire::lay_be32(d.left, out, k);
+    wire::lay_be32(d.right, out, k + 4);
+    wire::lay_be32(d.up, out, k + 8);
+    wire::lay_be32(d.down, out, k + 12);
 }
 
 // Copies the first len bytes of a label into out from index k on.
@@ -122,7 +91,7 @@ fn put_label(out: &mut [u8], k: usize, bytes: &[u8; LABEL_LIMIT], len: usize)
     ensures { out.new ≡ laid out.old k (take len bytes.now) }
 {
     let whole = &bytes[..];
-    put_at(out, k, &whole[..len]);
+    wire::lay(&whole[..len], out, k);
 }
 
 // The same for a label that was not just written byte by byte, by words.
@@ -136,6 +105,7 @@ fn put_kept(out: &mut [u8], k: usize, bytes: &[u8; LABEL_LIMIT], len: usize)
 
 // Writes a label into out from index k on: the first keep bytes of another one, and at
 // most fifteen more.
+#[inline(never)]
 fn put_joined(out: &mut [u8], k: usize, bytes: &[u8; LABEL_LIMIT], keep: usize, added: &[u8])
     requires { (k + (keep + length added.now) ≤ length out.old) × Joint keep added.now bytes.now }
     ensures { out.new ≡ laid out.old k (take keep bytes.now ++ added.now) }
@@ -147,8 +117,11 @@ fn put_joined(out: &mut [u8], k: usize, bytes: &[u8; LABEL_LIMIT], keep: usize, 
 
 // ---- a label where what stands behind it is free: a short one is laid by copies of a fixed
 // size, without a test of its length.
+// These are joined to reading's loop by name, and the long way stays out of it: LLVM alone joins
+// none of them, and a leg then takes a quarter more instructions.
 
 // Copies the first 48 bytes of a label to the front of out.
+#[inline(always)]
 fn put_three(out: &mut [u8], bytes: &[u8; LABEL_LIMIT])
     requires { (48 ≤ length out.old) × (length bytes.now ≡ label_limit) }
     ensures { out.new ≡ over (take 48 bytes.now) out.old }
@@ -160,6 +133,7 @@ fn put_three(out: &mut [u8], bytes: &[u8; LABEL_LIMIT])
 }
 
 // The first keep bytes of a label, at most 48, and sixteen more.
+#[inline(always)]
 fn put_over(out: &mut [u8], bytes: &[u8; LABEL_LIMIT], keep: usize, added: &[u8])
     requires { (64 ≤ length out.old) × (keep ≤ 48) × (16 ≤ length added.now) × (length bytes.now ≡ label_limit) }
     ensures { LaidFreely out.old out.new 0 (take keep bytes.now ++ take 16 added.now) }
@@ -170,6 +144,7 @@ fn put_over(out: &mut [u8], bytes: &[u8; LABEL_LIMIT], keep: usize, added: &[u8]
 
 // Writes a label into out from index k on: the first keep bytes of another one, and the
 // first add of the bytes that follow.
+#[inline(always)]
 pub fn put_name_freely(
     out: &mut [u8],
     k: usize,
@@ -241,8 +216,8 @@ fn put_start(out: &mut [u8], n: usize, kind: u8, first: u8)
     requires { (n < 65536) × (4 ≤ length out.old) }
     ensures { out.new ≡ over (to_be16 n ++ (kind ∷ first ∷ [])) out.old }
 {
-    let k = number::wide(kind);
-    let b = number::wide(first);
+    let k = u32::from(kind);
+    let b = u32::from(first);
     number::put_be32(out, n as u32 * 65536 + k * 256 + b);
 }
 
@@ -253,23 +228,16 @@ fn put_byte(out: &mut [u8], k: usize, b: u8)
     out[k] = b;
 }
 
-// A day as a number to compute with.
-fn wide_day(n: u16) -> u32
-    ensures { (result ≡ n) × (result < 65536) }
-{
-    n as u32
-}
-
 // A date from index k on: its kind, its day and its last day.
 fn put_date(out: &mut [u8], k: usize, date: Dated)
     requires { k + 5 ≤ length out.old }
     ensures { out.new ≡ laid out.old k (date_bytes date) }
 {
     let days = days_of(date);
-    let day = wide_day(days.day);
-    let last = wide_day(days.last);
+    let day = u32::from(days.day);
+    let last = u32::from(days.last);
     put_byte(out, k, days.kind);
-    put_word(out, k + 1, day * 65536 + last);
+    wire::lay_be32(day * 65536 + last, out, k + 1);
 }
 
 pub fn put_leg(out: &mut [u8], fields: Leg, len: usize)
@@ -379,66 +347,117 @@ pub fn lay_record(
 }
 
 // ---- a leg, a station and a cross-section whose label is the first keep bytes of another
-// one, and at most fifteen more: the commonest. Each is laid into the sheet from index `at`
-// on, where it fits.
+// one, and at most fifteen more: the commonest
 
-pub fn lay_short_leg(
-    sheet: &mut [u8],
-    at: usize,
-    fields: Leg,
-    bytes: &[u8; LABEL_LIMIT],
-    keep: usize,
-    added: &[u8],
-)
-    requires { (at < 2 ^ 62) × Joint keep added.now bytes.now }
-    ensures { sheet.new ≡ laid_if sheet.old at (layout sheet_version (leg fields (take keep bytes.now ++ added.now))) }
-{
-    let len = keep + added.len();
-    let name = at + 34;
-    if sheet.len() < name + len {
-        return;
-    }
-    put_leg(&mut sheet[at..], fields, len);
-    put_joined(sheet, name, bytes, keep, added);
+// What stands in a record before its label, in SIZE bytes.
+pub trait Front: Copy {
+    ghost SIZE: { ℕ };
+
+    // What stands before a label of so many bytes, and the record with a label.
+    ghost front: { Self → ℕ → List ℕ };
+
+    ghost made: { Self → List ℕ → Record };
+
+    const SIZE: usize;
+
+    // Lays it over the front of out, before a label of len bytes.
+    fn put(self, out: &mut [u8], len: usize)
+        requires { (len ≤ label_limit) × (SIZE ≤ length out.old) }
+        ensures { out.new ≡ over (front self len) out.old };
+
+    ghost few: { SIZE ≤ 34 };
+
+    ghost label_is: { (x : Self) (l : List ℕ) → label_of (made x l) ≡ l };
+
+    ghost front_is: { (x : Self) (l : List ℕ) (n : ℕ) → front_of (made x l) n ≡ front x n };
+
+    ghost size_is: { (x : Self) (l : List ℕ) → front_size (made x l) ≡ SIZE };
 }
 
-pub fn lay_short_station(
-    sheet: &mut [u8],
-    at: usize,
-    fields: Station,
-    bytes: &[u8; LABEL_LIMIT],
-    keep: usize,
-    added: &[u8],
-)
-    requires { (at < 2 ^ 62) × Joint keep added.now bytes.now }
-    ensures { sheet.new ≡ laid_if sheet.old at (layout sheet_version (station fields (take keep bytes.now ++ added.now))) }
-{
-    let len = keep + added.len();
-    let name = at + 16;
-    if sheet.len() < name + len {
-        return;
+impl Front for Leg {
+    ghost SIZE = { 34 };
+
+    ghost front = { leg_front };
+
+    ghost made = { leg };
+
+    const SIZE: usize = 34;
+
+    fn put(self, out: &mut [u8], len: usize) {
+        put_leg(out, self, len);
     }
-    put_station(&mut sheet[at..], fields, len);
-    put_joined(sheet, name, bytes, keep, added);
+
+    ghost few = { Prim.search rules };
+
+    ghost label_is = { λ x l. refl };
+
+    ghost front_is = { λ x l n. refl };
+
+    ghost size_is = { λ x l. refl };
 }
 
-pub fn lay_short_section(
+impl Front for Station {
+    ghost SIZE = { 16 };
+
+    ghost front = { station_front };
+
+    ghost made = { station };
+
+    const SIZE: usize = 16;
+
+    fn put(self, out: &mut [u8], len: usize) {
+        put_station(out, self, len);
+    }
+
+    ghost few = { Prim.search rules };
+
+    ghost label_is = { λ x l. refl };
+
+    ghost front_is = { λ x l n. refl };
+
+    ghost size_is = { λ x l. refl };
+}
+
+impl Front for Section {
+    ghost SIZE = { 25 };
+
+    ghost front = { section_front };
+
+    ghost made = { section };
+
+    const SIZE: usize = 25;
+
+    fn put(self, out: &mut [u8], len: usize) {
+        put_section(out, self, len);
+    }
+
+    ghost few = { Prim.search rules };
+
+    ghost label_is = { λ x l. refl };
+
+    ghost front_is = { λ x l n. refl };
+
+    ghost size_is = { λ x l. refl };
+}
+
+// Lays a record into the sheet from index `at` on, where it fits.
+pub fn lay_short<F: Front>(
     sheet: &mut [u8],
     at: usize,
-    fields: Section,
+    fields: F,
     bytes: &[u8; LABEL_LIMIT],
     keep: usize,
     added: &[u8],
 )
     requires { (at < 2 ^ 62) × Joint keep added.now bytes.now }
-    ensures { sheet.new ≡ laid_if sheet.old at (layout sheet_version (section fields (take keep bytes.now ++ added.now))) }
+    ensures { sheet.new ≡ laid_if sheet.old at (layout sheet_version (F.made fields (take keep bytes.now ++ added.now))) }
 {
     let len = keep + added.len();
-    let name = at + 25;
+    let name = at + F::SIZE;
     if sheet.len() < name + len {
         return;
     }
-    put_section(&mut sheet[at..], fields, len);
+    fields.put(&mut sheet[at..], len);
     put_joined(sheet, name, bytes, keep, added);
 }
 
@@ -448,16 +467,9 @@ fn front_head(extended: u8, t: usize, m: usize) -> [u8; 7]
     requires { (t ≤ title_limit) × (m ≤ time_limit) }
     ensures { result ≡ sheet_version ∷ (to_be16 (4 + t + m) ++ (0 ∷ extended ∷ to_be16 t)) }
 {
-    let n = 4 + t + m;
-    [
-        SHEET_VERSION,
-        (n / 256 % 256) as u8,
-        (n % 256) as u8,
-        0,
-        extended,
-        (t / 256 % 256) as u8,
-        (t % 256) as u8,
-    ]
+    let n = ((4 + t + m) as u16).to_be_bytes();
+    let title = (t as u16).to_be_bytes();
+    [SHEET_VERSION, n[0], n[1], 0, extended, title[0], title[1]]
 }
 
 // Lays the version byte and the header record over the front of a sheet.
@@ -468,6 +480,6 @@ pub fn put_front(sheet: &mut [u8], extended: u8, title: &[u8], time: &[u8])
     let t = title.len();
     let head = front_head(extended, t, time.len());
     wire::copy(&head, sheet);
-    put_at(sheet, 7, title);
-    put_at(sheet, 7 + t, time);
+    wire::lay(title, sheet, 7);
+    wire::lay(time, sheet, 7 + t);
 }

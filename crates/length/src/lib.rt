@@ -1,14 +1,20 @@
 // The numbers of a label part.
 #![tactic(auto)]
 
-ghost use Rattle.std.specs.Prelude.{◌≡◌, ℕ, ◌+◌, ◌≤◌, ◌<◌, length};
+ghost use Rattle.std.specs.Prelude.{◌≡◌, ℕ, ◌+◌, ◌≤◌, ◌<◌, length, None};
 ghost use Rattle.format.specs.Bytes.{pick};
-ghost use Rattle.format.specs.Items.{old_part, length_size, length_value, long_part, new_part};
-ghost use Rattle.format.specs.declared.LabelPart.TheVariants.{Numbers};
-ghost use Rattle.length.specs.Parts.{Small, part_at, finished};
+ghost use Rattle.format.specs.Items.{old_part, long_part, new_part, numbers};
+ghost use Rattle.length.specs.Parts.{Small, part_at, finished, LengthTold};
 
 use format::LabelPart;
 use number::{get_le16, get_le32, index};
+
+// A number and how many bytes say it.
+#[derive(Clone, Copy)]
+struct Length {
+    size: usize,
+    value: usize,
+}
 
 // The number as a length.
 fn long(x: u32) -> usize
@@ -20,122 +26,104 @@ fn long(x: u32) -> usize
 // ---- label parts; t is what follows the code
 
 // The numbers of a label part, v3 to v7.
-fn old_part(t: &[u8]) -> LabelPart
+fn old_part(t: &[u8]) -> Option<LabelPart>
     ensures { (result ≡ old_part t.now) × Small result }
 {
     if t.len() < 1 {
-        return LabelPart::Unfinished;
+        return None;
     }
     let b = index(t[0]);
     if b < 0xfe {
-        return LabelPart::Numbers {
+        return Some(LabelPart {
             size: 1,
             drop: 0,
             add: b,
-        };
+        });
     }
     if b == 0xfe {
         if t.len() < 3 {
-            return LabelPart::Unfinished;
+            return None;
         }
         let n = long(get_le16(&t[1..]));
-        return LabelPart::Numbers {
+        return Some(LabelPart {
             size: 3,
             drop: 0,
             add: n + 254,
-        };
+        });
     }
     if t.len() < 5 {
-        return LabelPart::Unfinished;
+        return None;
     }
     let n = long(get_le32(&t[1..]));
-    LabelPart::Numbers {
+    Some(LabelPart {
         size: 5,
         drop: 0,
         add: n,
-    }
+    })
 }
 
-// The size of the number at the front of t, v8; 0 where it is unfinished.
-fn length_size(t: &[u8]) -> usize
-    ensures { (result ≡ length_size t.now) × (result ≤ length t.now) × (result ≤ 5) }
+// The number at the front of t, v8, with its size; none where it is unfinished.
+fn length_at(t: &[u8]) -> Option<Length>
+    ensures { LengthTold result t.now }
 {
     if t.len() < 1 {
-        return 0;
+        return None;
     }
-    if t[0] < 0xff {
-        return 1;
-    }
-    if t.len() < 5 {
-        return 0;
-    }
-    5
-}
-
-// Its value.
-fn length_value(t: &[u8]) -> usize
-    requires { 0 < length_size t.now }
-    ensures { (result ≡ length_value t.now) × (result < 4294967296) }
-{
     let b = index(t[0]);
     if b < 0xff {
-        return b;
+        return Some(Length { size: 1, value: b });
     }
-    long(get_le32(&t[1..]))
+    if t.len() < 5 {
+        return None;
+    }
+    let value = long(get_le32(&t[1..]));
+    Some(Length { size: 5, value })
 }
 
 // The numbers of a label part that begins with 00, v8.
-fn long_part(t: &[u8]) -> LabelPart
+fn long_part(t: &[u8]) -> Option<LabelPart>
     requires { 1 ≤ length t.now }
     ensures { (result ≡ long_part t.now) × Small result }
 {
     let first = &t[1..];
-    let d = length_size(first);
-    if d == 0 {
-        return LabelPart::Unfinished;
-    }
-    let second = &first[d..];
-    let a = length_size(second);
-    if a == 0 {
-        return LabelPart::Unfinished;
-    }
-    let drop = length_value(first);
-    let add = length_value(second);
-    LabelPart::Numbers {
-        size: 1 + d + a,
-        drop,
-        add,
-    }
+    let drop = length_at(first)?;
+    let second = &first[drop.size..];
+    let add = length_at(second)?;
+    Some(LabelPart {
+        size: 1 + drop.size + add.size,
+        drop: drop.value,
+        add: add.value,
+    })
 }
 
 // The numbers of a label part, v8.
-fn new_part(t: &[u8]) -> LabelPart
+fn new_part(t: &[u8]) -> Option<LabelPart>
     ensures { (result ≡ new_part t.now) × Small result }
 {
     if t.len() < 1 {
-        return LabelPart::Unfinished;
+        return None;
     }
     let b = index(t[0]);
     if b == 0 {
         return long_part(t);
     }
-    LabelPart::Numbers {
+    Some(LabelPart {
         size: 1,
         drop: b / 16,
         add: b % 16,
-    }
+    })
 }
 
 // The numbers of a label part of the version; a bare item has none.
-pub fn part_of(version: u8, bare: bool, t: &[u8]) -> LabelPart
-    ensures { (result ≡ pick bare (Numbers 0 0 0) (part_at version t.now)) × Small result }
+pub fn part_of(version: u8, bare: bool, t: &[u8]) -> Option<LabelPart>
+    ensures { (result ≡ pick bare (numbers 0 0 0) (part_at version t.now)) × Small result }
 {
     if bare {
-        return LabelPart::Numbers {
+        return Some(LabelPart {
             size: 0,
             drop: 0,
             add: 0,
-        };
+        });
     }
     if version < 8 {
         return old_part(t);
@@ -144,17 +132,13 @@ pub fn part_of(version: u8, bare: bool, t: &[u8]) -> LabelPart
 }
 
 // The part, where its numbers, its bytes and n more are all there.
-pub fn whole_part(p: LabelPart, t: &[u8], n: usize) -> LabelPart
+pub fn whole_part(p: Option<LabelPart>, t: &[u8], n: usize) -> Option<LabelPart>
     requires { Small p × (n ≤ 16) }
     ensures { result ≡ finished p t.now n }
 {
-    match p {
-        LabelPart::Unfinished => LabelPart::Unfinished,
-        LabelPart::Numbers { size, drop, add } => {
-            if t.len() < size + add + n {
-                return LabelPart::Unfinished;
-            }
-            LabelPart::Numbers { size, drop, add }
-        }
+    let part = p?;
+    if t.len() < part.size + part.add + n {
+        return None;
     }
+    Some(part)
 }

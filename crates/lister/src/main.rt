@@ -4,7 +4,6 @@
 ghost use Rattle.std.specs.Prelude.{◌≡◌, ◌+◌, ◌≤◌, length, take};
 ghost use Rattle.listing.specs.Lines.{input_limit, lister_sheet_limit, lister_text_limit, lister_text};
 
-use format::Answer;
 use listing::Printed;
 
 // "at most 16,384 bytes, else prints `too long`"
@@ -20,16 +19,12 @@ fn text_of(input: &[u8], n: usize, sheet: &mut [u8], out: &mut [u8]) -> usize
     if INPUT_LIMIT < n {
         return listing::list(Printed::TooLong, b"", out);
     }
-    let a = read::read(file, sheet);
-    match a {
-        Answer::Refused { number, place } => {
-            listing::list(Printed::Refused { number, place }, b"", out)
+    match read::read(file, sheet) {
+        Ok(done) => {
+            let version = done.version;
+            listing::list(Printed::Sheet { version }, &sheet[..done.bytes], out)
         }
-        Answer::Done {
-            bytes,
-            records: _,
-            version,
-        } => listing::list(Printed::Sheet { version }, &sheet[..bytes], out),
+        Err(refusal) => listing::list(Printed::Refused { refusal }, b"", out),
     }
 }
 

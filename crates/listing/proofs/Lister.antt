@@ -11,8 +11,7 @@ use Rattle.format.specs.Bytes.{Bytes, pick, over}
 use Rattle.format.specs.Header.{Header, Opening, shut, opened, opening_of}
 use Rattle.format.specs.State.{Record}
 use Rattle.format.specs.Sheet.{sheet_version, front_header, sheet_result, sheet_of}
-use Rattle.format.specs.Refusals.{Result, Outcome, accepted, refused, buffer_of}
-use Rattle.format.specs.declared.Verdict.TheVariants.{Good, Refusal}
+use Rattle.format.specs.Refusals.{Result, Outcome, accepted, refused, buffer_of, Good, Refusal}
 use Rattle.format.specs.WellFormed.{AllWellFormed, GoodHeader}
 use Rattle.format.specs.Reading.{items_of, read_from, sheet_from, read_outcome, read_buffer}
 use Rattle.format.proofs.SheetLaws.{sheet_records}

@@ -1,4 +1,5 @@
 -- A turn of the loop over a sheet's records, on plain values, and the whole listing. Assumes nothing.
+use Rattle.std.specs.Prelude.{Option, Some, None}
 use mathlib.Core.Path.{◌≡◌, refl, sym, ap, ◌∙◌}
 use mathlib.Core.List.{List, [], ◌∷◌, ◌++◌, append_assoc}
 use mathlib.Core.Bool.{false}
@@ -11,14 +12,11 @@ use borrow.Author.Rules.{part_to_end}
 use Rattle.format.specs.Bytes.{pick, Bytes}
 use Rattle.format.specs.State.{Record}
 use Rattle.format.specs.Sheet.{flawed, entry, entry_of, records_from, records_of, good_front, front_header, version_result, version_of, sheet_result}
-use Rattle.format.specs.Refusals.{Result}
-use Rattle.format.specs.declared.Verdict.TheVariants.{Good, Refusal}
+use Rattle.format.specs.Refusals.{Result, Good, Refusal}
 use Rattle.format.specs.Label.{label_limit}
 use Rattle.format.specs.Fields.{record_of}
-use Rattle.format.specs.declared.Fields.{Fields}
 use Rattle.sheet.specs.Seen.{EntryTold, label_of, Fronted}
 use Rattle.sheet.specs.declared.Entry.{Entry as Found}
-use Rattle.sheet.specs.declared.Entry.TheVariants.{Flawed, Whole}
 use Rattle.format.proofs.SheetLaws.{entry_sized, entry_read, bytes_drop, records_none, records_more}
 use Rattle.listing.specs.Lines.{record_line, record_lines, end_line, rest_of, header_line, listing_of}
 use Rattle.listing.specs.Puts.{Put, line_limit}
@@ -27,7 +25,7 @@ use Rattle.listing.proofs.Lengths.{record_short}
 
 -- ---- the record at a place, as `read_entry` tells it of the part from there on
 
-abbrev pub EntryAt : ℕ → List ℕ → ℕ → Found → Type 0
+abbrev pub EntryAt : ℕ → List ℕ → ℕ → Option Found → Type 0
 EntryAt v sheet at r = EntryTold r v (take (length sheet - at) (drop at sheet))
 
 -- where it stands, and how long its label is
@@ -38,17 +36,17 @@ pub record EntryPlace (sheet : List ℕ) (at n k : ℕ) : Type 0 where
   pub label_short : length (take (n - k) (drop k (take (length sheet - at) (drop at sheet)))) ≤ label_limit
 
 module _ (v : ℕ) (sheet : List ℕ) (at : ℕ) where
-  pub entry_none : EntryAt v sheet at Flawed → entry_of v (drop at sheet) ≡ flawed
+  pub entry_none : EntryAt v sheet at None → entry_of v (drop at sheet) ≡ flawed
   entry_none T = sym (simp part_to_end at T.same)
 
-  module _ (n k : ℕ) (f : Fields) (T : EntryAt v sheet at (Whole n f k)) where
-    pub entry_at : entry_of v (drop at sheet) ≡ entry n (record_of f (label_of n k (take (length sheet - at) (drop at sheet))))
+  module _ (e : Found) (T : EntryAt v sheet at (Some e)) where
+    pub entry_at : entry_of v (drop at sheet) ≡ entry e.size (record_of e.fields (label_of e.size e.from (take (length sheet - at) (drop at sheet))))
     entry_at = rw part_to_end (sym (simp part_to_end at T.same))
 
-    pub entry_place : at ≤ length sheet → EntryPlace sheet at n k
+    pub entry_place : at ≤ length sheet → EntryPlace sheet at e.size e.from
     entry_place h =
         let i = T.inside in
-        let e : length (take (length sheet - at) (drop at sheet)) ≡ length sheet - at = ap length (part_to_end sheet at) ∙ length-drop at sheet in
+        let l : length (take (length sheet - at) (drop at sheet)) ≡ length sheet - at = ap length (part_to_end sheet at) ∙ length-drop at sheet in
         record {
           least = (entry_sized v (drop at sheet) entry_at).least;
           label_from_lem = i.from_within;

@@ -5,15 +5,13 @@ use Rattle.format.specs.Header.{Header, Opening, shut, opened, opening_of}
 use Rattle.format.specs.State.{Record, leg, station, section, error}
 use Rattle.format.specs.Sheet.{front_header, sheet_result}
 use Rattle.format.specs.Reading.{items_of, read_from}
-use Rattle.format.specs.Refusals.{Outcome, accepted, refused}
+use Rattle.format.specs.Refusals.{Outcome, accepted, refused, Verdict, Good, Refusal}
 use Rattle.format.specs.declared.Point.{Point}
 use Rattle.format.specs.declared.Dimensions.{Dimensions}
 use Rattle.format.specs.declared.Traverse.{Traverse}
 use Rattle.format.specs.declared.Leg.{Leg}
 use Rattle.format.specs.declared.Station.{Station}
 use Rattle.format.specs.declared.Section.{Section}
-use Rattle.format.specs.declared.Verdict.{Verdict}
-use Rattle.format.specs.declared.Verdict.TheVariants.{Good, Refusal}
 use Rattle.format.specs.declared.Dated.{Dated}
 use Rattle.format.specs.declared.Dated.TheVariants.{Undated, Day, Range}
 use Rattle.listing.specs.Text.{decimal_text, signed_text, text_of, line}

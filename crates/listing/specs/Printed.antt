@@ -8,11 +8,11 @@ use Rattle.listing.specs.Puts.{line_limit}
 -- the text for an input: "A refusal prints only `refused N at P`", "else prints `too long`"
 abbrev pub printed_text : Printed → List ℕ → List ℕ
 printed_text TooLong sheet = too_long_line
-printed_text (Refused number place) sheet = refusal_line number place
+printed_text (Refused refusal) sheet = refusal_line refusal.number refusal.place
 printed_text (Sheet version) sheet = sheet_listing version sheet
 
 -- and the most bytes that it can have, for a sheet of n
 abbrev pub printed_limit : Printed → ℕ → ℕ
 printed_limit TooLong n = line_limit
-printed_limit (Refused number place) n = line_limit
+printed_limit (Refused refusal) n = line_limit
 printed_limit (Sheet version) n = 4 * n + 2 * line_limit

@@ -3,6 +3,8 @@
 // bounds on an index, each a little lower than its callee's, keep sums from wrapping.
 #![tactic(auto)]
 
+ghost use Rattle.format.specs.Answers.{verdict_of};
+ghost use Rattle.format.specs.Refusals.{Good};
 ghost use Rattle.std.specs.Prelude.{◌≡◌, [], ◌∷◌, ◌++◌, ℕ, ◌+◌, ◌*◌, ◌^◌, ◌≤◌, ◌<◌, length, drop};
 ghost use Rattle.listing.specs.Text.{decimal_text, signed_text, hex_digit, plain, escaped_byte, escaped, text_of, spaced};
 ghost use Rattle.listing.specs.Lines.{leg_word, version_word, title_word, date_text, point_words, dimension_words, traverse_words, leg_line, station_line, section_line, error_line, record_line, header_line, end_line, refusal_line, too_long_line, rest_of, listing_of, sheet_listing, listing_limit};
@@ -10,27 +12,23 @@ ghost use Rattle.listing.specs.Puts.{Put, Wrote, line_limit};
 ghost use Rattle.listing.specs.Printed.{printed_text, printed_limit};
 ghost use Rattle.format.specs.Fields.{record_of};
 ghost use Rattle.format.specs.Sheet.{records_of, front_header, sheet_result};
-ghost use Rattle.format.specs.declared.Verdict.TheVariants.{Good};
 ghost use Rattle.format.specs.Label.{label_limit};
 ghost use Rattle.format.specs.Header.{title_limit, time_limit};
 
-use format::{Dated, Dimensions, Fields, Leg, Point, Section, Station, Traverse, Verdict};
+use format::{Dated, Dimensions, Fault, Fields, Leg, Point, Refusal, Section, Station, Traverse};
 use number::index;
-use sheet::{Entry, Front, read_entry, read_front, version_of};
+use sheet::{read_entry, read_front, version_of};
 use wire::same_bytes;
 
 // A sheet of so many bytes or more is not listed: its lines might not be counted.
 const LISTING_LIMIT: usize = 36028797018963968;
-
-// "sheet breaks the layout"
-const LAYOUT_BROKEN: u8 = 12;
 
 // What is to be printed: that the input is too long; a refusal; or a sheet, read from a
 // file of that version.
 #[derive(Clone, Copy)]
 pub enum Printed {
     TooLong,
-    Refused { number: u8, place: usize },
+    Refused { refusal: Refusal },
     Sheet { version: u8 },
 }
 
@@ -52,10 +50,8 @@ fn word(out: &mut [u8], at: usize, s: &[u8]) -> usize
     ensures { Put 64 s.now out.old at result out.new }
 {
     let mut k = at;
-    let mut i = 0;
-    while i < s.len() {
-        k = put(out, k, s[i]);
-        i += 1;
+    for b in s {
+        k = put(out, k, *b);
     }
     k
 }
@@ -128,10 +124,8 @@ fn escape(out: &mut [u8], at: usize, s: &[u8]) -> usize
     ensures { Put (3 * length s.now) (escaped s.now) out.old at result out.new }
 {
     let mut k = at;
-    let mut i = 0;
-    while i < s.len() {
-        k = text_byte(out, k, s[i]);
-        i += 1;
+    for b in s {
+        k = text_byte(out, k, *b);
     }
     k
 }
@@ -381,14 +375,14 @@ fn end_line(out: &mut [u8], at: usize, records: usize) -> usize
 }
 
 // Puts a refusal's line.
-fn refusal_line(out: &mut [u8], at: usize, refused: u8, place: usize) -> usize
+fn refusal_line(out: &mut [u8], at: usize, refusal: Refusal) -> usize
     requires { at < 2 ^ 58 }
-    ensures { Put line_limit (refusal_line refused place) out.old at result out.new }
+    ensures { Put line_limit (refusal_line refusal.number refusal.place) out.old at result out.new }
 {
     let k = word(out, at, b"refused");
-    let k = number(out, k, index(refused));
+    let k = number(out, k, index(refusal.number));
     let k = word(out, k, b" at");
-    last_number(out, k, place)
+    last_number(out, k, refusal.place)
 }
 
 // Puts the lines of the records from a place of the sheet on, whose version is given, and
@@ -400,74 +394,45 @@ fn rest_lines(sheet: &[u8], layout: u8, from: usize, out: &mut [u8], begin: usiz
     let mut at = from;
     let mut k = begin;
     let mut records: usize = 0;
+    // a loop, since each record has a size of its own
     loop {
         let rest = &sheet[at..];
-        let found = read_entry(rest, layout);
-        match found {
-            Entry::Flawed => {
-                return end_line(out, k, records);
-            }
-            Entry::Whole {
-                size,
-                fields,
-                from: label,
-            } => {
-                k = record_line(out, k, fields, &rest[label..size]);
-                records += 1;
-                at += size;
-            }
-        }
+        let Some(entry) = read_entry(rest, layout) else {
+            return end_line(out, k, records);
+        };
+        k = record_line(out, k, entry.fields, &rest[entry.from..entry.size]);
+        records += 1;
+        at += entry.size;
     }
 }
 
 // What the writer says of the records from a place of the sheet on.
-fn records_verdict(sheet: &[u8], layout: u8, from: usize) -> Verdict
+fn records_verdict(sheet: &[u8], layout: u8, from: usize) -> Result<(), Refusal>
     requires { from ≤ length sheet.now }
-    ensures { result ≡ (records_of layout (drop from sheet.now)).verdict }
+    ensures { verdict_of result ≡ (records_of layout (drop from sheet.now)).verdict }
 {
     let mut at = from;
     let mut record: usize = 0;
-    loop {
-        if at == sheet.len() {
-            return Verdict::Good;
-        }
-        let found = read_entry(&sheet[at..], layout);
-        match found {
-            Entry::Flawed => {
-                return Verdict::Refusal {
-                    number: LAYOUT_BROKEN,
-                    place: record,
-                };
-            }
-            Entry::Whole {
-                size,
-                fields: _,
-                from: _,
-            } => {
-                record += 1;
-                at += size;
-            }
-        }
+    // a while, since each record has a size of its own
+    while at != sheet.len() {
+        let Some(entry) = read_entry(&sheet[at..], layout) else {
+            return Err(Fault::BrokenLayout.at(record));
+        };
+        record += 1;
+        at += entry.size;
     }
+    Ok(())
 }
 
 // What the writer says of a sheet: 12 where it breaks the layout.
-fn sheet_verdict(sheet: &[u8]) -> Verdict
-    ensures { result ≡ (sheet_result sheet.now).verdict }
+fn sheet_verdict(sheet: &[u8]) -> Result<(), Refusal>
+    ensures { verdict_of result ≡ (sheet_result sheet.now).verdict }
 {
     let layout = version_of(sheet);
-    let front = read_front(sheet, layout);
-    match front {
-        Front::Flawed => Verdict::Refusal {
-            number: LAYOUT_BROKEN,
-            place: 0,
-        },
-        Front::Whole {
-            extended: _,
-            title,
-            time,
-        } => records_verdict(sheet, layout, 7 + title + time),
-    }
+    let Some(front) = read_front(sheet, layout) else {
+        return Err(Fault::BrokenLayout.at(0));
+    };
+    records_verdict(sheet, layout, 7 + front.title + front.time)
 }
 
 // Puts the lines of a sheet that keeps the layout.
@@ -476,27 +441,15 @@ fn sheet_lines(sheet: &[u8], version: u8, out: &mut [u8]) -> usize
     ensures { Put (4 * length sheet.now + 2 * line_limit) (listing_of version (front_header sheet.now) (sheet_result sheet.now).records) out.old 0 result out.new }
 {
     let layout = version_of(sheet);
-    let front = read_front(sheet, layout);
-    match front {
-        Front::Flawed => 0,
-        Front::Whole {
-            extended,
-            title,
-            time,
-        } => {
-            let behind = 7 + title;
-            let from = behind + time;
-            let k = header_line(
-                out,
-                0,
-                version,
-                extended,
-                &sheet[7..behind],
-                &sheet[behind..from],
-            );
-            rest_lines(sheet, layout, from, out, k)
-        }
-    }
+    let Some(front) = read_front(sheet, layout) else {
+        return 0;
+    };
+    let behind = 7 + front.title;
+    let from = behind + front.time;
+    let title = &sheet[7..behind];
+    let time = &sheet[behind..from];
+    let k = header_line(out, 0, version, front.extended, title, time);
+    rest_lines(sheet, layout, from, out, k)
 }
 
 // Writes the lines of a sheet that keeps the layout, read from a file of that version,
@@ -514,14 +467,14 @@ fn list_lines(sheet: &[u8], version: u8, out: &mut [u8]) -> usize
 
 // Writes a refusal's line over the front of out where it fits, and answers its length
 // either way. It stands alone.
-fn list_refusal(out: &mut [u8], refused: u8, place: usize) -> usize
-    ensures { Wrote (refusal_line refused place) out.old result out.new × (result ≤ line_limit) }
+fn list_refusal(out: &mut [u8], refusal: Refusal) -> usize
+    ensures { Wrote (refusal_line refusal.number refusal.place) out.old result out.new × (result ≤ line_limit) }
 {
-    let size = refusal_line(&mut out[0..0], 0, refused, place);
+    let size = refusal_line(&mut out[0..0], 0, refusal);
     if out.len() < size {
         return size;
     }
-    refusal_line(out, 0, refused, place)
+    refusal_line(out, 0, refusal)
 }
 
 // The same for an input that is too long.
@@ -542,10 +495,9 @@ fn list_sheet(sheet: &[u8], version: u8, out: &mut [u8]) -> usize
     if LISTING_LIMIT <= sheet.len() {
         return list_too_long(out);
     }
-    let verdict = sheet_verdict(sheet);
-    match verdict {
-        Verdict::Good => list_lines(sheet, version, out),
-        Verdict::Refusal { number, place } => list_refusal(out, number, place),
+    match sheet_verdict(sheet) {
+        Ok(()) => list_lines(sheet, version, out),
+        Err(refusal) => list_refusal(out, refusal),
     }
 }
 
@@ -555,7 +507,7 @@ pub fn list(printed: Printed, sheet: &[u8], out: &mut [u8]) -> usize
 {
     match printed {
         Printed::TooLong => list_too_long(out),
-        Printed::Refused { number, place } => list_refusal(out, number, place),
+        Printed::Refused { refusal } => list_refusal(out, refusal),
         Printed::Sheet { version } => list_sheet(sheet, version, out),
     }
 }

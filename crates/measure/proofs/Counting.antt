@@ -1,4 +1,6 @@
 -- The commonest items, as measuring sees them: their records by the label's length alone. Assumes nothing.
+use Rattle.std.specs.Prelude.{Option, None, Some}
+use Rattle.format.specs.declared.Point.{Point}
 use Prim.Native.Nat.{ℕ, ◌+◌, ◌≤◌}
 use mathlib.Core.Path.{◌≡◌, refl, sym, ap, ◌∙◌}
 use mathlib.Core.List.{List}
@@ -9,8 +11,6 @@ use Rattle.format.specs.Items.{Item}
 use Rattle.format.specs.Sheet.{sheet_version, layout}
 use Rattle.format.specs.State.{State, Record, leg, station, section, named, moved, made}
 use Rattle.format.specs.Reading.{next}
-use Rattle.format.specs.declared.Position.{Position}
-use Rattle.format.specs.declared.Position.TheVariants.{Unset, Stands}
 use Rattle.format.proofs.SheetLaws.{layout_leg, layout_station, layout_section}
 use Rattle.short.specs.Brief.{Brief, Moves, make_line, make_station, make_section, leg_at, station_at, section_at, place_at, name_at}
 use Rattle.short.proofs.Laws.{name_length, brief_leg_lem, brief_station, brief_section, brief_move}
@@ -21,9 +21,9 @@ module _ (s : List ℕ) (len keep add k size : ℕ) (placed : Bool) where
   placed_leg : (flags : ℕ) → Brief 8 s len keep add k size (make_line flags) → placed ≡ true → CountsRecord s size (keep + add) (34 + (keep + add)) len placed
   placed_leg flags B e = record { short = omega (arith, B.few, B.add_few); small = omega (arith, B.few, B.add_few); makes = λ style st K. go style st K st.setting.position refl }
     where
-      go : (style : ℕ) (st : State) → Keeps st len style placed → (q : Position) → st.setting.position ≡ q → Makes (next 8 s st) size (34 + (keep + add)) (keep + add) style placed
-      go style st K Unset p = absurd (let z : true ≡ false = sym e ∙ sym K.position_is ∙ ap is_set p in let y : ◌≡◌ {A = ℕ} 0 1 = cc in omega arith)
-      go style st K (Stands from) p =
+      go : (style : ℕ) (st : State) → Keeps st len style placed → (q : Option Point) → st.setting.position ≡ q → Makes (next 8 s st) size (34 + (keep + add)) (keep + add) style placed
+      go style st K None p = absurd (let z : true ≡ false = sym e ∙ sym K.position_is ∙ ap is_set p in let y : ◌≡◌ {A = ℕ} 0 1 = cc in omega arith)
+      go style st K (Some from) p =
           let l = name_length B st.label K.label_is in
           record {
             after = moved (place_at s k) (named (name_at s keep add st.label) st);

@@ -1,5 +1,6 @@
 -- A turn of the measuring loop, on plain values. Assumes nothing.
 use Prim.Native.Nat.{ℕ, ◌+◌, ◌-◌, ◌*◌, ◌≤◌}
+use Rattle.std.specs.Prelude.{Result, Ok, Err}
 use mathlib.Core.Path.{◌≡◌, refl, sym, ◌∙◌}
 use mathlib.Core.List.{List}
 use mathlib.Core.Bool.{Bool, true, false}
@@ -8,17 +9,16 @@ use borrow.Author.Tests.{ltb-true, ltb-false}
 use borrow.Author.Rules.{part_to_end}
 use lib.ListN.{length, take, drop}
 use Rattle.format.specs.State.{State, start, end}
-use Rattle.format.specs.Refusals.{stop}
-use Rattle.format.specs.declared.Verdict.{Verdict}
-use Rattle.format.specs.declared.Verdict.TheVariants.{Refusal}
+use Rattle.format.specs.Refusals.{stop, Verdict, Refusal}
 use Rattle.format.specs.Reading.{next, ended, run, items_of}
+use Rattle.format.specs.Faults.{fault_number}
+use Rattle.format.specs.declared.Fault.{Fault}
 use Rattle.format.proofs.Basics.{pick_case}
 use Rattle.format.proofs.ReadingLaws.{there_within, left_bad, left_after, left_done, left_on, left_made}
 use Rattle.measure.specs.Measures.{Keeps, Goes, Makes, Measures, ComesIn}
-use Rattle.measure.specs.Totals.{passed_by, pass_of}
+use Rattle.measure.specs.Totals.{Total, total_by, pass_of}
 use Rattle.measure.specs.declared.Measured.{Measured}
-use Rattle.measure.specs.declared.Measured.TheVariants.{Bad, End, Styled, Moved, Passes, Made}
-use Rattle.measure.specs.declared.Passed.{Passed}
+use Rattle.measure.specs.declared.Measured.TheVariants.{End, Styled, Moved, Passes, Made}
 use Rattle.measure.proofs.Sums.{pass_also, pass_stop}
 
 -- the end item: why reading stops there, over the bytes as the code cuts them out
@@ -55,33 +55,33 @@ going_first file place front h =
     }
 
 -- the item's bytes are there
-abbrev pub Within : ℕ → ℕ → Measured → Type 0
-Within m at (Bad k) = Unit
-Within m at End = Unit
-Within m at (Styled to) = at + 1 ≤ m
-Within m at Moved = at + 13 ≤ m
-Within m at (Passes n) = (1 ≤ n) × (at + n ≤ m)
-Within m at (Made n k bytes) = (1 ≤ n) × (at + n ≤ m)
+abbrev pub Within : ℕ → ℕ → Result Measured Fault → Type 0
+Within m at (Err f) = Unit
+Within m at (Ok End) = Unit
+Within m at (Ok (Styled to)) = at + 1 ≤ m
+Within m at (Ok Moved) = at + 13 ≤ m
+Within m at (Ok (Passes n)) = (1 ≤ n) × (at + n ≤ m)
+Within m at (Ok (Made n k bytes)) = (1 ≤ n) × (at + n ≤ m)
 
 module _ (file : List ℕ) (place front at out records len style : ℕ) (placed : Bool) (G : Going file place front at out records len style placed) where
   -- what an answer tells of the item there, as the code cuts it out
-  abbrev pub Found : Measured → Type 0
+  abbrev pub Found : Result Measured Fault → Type 0
   Found r = ComesIn r len style placed (λ st. next 8 (take (length file - at) (drop at file)) st)
 
-  abbrev whole : Passed
+  abbrev whole : Total
   whole = pass_of front 0 (items_of 8 place file)
 
-  pub found : (r : Measured) → Found r → Measures r len style placed (next 8 (take (length file - at) (drop at file)) G.state)
+  pub found : (r : Result Measured Fault) → Found r → Measures r len style placed (next 8 (take (length file - at) (drop at file)) G.state)
   found r f = f G.state G.keeps
 
-  pub ends : {v : Verdict} → run 8 at (drop at file) G.state ≡ stop v → passed_by v out records ≡ whole
+  pub ends : {v : Verdict} → run 8 at (drop at file) G.state ≡ stop v → total_by v out records ≡ whole
   ends {v} e = sym (pass_stop out records v) ∙ rw e at G.answer
 
-  pub ends_bad : (k : ℕ) → Found (Bad k) → passed_by (Refusal k at) out records ≡ whole
-  ends_bad k f = ends (left_bad 8 file at G.state (sym (found (Bad k) f)))
+  pub ends_bad : (k : Fault) → Found (Err k) → total_by (Refusal (fault_number k) at) out records ≡ whole
+  ends_bad k f = ends (left_bad 8 file at G.state (sym (found (Err k) f)))
 
-  pub ends_end : Found End → passed_by (ended at (take (length file - at) (drop at file))) out records ≡ whole
-  ends_end f = ends (left_end 8 file at G.state (sym (found End f)))
+  pub ends_end : Found (Ok End) → total_by (ended at (take (length file - at) (drop at file))) out records ≡ whole
+  ends_end f = ends (left_end 8 file at G.state (sym (found (Ok End) f)))
 
   -- the next turn, behind an item of n bytes
   turn : (st : State) (n out' records' m y : ℕ) (p : Bool) → Keeps st m y p → (1 ≤ n) × (at + n ≤ length file) → m ≤ 4096 → out' ≤ out + 4130
@@ -117,10 +117,10 @@ module _ (file : List ℕ) (place front at out records len style : ℕ) (placed 
         turn g.after n (out + bytes) (records + 1) m style placed g.keeps makes_size h (omega arith) (omega arith)
         (rw (← g.size) (sym (pass_also out records g.gives _) ∙ rw (left_made 8 file at G.state (sym g.same)) at G.answer))
 
-  pub item_within : (r : Measured) → Found r → Within (length file) at r
-  item_within (Bad k) f = tt
-  item_within End f = tt
-  item_within (Styled to) f = (goes_size 1 len to placed (found (Styled to) f)).1
-  item_within Moved f = (goes_size 13 len style true (found Moved f)).1
-  item_within (Passes n) f = goes_size n len style placed (found (Passes n) f)
-  item_within (Made n m bytes) f = makes_size n bytes m (found (Made n m bytes) f)
+  pub item_within : (r : Result Measured Fault) → Found r → Within (length file) at r
+  item_within (Err k) f = tt
+  item_within (Ok End) f = tt
+  item_within (Ok (Styled to)) f = (goes_size 1 len to placed (found (Ok (Styled to)) f)).1
+  item_within (Ok Moved) f = (goes_size 13 len style true (found (Ok Moved) f)).1
+  item_within (Ok (Passes n)) f = goes_size n len style placed (found (Ok (Passes n)) f)
+  item_within (Ok (Made n m bytes)) f = makes_size n bytes m (found (Ok (Made n m bytes)) f)

@@ -2,19 +2,19 @@
 // labels count here, so no label is kept: v3 to v7 look for dots, and v8 does not.
 #![tactic(auto)]
 
-ghost use Rattle.std.specs.Prelude.{◌≡◌, Bool, ℕ, ◌≤◌, length, drop};
+ghost use Rattle.std.specs.Prelude.{◌≡◌, Bool, ℕ, ◌≤◌, length, drop, Ok, Some};
 ghost use Rattle.format.specs.Items.{Date as date_item, Style as style_item, move_item, day_item, span_item, days_item, error_item, new_part};
 ghost use Rattle.format.specs.State.{apply, next_of};
 ghost use Rattle.format.specs.Reading.{next, ended, items_of};
 ghost use Rattle.kind.specs.Kinds.{labelled_by};
 ghost use Rattle.measure.specs.Measures.{Keeps, Comes, ComesIn, Small, Tailed};
 ghost use Rattle.measure.specs.Counting.{Counts, counted_as, leg_counted};
-ghost use Rattle.measure.specs.Totals.{passed_by, pass_of};
+ghost use Rattle.measure.specs.Totals.{total_of, total_by, pass_of};
 ghost use Rattle.format.specs.Header.{file_limit};
 ghost use Rattle.format.specs.Label.{label_limit};
 ghost use Rattle.format.specs.Sheet.{front_limit};
 
-use format::{LABEL_LIMIT, LabelPart, Verdict};
+use format::{Fault, LABEL_LIMIT, Refusal};
 use kind::{Kind, Tail, new_kind, tail_size};
 use length::{part_of, whole_part};
 use number::{get_le16, wide};
@@ -24,18 +24,15 @@ use short::{Short, new_item, sides};
 // item, and the refusal, if there is one.
 #[derive(Clone, Copy)]
 pub struct Passed {
-    pub verdict: Verdict,
+    pub verdict: Result<(), Refusal>,
     pub bytes: usize,
     pub records: usize,
 }
 
-// What an item comes to: a refusal; the end; another style; a position; its size, where
-// it makes no record; its size, the label's new length and its record's bytes.
+// What an item comes to: the end; another style; a position; its size, where it makes no
+// record; its size, the label's new length and its record's bytes.
 #[derive(Clone, Copy)]
 enum Measured {
-    Bad {
-        number: u8,
-    },
     End,
     Styled {
         style: u8,
@@ -55,215 +52,185 @@ enum Measured {
 
 // A style, after another; normal where it is normal already is the end.
 fn styled(style: u8, old: u8) -> Measured
-    ensures { Small result × ((len : ℕ) (placed : Bool) → ComesIn result len old placed (λ st. apply st 1 (style_item style))) }
+    ensures { Small (Ok result) × ((len : ℕ) (placed : Bool) → ComesIn (Ok result) len old placed (λ st. apply st 1 (style_item style))) }
 {
-    if style != 0 {
-        return Measured::Styled { style };
+    if style == 0 && old == 0 {
+        return Measured::End;
     }
-    if old != 0 {
-        return Measured::Styled { style };
-    }
-    Measured::End
+    Measured::Styled { style }
 }
 
-fn moved(s: &[u8]) -> Measured
+fn moved(s: &[u8]) -> Result<Measured, Fault>
     ensures { Small result × Comes result (λ st. next_of st (move_item s.now)) }
 {
     if s.len() < 13 {
-        return Measured::Bad { number: 5 };
+        return Err(Fault::Unfinished);
     }
-    Measured::Moved
+    Ok(Measured::Moved)
 }
 
 // Two days, of an item of so many bytes.
-fn dated(size: usize, first: u32, last: u32) -> Measured
+fn dated(size: usize, first: u32, last: u32) -> Result<Measured, Fault>
     ensures { Small result × Comes result (λ st. apply st size (date_item first last)) }
 {
-    if last < first {
-        return Measured::Bad { number: 9 };
+    if last < first || 65535 < last {
+        return Err(Fault::BadDate);
     }
-    if 65535 < last {
-        return Measured::Bad { number: 9 };
-    }
-    Measured::Passes { size }
+    Ok(Measured::Passes { size })
 }
 
-fn day(s: &[u8]) -> Measured
+fn day(s: &[u8]) -> Result<Measured, Fault>
     ensures { Small result × Comes result (λ st. next_of st (day_item s.now)) }
 {
     if s.len() < 3 {
-        return Measured::Bad { number: 5 };
+        return Err(Fault::Unfinished);
     }
     let day = get_le16(&s[1..]);
     dated(3, day, day)
 }
 
-fn span(s: &[u8]) -> Measured
+fn span(s: &[u8]) -> Result<Measured, Fault>
     ensures { Small result × Comes result (λ st. next_of st (span_item s.now)) }
 {
     if s.len() < 4 {
-        return Measured::Bad { number: 5 };
+        return Err(Fault::Unfinished);
     }
     let first = get_le16(&s[1..]);
     let days = wide(s[3]);
     dated(4, first, first + days)
 }
 
-fn days(s: &[u8]) -> Measured
+fn days(s: &[u8]) -> Result<Measured, Fault>
     ensures { Small result × Comes result (λ st. next_of st (days_item s.now)) }
 {
     if s.len() < 5 {
-        return Measured::Bad { number: 5 };
+        return Err(Fault::Unfinished);
     }
     let first = get_le16(&s[1..]);
     let last = get_le16(&s[3..]);
     dated(5, first, last)
 }
 
-fn error(s: &[u8], len: usize) -> Measured
+fn error(s: &[u8], len: usize) -> Result<Measured, Fault>
     requires { len ≤ label_limit }
     ensures { Small result × ((style : ℕ) (placed : Bool) → ComesIn result len style placed (λ st. next_of st (error_item s.now))) }
 {
     if s.len() < 21 {
-        return Measured::Bad { number: 5 };
+        return Err(Fault::Unfinished);
     }
-    Measured::Made {
+    Ok(Measured::Made {
         size: 21,
         len,
         bytes: 23,
-    }
+    })
 }
 
 // ---- items with a label
 
 // What an item of so many bytes comes to once its label has len.
-fn tailed(tail: Tail, placed: bool, size: usize, len: usize) -> Measured
+fn tailed(tail: Tail, placed: bool, size: usize, len: usize) -> Result<Measured, Fault>
     requires { len ≤ label_limit }
     ensures { Small result × Tailed result tail placed size len }
 {
-    match tail {
-        Tail::Short { last: _ } => Measured::Made {
-            size,
-            len,
-            bytes: 25 + len,
-        },
-        Tail::Long { last: _ } => Measured::Made {
-            size,
-            len,
-            bytes: 25 + len,
-        },
-        Tail::Station { flags: _ } => Measured::Made {
-            size,
-            len,
-            bytes: 16 + len,
-        },
+    let head = match tail {
+        Tail::Short { last: _ } | Tail::Long { last: _ } => 25,
+        Tail::Station { flags: _ } => 16,
         Tail::Line { flags: _ } => {
             if !placed {
-                return Measured::Bad { number: 8 };
+                return Err(Fault::NoPosition);
             }
-            Measured::Made {
-                size,
-                len,
-                bytes: 34 + len,
-            }
+            34
         }
-    }
+    };
+    Ok(Measured::Made {
+        size,
+        len,
+        bytes: head + len,
+    })
 }
 
 // 5, then 6 and 7, and then the position.
-fn labelled(s: &[u8], bare: bool, tail: Tail, len: usize, placed: bool) -> Measured
+fn labelled(s: &[u8], bare: bool, tail: Tail, len: usize, placed: bool) -> Result<Measured, Fault>
     requires { (1 ≤ length s.now) × (len ≤ label_limit) }
     ensures { Small result × ((style : ℕ) → ComesIn result len style placed (λ st. next_of st (labelled_by bare tail new_part (drop 1 s.now)))) }
 {
     let t = &s[1..];
     let n = tail_size(tail);
-    let p = part_of(8, bare, t);
-    let q = whole_part(p, t, n);
-    match q {
-        LabelPart::Unfinished => Measured::Bad { number: 5 },
-        LabelPart::Numbers { size, drop, add } => {
-            if len < drop {
-                return Measured::Bad { number: 6 };
-            }
-            let keep = len - drop;
-            if LABEL_LIMIT - keep < add {
-                return Measured::Bad { number: 7 };
-            }
-            tailed(tail, placed, 1 + (size + add + n), keep + add)
-        }
+    let Some(part) = whole_part(part_of(8, bare, t), t, n) else {
+        return Err(Fault::Unfinished);
+    };
+    if len < part.drop {
+        return Err(Fault::LabelTooShort);
     }
+    let keep = len - part.drop;
+    if LABEL_LIMIT - keep < part.add {
+        return Err(Fault::LabelTooLong);
+    }
+    tailed(
+        tail,
+        placed,
+        1 + (part.size + part.add + n),
+        keep + part.add,
+    )
 }
 
 // ---- the items of a file
 
 // What any item at the front of s comes to.
-fn any_item(s: &[u8], len: usize, style: u8, placed: bool) -> Measured
+fn any_item(s: &[u8], len: usize, style: u8, placed: bool) -> Result<Measured, Fault>
     requires { len ≤ label_limit }
     ensures { Small result × ComesIn result len style placed (λ st. next 8 s.now st) }
 {
     if s.len() < 1 {
-        return Measured::Bad { number: 5 };
+        return Err(Fault::Unfinished);
     }
     let kind = new_kind(s[0]);
     match kind {
-        Kind::Reserved => Measured::Bad { number: 4 },
-        Kind::Stop => Measured::Bad { number: 4 },
-        Kind::Shorten { cut: _ } => Measured::Bad { number: 4 },
-        Kind::Style { style: to } => styled(to, style),
+        Kind::Reserved | Kind::Stop | Kind::Shorten { cut: _ } | Kind::Seconds | Kind::TwoSeconds =>
+            Err(Fault::Reserved),
+        Kind::Style { style: to } => Ok(styled(to, style)),
         Kind::Move => moved(s),
-        Kind::NoDate => Measured::Passes { size: 1 },
+        Kind::NoDate => Ok(Measured::Passes { size: 1 }),
         Kind::Day => day(s),
         Kind::Span => span(s),
         Kind::Days => days(s),
-        Kind::Seconds => Measured::Bad { number: 4 },
-        Kind::TwoSeconds => Measured::Bad { number: 4 },
         Kind::Error => error(s, len),
         Kind::Labelled { bare, tail } => labelled(s, bare, tail, len, placed),
     }
 }
 
-// The size, the label's new length and the record's bytes, where the item is one of the
-// commonest and makes a record; or a MOVE.
-#[derive(Clone, Copy)]
-enum Counted {
-    Other,
-    Moved,
-    Record {
-        size: usize,
-        len: usize,
-        bytes: usize,
-    },
-}
+// ---- the commonest items: a record or a MOVE
 
-// The same of a record with so many bytes beside its label, of an item of so many.
-fn count_record(size: usize, len: usize, head: usize) -> Counted
+// A record with so many bytes beside its label, of an item of so many.
+fn count_record(size: usize, len: usize, head: usize) -> Measured
     requires { (len ≤ label_limit) × (head ≤ label_limit) }
     ensures { result ≡ counted_as size len head }
 {
-    Counted::Record {
+    Measured::Made {
         size,
         len,
         bytes: head + len,
     }
 }
 
-// The same of a leg, which needs the position set.
-fn count_leg(size: usize, len: usize, placed: bool) -> Counted
+// A leg, which needs the position set.
+fn count_leg(size: usize, len: usize, placed: bool) -> Option<Measured>
     requires { len ≤ label_limit }
     ensures { result ≡ leg_counted size len placed }
 {
     if placed {
-        return count_record(size, len, 34);
+        return Some(count_record(size, len, 34));
     }
-    Counted::Other
+    None
 }
 
-fn count_short(s: &[u8], len: usize, placed: bool) -> Counted
+// What the item at the front of s comes to, where it is one of the commonest and makes a
+// record, or is a MOVE.
+fn count_short(s: &[u8], len: usize, placed: bool) -> Option<Measured>
     ensures { Counts result s.now len placed }
 {
-    let it = new_item(s, len);
-    match it {
-        Short::Other => Counted::Other,
+    let short = new_item(s, len)?;
+    match short {
         Short::Line {
             keep,
             add,
@@ -274,62 +241,52 @@ fn count_short(s: &[u8], len: usize, placed: bool) -> Counted
             keep,
             add,
             flags: _,
-        } => count_record(14 + add, keep + add, 16),
-        Short::Section { keep, add, code } => count_record(2 + add + sides(code), keep + add, 25),
-        Short::Trim { len: _ } => Counted::Other,
-        Short::Move => Counted::Moved,
+        } => Some(count_record(14 + add, keep + add, 16)),
+        Short::Section { keep, add, code } => {
+            Some(count_record(2 + add + sides(code), keep + add, 25))
+        }
+        Short::Trim { len: _ } => None,
+        Short::Move => Some(Measured::Moved),
     }
 }
 
 // What the item at the front of s comes to: the commonest are tried first.
-fn measure_item(s: &[u8], len: usize, style: u8, placed: bool) -> Measured
+fn measure_item(s: &[u8], len: usize, style: u8, placed: bool) -> Result<Measured, Fault>
     requires { len ≤ label_limit }
     ensures { Small result × ComesIn result len style placed (λ st. next 8 s.now st) }
 {
-    let short = count_short(s, len, placed);
-    match short {
-        Counted::Other => any_item(s, len, style, placed),
-        Counted::Moved => Measured::Moved,
-        Counted::Record {
-            size,
-            len: m,
-            bytes,
-        } => Measured::Made {
-            size,
-            len: m,
-            bytes,
-        },
+    if let Some(measured) = count_short(s, len, placed) {
+        return Ok(measured);
     }
+    any_item(s, len, style, placed)
 }
 
-// What the items come to where they stop for this reason, after so many bytes and records.
-pub fn stopped(verdict: Verdict, bytes: usize, records: usize) -> Passed
-    ensures { result ≡ record { verdict = verdict; bytes = bytes; records = records } }
-{
-    Passed {
-        verdict,
-        bytes,
-        records,
-    }
-}
-
-// The same at the end item, which the bytes from `at` on begin with: 10 where others follow it.
+// What the items come to at the end item, which the bytes from `at` on begin with: 10 where
+// others follow it.
 pub fn ended(at: usize, rest: &[u8], bytes: usize, records: usize) -> Passed
     requires { at ≤ file_limit }
-    ensures { result ≡ passed_by (ended at rest.now) bytes records }
+    ensures { total_of result ≡ total_by (ended at rest.now) bytes records }
 {
     if 1 < rest.len() {
         let place = at + 1;
-        return stopped(Verdict::Refusal { number: 10, place }, bytes, records);
+        return Passed {
+            verdict: Err(Fault::BytesAfterEnd.at(place)),
+            bytes,
+            records,
+        };
     }
-    stopped(Verdict::Good, bytes, records)
+    Passed {
+        verdict: Ok(()),
+        bytes,
+        records,
+    }
 }
 
 // The items of a v8 file from `place` on: the answer for a sheet with room enough, whose
 // first record goes to `front`.
 pub fn measure(file: &[u8], place: usize, front: usize) -> Passed
     requires { (length file.now ≤ file_limit) × (place ≤ length file.now) × (front ≤ front_limit) }
-    ensures { result ≡ pass_of front 0 (items_of 8 place file.now) }
+    ensures { total_of result ≡ pass_of front 0 (items_of 8 place file.now) }
 {
     let mut at = place;
     let mut out = front;
@@ -337,13 +294,20 @@ pub fn measure(file: &[u8], place: usize, front: usize) -> Passed
     let mut label: usize = 0;
     let mut style: u8 = 5;
     let mut placed = false;
+    // Items differ in size: each turn moves the place on by its own item.
     loop {
         let rest = &file[at..];
-        let it = measure_item(rest, label, style, placed);
-        match it {
-            Measured::Bad { number } => {
-                return stopped(Verdict::Refusal { number, place: at }, out, records);
+        let item = match measure_item(rest, label, style, placed) {
+            Ok(item) => item,
+            Err(fault) => {
+                return Passed {
+                    verdict: Err(fault.at(at)),
+                    bytes: out,
+                    records,
+                };
             }
+        };
+        match item {
             Measured::End => return ended(at, rest, out, records),
             Measured::Styled { style: to } => {
                 style = to;

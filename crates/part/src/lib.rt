@@ -34,28 +34,18 @@ fn put_length(out: &mut [u8], at: usize, n: usize) -> usize
     ensures { Lays out.old out.new at (length_codes n) 5 result }
 {
     if n < 0xff {
-        let code = [n as u8];
-        return put(out, at, &code);
+        return put(out, at, &[n as u8]);
     }
     let b = number::le32_bytes(n as u32);
-    let code = [0xff, b[0], b[1], b[2], b[3]];
-    put(out, at, &code)
+    put(out, at, &[0xff, b[0], b[1], b[2], b[3]])
 }
 
 // Whether d bytes to drop and a to append go in one byte.
+#[tactic(auto, unfolding(format::specs::Codes::short_part))]
 pub fn one_byte(d: usize, a: usize) -> bool
     ensures { result ≡ short_part d a }
 {
-    if 15 < d {
-        return false;
-    }
-    if 15 < a {
-        return false;
-    }
-    if 0 < d {
-        return true;
-    }
-    0 < a
+    d <= 15 && a <= 15 && (0 < d || 0 < a)
 }
 
 // d bytes to drop and a to append: both in one byte, or 00 and each as a length.
@@ -64,11 +54,9 @@ fn put_part(out: &mut [u8], at: usize, d: usize, a: usize) -> usize
     ensures { Lays out.old out.new at (part_codes d a) 11 result }
 {
     if one_byte(d, a) {
-        let code = [(16 * d + a) as u8];
-        return put(out, at, &code);
+        return put(out, at, &[(16 * d + a) as u8]);
     }
-    let code = [0];
-    let first = put(out, at, &code);
+    let first = put(out, at, &[0]);
     let second = put_length(out, first, d);
     put_length(out, second, a)
 }
@@ -87,13 +75,8 @@ pub fn shared(last: &[u8], name: &[u8]) -> Overlap
     ensures { (result.kept ≡ common last.now name.now) × (result.same ≡ same last.now name.now) }
 {
     let kept = wire::common_start(last, name);
-    if kept < last.len() {
-        return Overlap { kept, same: false };
-    }
-    if kept < name.len() {
-        return Overlap { kept, same: false };
-    }
-    Overlap { kept, same: true }
+    let same = last.len() <= kept && name.len() <= kept;
+    Overlap { kept, same }
 }
 
 // How many bytes of the previous label a station or a cross-section keeps: of the
@@ -102,11 +85,9 @@ pub fn kept_bytes(last: &[u8], name: &[u8]) -> usize
     ensures { result ≡ kept_bytes last.now name.now }
 {
     let s = shared(last, name);
-    let kept = s.kept;
     if s.same {
-        if 0 < kept {
-            return kept - 1;
-        }
+        s.kept.saturating_sub(1)
+    } else {
+        s.kept
     }
-    kept
 }

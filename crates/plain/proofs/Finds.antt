@@ -1,4 +1,6 @@
 -- A record whose label part takes one byte, and its codes, on plain values. Assumes nothing.
+use Rattle.std.specs.Prelude.{Option}
+use Rattle.format.specs.declared.Point.{Point}
 use Prim.Native.Nat.{ℕ, ◌+◌, ◌-◌, ◌*◌, ◌≤◌}
 use mathlib.Core.Path.{◌≡◌, sym, ap, ◌∙◌}
 use mathlib.Core.List.{List, ◌∷◌, ◌++◌}
@@ -11,7 +13,6 @@ use borrow.Author.Tests.{leb-true, le-ltb}
 use Rattle.format.specs.Bytes.{same}
 use Rattle.format.specs.Codes.{common, short_part, label_codes, codes}
 use Rattle.format.specs.Fields.{record_of, state_of}
-use Rattle.format.specs.declared.Position.{Position}
 use Rattle.format.specs.declared.Setting.{Setting}
 use Rattle.format.proofs.Basics.{both, less_or_not}
 use Rattle.wire.proofs.Laws.{common_within}
@@ -54,7 +55,7 @@ drop_take k m l h j =
     ap (λ (i : ℕ). drop k (take i l)) (sym z) ∙ ap (drop k) (take-add k (m - k) l)
     ∙ drop_at (take k l) (take (m - k) (drop k l)) k (length-take-le k l (omega arith))
 
-module _ (version : ℕ) (s : List ℕ) (mark : ℕ) (position : Position) (last : List ℕ) (size kept code : ℕ) (form : Form) where
+module _ (version : ℕ) (s : List ℕ) (mark : ℕ) (position : Option Point) (last : List ℕ) (size kept code : ℕ) (form : Form) where
   abbrev pub name : List ℕ
   name = label_of size (label_at form) s
 

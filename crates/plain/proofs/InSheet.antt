@@ -1,4 +1,6 @@
 -- A record that goes on, where it stands in a sheet: its label, and the bytes that are added to the previous one. Assumes nothing.
+use Rattle.std.specs.Prelude.{Option}
+use Rattle.format.specs.declared.Point.{Point}
 use Prim.Native.Nat.{ℕ, ◌+◌, ◌-◌, ◌≤◌, ◌<◌}
 use mathlib.Core.Path.{◌≡◌, ap, ◌∙◌}
 use mathlib.Core.List.{List}
@@ -6,7 +8,6 @@ use native.Mathlib.Omega.{arith}
 use lib.ListN.{length, take, drop, length-take, length-drop}
 use lib.Seq.{drop-drop}
 use borrow.Author.Rules.{part_to_end}
-use Rattle.format.specs.declared.Position.{Position}
 use Rattle.sheet.specs.Seen.{label_of}
 use Rattle.sheet.proofs.EntryAt.{part}
 use Rattle.plain.proofs.Finds.{drop_take}
@@ -30,7 +31,7 @@ pub record Sizes (sheet : List ℕ) (at from to size kept label : ℕ) : Type 0 
   pub few_dropped : to - from - kept ≤ 15
   pub few_added : size - label - kept ≤ 15
 
-module _ (version : ℕ) (sheet : List ℕ) (at mark : ℕ) (position : Position) (from to size kept code : ℕ) (form : Form) (h : at < length sheet)
+module _ (version : ℕ) (sheet : List ℕ) (at mark : ℕ) (position : Option Point) (from to size kept code : ℕ) (form : Form) (h : at < length sheet)
     (i : to ≤ length sheet)
     (P : Plainly version (take (length sheet - at) (drop at sheet)) mark position (part sheet from to) size kept code form) where
   abbrev s : List ℕ

@@ -1,5 +1,7 @@
 -- The record at the front of s by its kind, where it goes on from a setting: on plain values. Each law takes the tests that the code has made.
 -- Assumes nothing.
+use Rattle.std.specs.Prelude.{Option, Some}
+use Rattle.format.specs.declared.Point.{Point}
 use Prim.Native.Nat.{ℕ, ◌+◌, ◌-◌, ◌/◌, ◌%◌, ◌≤◌}
 use mathlib.Core.Path.{◌≡◌, refl, ap, ◌∙◌}
 use mathlib.Core.List.{List, ◌∷◌, ◌++◌}
@@ -16,7 +18,6 @@ use Rattle.format.specs.V7Codes.{labelled_codes, v7_section_codes, v7_codes}
 use Rattle.format.specs.Fields.{record_of, state_of}
 use Rattle.format.specs.WellFormed.{GoodDated}
 use Rattle.format.specs.declared.Dated.{Dated}
-use Rattle.format.specs.declared.Position.{Position}
 use Rattle.format.specs.declared.Setting.{Setting}
 use Rattle.format.specs.declared.Dimensions.{Dimensions}
 use Rattle.format.specs.declared.Fields.{Fields}
@@ -24,7 +25,6 @@ use Rattle.format.specs.declared.Fields.TheVariants.{Station as StationFields, S
 use Rattle.format.proofs.SheetLaws.{frame}
 use Rattle.number.specs.Four.{to_le64}
 use Rattle.sheet.specs.Seen.{leg_of, EntryTold}
-use Rattle.sheet.specs.declared.Entry.TheVariants.{Whole}
 use Rattle.sheet.proofs.Entries.{Fitting, fitting, fitted, whole, leg_whole, station_is, section_is, kind_leg, kind_station, kind_section, entry_told}
 use Rattle.plain.specs.Plainly.{mark_of, label_at, tail_of, position_after, v7_code, Headed, Goes}
 use Rattle.plain.specs.declared.Form.{Form}
@@ -64,7 +64,7 @@ module _ (s : List ℕ) where
   -- ---- legs
 
   module _ (z : Front s 1 32) (hf : get_or s 3 0 ≤ 0x07) (w mark : ℕ) (e : to_le64 w ≡ take 8 (drop 2 s)) (m : w / 65536 ≡ mark)
-      (position : Position) (stands : stands_at position (point_of be32 (drop 10 s)) ≡ true) (version : ℕ) where
+      (position : Option Point) (stands : stands_at position (point_of be32 (drop 10 s)) ≡ true) (version : ℕ) where
     module _ (style : ℕ) (date : Dated) (hs : style ≤ 5) (hd : GoodDated date) (em : mark ≡ mark_of style date) where
       es : get_or s 4 0 ≡ style
       es = leg_style s w e style date hs hd (m ∙ em)
@@ -97,7 +97,7 @@ module _ (s : List ℕ) where
   -- ---- stations
 
   module _ (z : Front s 2 14) (hf : get_or s 3 0 ≤ 0x7f) where
-    pub station_leads : (version mark : ℕ) (position : Position) → Headed version s mark position (2 + n) (0x80 + get_or s 3 0) Station
+    pub station_leads : (version mark : ℕ) (position : Option Point) → Headed version s mark position (2 + n) (0x80 + get_or s 3 0) Station
     unfolding station_codes kept_bytes pick
     station_leads version mark position =
         record {
@@ -132,7 +132,7 @@ module _ (s : List ℕ) where
   abbrev size : Dimensions
   size = dimensions_of 4 be32 (drop 9 s)
 
-  module _ {mark : ℕ} (z : DatedSection mark) (position : Position) where
+  module _ {mark : ℕ} (z : DatedSection mark) (position : Option Point) where
     module _ (style : ℕ) (date : Dated) (hs : style ≤ 5) (hd : GoodDated date) (em : mark ≡ mark_of style date) where
       abbrev d : Dated
       d = date_from (get_or s 4 0) (be16 (drop 5 s)) (be16 (drop 7 s))
@@ -150,7 +150,7 @@ module _ (s : List ℕ) where
       abbrev f : Fields
       f = SectionFields (get_or s 3 0) 0 d size
 
-      section_told : EntryTold (Whole (2 + n) f 25) 2 s
+      section_told : EntryTold (Some (record { size = 2 + n; fields = f; from = 25 })) 2 s
       section_told =
           entry_told 2 s z.fronted.bytes _
           (rw told_dated at (whole (section_is s n) z.fronted.fits
@@ -160,7 +160,7 @@ module _ (s : List ℕ) where
       setting = record { style = style; date = date; position = position }
 
       -- what a cross-section comes to, but for its codes
-      section_goes : {code : ℕ} {form : Form} → label_at form ≡ 25 → ((old : Position) → position_after form s old ≡ old)
+      section_goes : {code : ℕ} {form : Form} → label_at form ≡ 25 → ((old : Option Point) → position_after form s old ≡ old)
           → ((last label : List ℕ) → same last label ≡ false
           → codes (state_of setting last) (record_of f label) ≡ code ∷ (label_codes last label (common last label) ++ tail_of form s))
           → ((last label : List ℕ) → v7_codes (state_of setting last) (record_of f label) ≡ labelled_codes last label (v7_code form code) (tail_of form s))

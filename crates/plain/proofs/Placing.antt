@@ -1,4 +1,6 @@
 -- What is known of a record's head comes to with a label behind it, and legs and stations among them, on plain values. Assumes nothing.
+use Rattle.std.specs.Prelude.{Option, Some, None}
+use Rattle.format.specs.declared.Point.{Point}
 use Prim.Native.Nat.{ℕ, ◌+◌, ◌-◌, ◌≤◌}
 use mathlib.Core.Path.{◌≡◌, refl, sym, ◌∙◌}
 use mathlib.Core.List.{List, [], ◌∷◌, ◌++◌}
@@ -11,19 +13,16 @@ use Rattle.format.specs.Items.{point_of}
 use Rattle.format.specs.Sheet.{point_bytes, framed}
 use Rattle.format.specs.Fields.{record_of, state_of}
 use Rattle.format.specs.V7Codes.{shorten_codes, old_length_codes, added_codes, labelled_codes, v7_codes}
-use Rattle.format.specs.declared.Position.{Position}
 use Rattle.format.specs.declared.Setting.{Setting}
 use Rattle.format.proofs.Basics.{pick_true}
 use Rattle.format.proofs.SheetLaws.{frame}
 use Rattle.sheet.specs.Seen.{label_of}
-use Rattle.plain.specs.Plainly.{label_at, tail_of, tail_size, v7_code, Goes, Headed, HeadTold, LegTold, StationTold, Plainly, Found, HeadFits, Labelled}
+use Rattle.plain.specs.Plainly.{label_at, tail_of, tail_size, v7_code, Goes, Headed, HeadTold, LegTold, StationTold, Plainly, Found, Labelled}
 use Rattle.plain.specs.Placed.{Placed, place_at, PlacedTold, FoundPlaced}
 use Rattle.plain.specs.declared.Form.{Form}
 use Rattle.plain.specs.declared.Form.TheVariants.{Leg, Station, Narrow, Wide}
 use Rattle.plain.specs.declared.Head.{Head}
-use Rattle.plain.specs.declared.Head.TheVariants.{Other as NoHead, Known}
-use Rattle.plain.specs.declared.Plain.{Plain}
-use Rattle.plain.specs.declared.Plain.TheVariants.{Other, One}
+use Rattle.plain.specs.declared.Item.{Item}
 use Rattle.plain.proofs.Finds.{plainly, name_long}
 
 -- ---- a head, and a label behind it
@@ -48,40 +47,34 @@ framed_of {s = s} e h b d =
     let z = d ∙ b in
     record { size_is = z; frame_is = f; there = omega (arith, z, frame s f) }
 
-module _ {s : List ℕ} {n : ℕ} (z : Framed s n) (mark : ℕ) (position : Position) where
-  pub head_fits : (h : Head) (version : ℕ) → HeadTold h version s mark position → HeadFits h (2 + n)
-  head_fits NoHead version H = tt
-  head_fits (Known code form) version H = omega (arith, z.size_is, H.inside)
+module _ {s : List ℕ} {n : ℕ} (z : Framed s n) (mark : ℕ) (position : Option Point) where
+  pub head_fits : (h : Head) (version : ℕ) → HeadTold (Some h) version s mark position → label_at h.form ≤ 2 + n
+  head_fits h version H = omega (arith, z.size_is, H.inside)
 
-  pub found_by : (version : ℕ) (r : Plain) (h : Head) (last : List ℕ) → HeadTold h version s mark position → Labelled r h s (2 + n) last
+  pub found_by : (version : ℕ) (r : Option Item) (h : Head) (last : List ℕ) → HeadTold (Some h) version s mark position → Labelled r h s (2 + n) last
       → Found r version s mark position last
-  found_by version Other h last H L = tt
-  found_by version (One item) h last H L =
+  found_by version None h last H L = tt
+  found_by version (Some item) h last H L =
       let K : Headed version s mark position (2 + be16 s) item.code item.form = rw L.1 at H in
       rw L.0 (plainly version s mark position last (2 + n) item.kept item.code item.form (rw z.size_is K) z.there L.2 L.3)
 
 -- ---- legs and stations
 
-pub leg_placed : (h : Head) (s : List ℕ) (mark : ℕ) (position : Position) → LegTold h s mark position → PlacedTold h s mark position
-leg_placed NoHead s mark position T = tt
-leg_placed (Known code form) s mark position T = (rw T.0.0 tt, T.0.1, omega (arith, T.0.2), T.1)
+pub leg_placed : (h : Option Head) (s : List ℕ) (mark : ℕ) (position : Option Point) → LegTold h s mark position → PlacedTold h s mark position
+leg_placed None s mark position T = tt
+leg_placed (Some h) s mark position T = (rw T.0.0 tt, T.0.1, omega (arith, T.0.2), T.1)
 
-pub station_placed_lem : (h : Head) (s : List ℕ) (mark : ℕ) (position : Position) → StationTold h s → get_or s 3 0 ≤ 0x1f → PlacedTold h s mark position
-station_placed_lem NoHead s mark position T f = tt
-station_placed_lem (Known code form) s mark position T f =
+pub station_placed_lem : (h : Option Head) (s : List ℕ) (mark : ℕ) (position : Option Point) → StationTold h s → get_or s 3 0 ≤ 0x1f → PlacedTold h s mark position
+station_placed_lem None s mark position T f = tt
+station_placed_lem (Some h) s mark position T f =
     (rw T.0.0 tt, omega (arith, T.0.1), omega (arith, T.0.2), λ version. T.1 version mark position)
 
-pub placed_told : (h : Head) (s : List ℕ) (mark : ℕ) (position : Position) → PlacedTold h s mark position
-    → (version : ℕ) → HeadTold h version s mark position
-placed_told NoHead s mark position T version = tt
-placed_told (Known code form) s mark position T version = T.3 version
-
-pub placed_by : {s : List ℕ} {n : ℕ} → Framed s n → (mark : ℕ) (position : Position) (r : Plain) (h : Head) (last : List ℕ)
-    → PlacedTold h s mark position → Labelled r h s (2 + n) last → FoundPlaced r s mark position last
-placed_by z mark position Other h last T L = tt
-placed_by {s = s} z mark position (One item) h last T L =
-    let K : PlacedTold (Known item.code item.form) s mark position = rw L.1 at T in
-    (K.0, K.1, K.2, λ version. found_by z mark position version (One item) h last (placed_told h s mark position T version) L)
+pub placed_by : {s : List ℕ} {n : ℕ} → Framed s n → (mark : ℕ) (position : Option Point) (r : Option Item) (h : Head) (last : List ℕ)
+    → PlacedTold (Some h) s mark position → Labelled r h s (2 + n) last → FoundPlaced r s mark position last
+placed_by z mark position None h last T L = tt
+placed_by {s = s} z mark position (Some item) h last T L =
+    let K : PlacedTold (Some (record { code = item.code; form = item.form })) s mark position = rw L.1 at T in
+    (K.0, K.1, K.2, λ version. found_by z mark position version (Some item) h last (T.3 version) L)
 
 -- the place that ends their codes
 pub place_tail : (form : Form) → Placed form → (s : List ℕ) → point_bytes to_le32 (point_of be32 (drop (place_at form) s)) ≡ tail_of form s
@@ -98,7 +91,7 @@ place_inside Wide p = absurd p
 
 -- ---- the codes in v7: what shortens the label, the code, a length of one byte, the bytes that are added, and the tail
 
-module _ (version : ℕ) (s : List ℕ) (mark : ℕ) (position : Position) (last : List ℕ) (size kept code : ℕ) (form : Form)
+module _ (version : ℕ) (s : List ℕ) (mark : ℕ) (position : Option Point) (last : List ℕ) (size kept code : ℕ) (form : Form)
     (P : Plainly version s mark position last size kept code form) (setting : Setting) (G : Goes version s setting size code form) where
   abbrev name : List ℕ
   name = label_of size (label_at form) s

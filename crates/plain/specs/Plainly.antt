@@ -1,6 +1,7 @@
 -- The commonest records of a sheet, whose codes are one item with a label part of one byte: what is told of the record at the front of s, and
 -- what a state has to be for it. Assumes nothing.
-use Rattle.std.specs.Prelude.{ℕ, ◌+◌, ◌-◌, ◌*◌, ◌/◌, ◌%◌, ◌≤◌, ◌≡◌, List, ◌∷◌, ◌++◌, true, false, ◌&&◌, length, get_or, take, drop, ltb}
+use Rattle.format.specs.declared.Point.{Point}
+use Rattle.std.specs.Prelude.{ℕ, ◌+◌, ◌-◌, ◌*◌, ◌/◌, ◌%◌, ◌≤◌, ◌≡◌, List, ◌∷◌, ◌++◌, true, false, ◌&&◌, length, get_or, take, drop, ltb, Option, Some, None}
 use Rattle.format.specs.Bytes.{be16, be32, to_le16, to_le32, same}
 use Rattle.format.specs.Items.{point_of, dimensions_of}
 use Rattle.format.specs.Sheet.{point_bytes, dimension_bytes, date_kind, date_day, date_last}
@@ -10,18 +11,12 @@ use Rattle.format.specs.V7Codes.{labelled_codes, v7_codes, v7_after, v7_unable}
 use Rattle.format.specs.Fields.{record_of, state_of}
 use Rattle.format.specs.WellFormed.{GoodDated}
 use Rattle.format.specs.declared.Dated.{Dated}
-use Rattle.format.specs.declared.Position.{Position}
-use Rattle.format.specs.declared.Position.TheVariants.{Stands}
 use Rattle.format.specs.declared.Setting.{Setting}
 use Rattle.format.specs.declared.Fields.{Fields}
 use Rattle.sheet.specs.Seen.{label_of, EntryTold}
-use Rattle.sheet.specs.declared.Entry.TheVariants.{Whole}
 use Rattle.plain.specs.declared.Form.{Form}
 use Rattle.plain.specs.declared.Form.TheVariants.{Leg, Station, Narrow, Wide}
 use Rattle.plain.specs.declared.Head.{Head}
-use Rattle.plain.specs.declared.Head.TheVariants.{Other as NoHead, Known}
-use Rattle.plain.specs.declared.Plain.{Plain}
-use Rattle.plain.specs.declared.Plain.TheVariants.{Other, One}
 use Rattle.plain.specs.declared.Item.{Item}
 
 -- ---- style and date as one number: the six bytes of a leg's record, the lowest first
@@ -55,8 +50,8 @@ tail_size Narrow = 8
 tail_size Wide = 16
 
 -- the position that the record leaves
-abbrev pub position_after : Form → List ℕ → Position → Position
-position_after Leg s old = Stands (point_of be32 (drop 22 s))
+abbrev pub position_after : Form → List ℕ → Option Point → Option Point
+position_after Leg s old = Some (point_of be32 (drop 22 s))
 position_after Station s old = old
 position_after Narrow s old = old
 position_after Wide s old = old
@@ -80,7 +75,7 @@ unsaid setting = record { style = not_said; date = setting.date; position = sett
 -- leaves style and date as they are, and has no fault
 pub record Goes (version : ℕ) (s : List ℕ) (setting : Setting) (size code : ℕ) (form : Form) : Type 0 where
   pub fields : Fields
-  pub told : EntryTold (Whole size fields (label_at form)) version s
+  pub told : EntryTold (Some (record { size = size; fields = fields; from = label_at form })) version s
   pub codes_are : (last label : List ℕ) → same last label ≡ false
       → codes (state_of setting last) (record_of fields label) ≡ code ∷ (label_codes last label (common last label) ++ tail_of form s)
   pub leaves : (last label : List ℕ) → after (state_of setting last) (record_of fields label)
@@ -95,32 +90,32 @@ pub record Goes (version : ℕ) (s : List ℕ) (setting : Setting) (size code : 
       → v7_unable (record_of fields label) ≡ false
 
 -- the same in every setting with this mark and position
-pub record Headed (version : ℕ) (s : List ℕ) (mark : ℕ) (position : Position) (size code : ℕ) (form : Form) : Type 0 where
+pub record Headed (version : ℕ) (s : List ℕ) (mark : ℕ) (position : Option Point) (size code : ℕ) (form : Form) : Type 0 where
   pub inside : label_at form ≤ size
   pub goes : (style : ℕ) (date : Dated) → style ≤ 5 → GoodDated date → mark ≡ mark_of style date
       → Goes version s (record { style = style; date = date; position = position }) size code form
 
-abbrev pub HeadTold : Head → ℕ → List ℕ → ℕ → Position → Type 0
-HeadTold NoHead version s mark position = Unit
-HeadTold (Known code form) version s mark position = Headed version s mark position (2 + be16 s) code form
+abbrev pub HeadTold : Option Head → ℕ → List ℕ → ℕ → Option Point → Type 0
+HeadTold None version s mark position = Unit
+HeadTold (Some h) version s mark position = Headed version s mark position (2 + be16 s) h.code h.form
 
 -- this form, with a code from least to most
-abbrev pub Shaped : Form → ℕ → ℕ → Head → Type 0
-Shaped f least most NoHead = Unit
-Shaped f least most (Known code form) = (form ≡ f) × (least ≤ code) × (code ≤ most)
+abbrev pub Shaped : Form → ℕ → ℕ → Option Head → Type 0
+Shaped f least most None = Unit
+Shaped f least most (Some h) = (h.form ≡ f) × (least ≤ h.code) × (h.code ≤ most)
 
 -- a leg is the same in each version, a station in each state too, and a cross-section's position does not count
-abbrev pub LegTold : Head → List ℕ → ℕ → Position → Type 0
+abbrev pub LegTold : Option Head → List ℕ → ℕ → Option Point → Type 0
 LegTold r s mark position = Shaped Leg 0x40 0x47 r × ((version : ℕ) → HeadTold r version s mark position)
 
-abbrev pub StationTold : Head → List ℕ → Type 0
-StationTold r s = Shaped Station 0x80 (0x80 + get_or s 3 0) r × ((version mark : ℕ) (position : Position) → HeadTold r version s mark position)
+abbrev pub StationTold : Option Head → List ℕ → Type 0
+StationTold r s = Shaped Station 0x80 (0x80 + get_or s 3 0) r × ((version mark : ℕ) (position : Option Point) → HeadTold r version s mark position)
 
-abbrev pub SectionTold : Head → List ℕ → ℕ → Type 0
-SectionTold r s mark = (position : Position) → HeadTold r 2 s mark position
+abbrev pub SectionTold : Option Head → List ℕ → ℕ → Type 0
+SectionTold r s mark = (position : Option Point) → HeadTold r 2 s mark position
 
 -- its label keeps so many bytes of the previous one, and the label part takes one byte
-pub record Plainly (version : ℕ) (s : List ℕ) (mark : ℕ) (position : Position) (last : List ℕ) (size kept code : ℕ) (form : Form) : Type 0 where
+pub record Plainly (version : ℕ) (s : List ℕ) (mark : ℕ) (position : Option Point) (last : List ℕ) (size kept code : ℕ) (form : Form) : Type 0 where
   pub headed : Headed version s mark position size code form
   pub within : size ≤ length s
   pub kept_is : kept ≡ common last (label_of size (label_at form) s)
@@ -131,22 +126,17 @@ pub record Plainly (version : ℕ) (s : List ℕ) (mark : ℕ) (position : Posit
   pub few_added : size - label_at form - kept ≤ 15
   pub other : same last (label_of size (label_at form) s) ≡ false
 
-abbrev pub Found : Plain → ℕ → List ℕ → ℕ → Position → List ℕ → Type 0
-Found Other version s mark position last = Unit
-Found (One item) version s mark position last = Plainly version s mark position last item.size item.kept item.code item.form
+abbrev pub Found : Option Item → ℕ → List ℕ → ℕ → Option Point → List ℕ → Type 0
+Found None version s mark position last = Unit
+Found (Some item) version s mark position last = Plainly version s mark position last item.size item.kept item.code item.form
 
 -- ---- between the two: a head that is known, and a label behind it
 
--- the label starts in a record of this size
-abbrev pub HeadFits : Head → ℕ → Type 0
-HeadFits NoHead size = Unit
-HeadFits (Known code form) size = label_at form ≤ size
-
 -- the item is that of the head, and the label part takes one byte
-abbrev pub Labelled : Plain → Head → List ℕ → ℕ → List ℕ → Type 0
-Labelled Other found s size last = Unit
-Labelled (One item) found s size last =
-    (item.size ≡ size) × (found ≡ Known item.code item.form) × (item.kept ≡ common last (label_of size (label_at item.form) s))
+abbrev pub Labelled : Option Item → Head → List ℕ → ℕ → List ℕ → Type 0
+Labelled None found s size last = Unit
+Labelled (Some item) found s size last =
+    (item.size ≡ size) × (found ≡ record { code = item.code; form = item.form }) × (item.kept ≡ common last (label_of size (label_at item.form) s))
     × (short_part (length last - item.kept) (length (label_of size (label_at item.form) s) - item.kept) ≡ true)
 
 -- ---- its codes

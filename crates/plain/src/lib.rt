@@ -9,10 +9,10 @@ ghost use Rattle.format.specs.Codes.{short_part};
 ghost use Rattle.format.specs.Items.{point_of, dimensions_of};
 ghost use Rattle.format.specs.Sheet.{framed, point_bytes, dimension_bytes};
 ghost use Rattle.part.specs.Lays.{Puts};
-ghost use Rattle.plain.specs.Plainly.{mark_of, mark_from, label_at, tail_size, tail_of, position_after, LegTold, StationTold, SectionTold, HeadTold, Found, HeadFits, Labelled, Fitting, plain_codes};
+ghost use Rattle.plain.specs.Plainly.{mark_of, mark_from, label_at, tail_size, tail_of, position_after, LegTold, StationTold, SectionTold, HeadTold, Found, Labelled, Fitting, plain_codes};
 ghost use Rattle.plain.specs.Placed.{Placed, place_at, PlacedTold, FoundPlaced};
 
-use format::{Dated, Position, SHEET_VERSION};
+use format::{Dated, Point, SHEET_VERSION};
 
 // What kind of record it is, and so what ends its codes: a place, or dimensions as i16
 // (narrow) or as i32 (wide).
@@ -26,9 +26,9 @@ pub enum Form {
 
 // The code of a record's item, and its form.
 #[derive(Clone, Copy)]
-enum Head {
-    Other,
-    Known { code: u8, form: Form },
+struct Head {
+    code: u8,
+    form: Form,
 }
 
 // A record of so many bytes that keeps so many of the previous label, and its item's code.
@@ -40,29 +40,15 @@ pub struct Item {
     pub form: Form,
 }
 
-// Such a record, or another.
-#[derive(Clone, Copy)]
-pub enum Plain {
-    Other,
-    One { item: Item },
-}
-
 // ---- style and date as one number
-
-// A day as a long number to compute with.
-fn long_day(n: u16) -> u64
-    ensures { (result ≡ n) × (result < 65536) }
-{
-    n as u64
-}
 
 fn mark_from(style: u8, kind: u64, first: u16, last: u16) -> u64
     requires { kind ≤ 2 }
     ensures { result ≡ mark_from style kind first last }
 {
-    let s = number::long(style);
-    let f = long_day(first);
-    let l = long_day(last);
+    let s = u64::from(style);
+    let f = u64::from(first);
+    let l = u64::from(last);
     s + 256 * (kind + 256 * (f / 256 + 256 * (f % 256 + 256 * (l / 256 + 256 * (l % 256)))))
 }
 
@@ -80,77 +66,77 @@ pub fn mark_of(style: u8, date: Dated) -> u64
 // ---- what stands before the label
 
 // The leg of the record s, whose body has n bytes.
-fn leg_head(s: &[u8], n: usize, mark: u64, position: Position) -> Head
+fn leg_head(s: &[u8], n: usize, mark: u64, position: Option<Point>) -> Option<Head>
     requires { (n ≡ be16 s.now) × (framed s.now ≡ true) × (get_or s.now 2 0 ≡ 1) }
     ensures { LegTold result s.now mark position }
 {
     if !sheet::label_fits(n, 32) {
-        return Head::Other;
+        return None;
     }
     let word = number::get_le64(&s[2..]);
     if word / 65536 != mark {
-        return Head::Other;
+        return None;
     }
     if 0x07 < s[3] {
-        return Head::Other;
+        return None;
     }
     let from = sheet::point(&s[10..]);
     if !codes::stands_at(position, from) {
-        return Head::Other;
+        return None;
     }
-    Head::Known {
+    Some(Head {
         code: 0x40 + s[3],
         form: Form::Leg,
-    }
+    })
 }
 
 // The station of the record s, whose body has n bytes.
-fn station_head(s: &[u8], n: usize) -> Head
+fn station_head(s: &[u8], n: usize) -> Option<Head>
     requires { (n ≡ be16 s.now) × (framed s.now ≡ true) × (get_or s.now 2 0 ≡ 2) }
     ensures { StationTold result s.now }
 {
     if !sheet::label_fits(n, 14) {
-        return Head::Other;
+        return None;
     }
     if 0x7f < s[3] {
-        return Head::Other;
+        return None;
     }
-    Head::Known {
+    Some(Head {
         code: 0x80 + s[3],
         form: Form::Station,
-    }
+    })
 }
 
 // The cross-section of the record s of a version 2 sheet, whose body has n bytes.
-fn section_head(s: &[u8], n: usize, mark: u64) -> Head
+fn section_head(s: &[u8], n: usize, mark: u64) -> Option<Head>
     requires { (n ≡ be16 s.now) × (framed s.now ≡ true) × (get_or s.now 2 0 ≡ 3) }
     ensures { SectionTold result s.now mark }
 {
     if !sheet::label_fits(n, 23) {
-        return Head::Other;
+        return None;
     }
     let word = number::get_le64(&s[2..]);
     if word / 65536 % 1099511627776 != mark / 256 {
-        return Head::Other;
+        return None;
     }
     if 1 < s[3] {
-        return Head::Other;
+        return None;
     }
     let size = sheet::dimensions(&s[9..]);
     if codes::all_short(size) {
-        return Head::Known {
+        return Some(Head {
             code: 0x30 + s[3],
             form: Form::Narrow,
-        };
+        });
     }
-    Head::Known {
+    Some(Head {
         code: 0x32 + s[3],
         form: Form::Wide,
-    }
+    })
 }
 
 // The record s by its kind, in a sheet of the version.
-fn head_of(s: &[u8], n: usize, version: u8, mark: u64, position: Position) -> Head
+fn head_of(s: &[u8], n: usize, version: u8, mark: u64, position: Option<Point>) -> Option<Head>
     requires { (n ≡ be16 s.now) × (framed s.now ≡ true) }
     ensures { HeadTold result version s.now mark position }
 {
@@ -162,10 +148,10 @@ fn head_of(s: &[u8], n: usize, version: u8, mark: u64, position: Position) -> He
         return station_head(s, n);
     }
     if kind != 3 {
-        return Head::Other;
+        return None;
     }
     if version != SHEET_VERSION {
-        return Head::Other;
+        return None;
     }
     section_head(s, n, mark)
 }
@@ -184,43 +170,40 @@ pub fn label_at(form: Form) -> usize
 
 // The record s of so many bytes by what is known of its head, where the previous label is
 // `last`.
-fn with_label(s: &[u8], size: usize, found: Head, last: &[u8]) -> Plain
-    requires { (size ≤ length s.now) × HeadFits found size }
+fn with_label(s: &[u8], size: usize, found: Head, last: &[u8]) -> Option<Item>
+    requires { (size ≤ length s.now) × (label_at found.form ≤ size) }
     ensures { Labelled result found s.now size last.now }
 {
-    let Head::Known { code, form } = found else {
-        return Plain::Other;
-    };
+    let Head { code, form } = found;
     let name = &s[label_at(form)..size];
     let kept = wire::common_start(last, name);
     if !part::one_byte(last.len() - kept, name.len() - kept) {
-        return Plain::Other;
+        return None;
     }
-    let item = Item {
+    Some(Item {
         size,
         kept,
         code,
         form,
-    };
-    Plain::One { item }
+    })
 }
 
 // The record at the front of s, in a sheet of the version, where the state has this mark,
 // position and label `last`.
-pub fn find(s: &[u8], version: u8, mark: u64, position: Position, last: &[u8]) -> Plain
+pub fn find(s: &[u8], version: u8, mark: u64, position: Option<Point>, last: &[u8]) -> Option<Item>
     ensures { Found result version s.now mark position last.now }
 {
     if !sheet::is_framed(s) {
-        return Plain::Other;
+        return None;
     }
     let n = sheet::size_of(number::get_be16(s));
-    let found = head_of(s, n, version, mark, position);
+    let found = head_of(s, n, version, mark, position)?;
     with_label(s, 2 + n, found, last)
 }
 
 // The leg or the station of the record s, whose body has n bytes; of stations those whose
 // flags v7 has too.
-fn placed_head(s: &[u8], n: usize, mark: u64, position: Position) -> Head
+fn placed_head(s: &[u8], n: usize, mark: u64, position: Option<Point>) -> Option<Head>
     requires { (n ≡ be16 s.now) × (framed s.now ≡ true) }
     ensures { PlacedTold result s.now mark position }
 {
@@ -229,26 +212,26 @@ fn placed_head(s: &[u8], n: usize, mark: u64, position: Position) -> Head
         return leg_head(s, n, mark, position);
     }
     if kind != 2 {
-        return Head::Other;
+        return None;
     }
     if n < 2 {
-        return Head::Other;
+        return None;
     }
     if 0x1f < s[3] {
-        return Head::Other;
+        return None;
     }
     station_head(s, n)
 }
 
 // The leg or the station at the front of s, in a sheet of any version, for v7.
-pub fn find_placed(s: &[u8], mark: u64, position: Position, last: &[u8]) -> Plain
+pub fn find_placed(s: &[u8], mark: u64, position: Option<Point>, last: &[u8]) -> Option<Item>
     ensures { FoundPlaced result s.now mark position last.now }
 {
     if !sheet::is_framed(s) {
-        return Plain::Other;
+        return None;
     }
     let n = sheet::size_of(number::get_be16(s));
-    let found = placed_head(s, n, mark, position);
+    let found = placed_head(s, n, mark, position)?;
     with_label(s, 2 + n, found, last)
 }
 
@@ -392,14 +375,14 @@ pub fn put_placed(out: &mut [u8], code: u8, added: &[u8], form: Form, s: &[u8]) 
 }
 
 // The position that the record s leaves.
-pub fn position_after(form: Form, s: &[u8], old: Position) -> Position
+pub fn position_after(form: Form, s: &[u8], old: Option<Point>) -> Option<Point>
     requires { label_at form ≤ length s.now }
     ensures { result ≡ position_after form s.now old }
 {
     match form {
         Form::Leg => {
             let point = sheet::point(&s[22..]);
-            Position::Stands { point }
+            Some(point)
         }
         Form::Station => old,
         Form::Narrow => old,

@@ -1,4 +1,6 @@
 -- A turn of the loop over a sheet's records: what is left, with the legs taken in so far, comes to the same as the whole. Assumes nothing.
+use Rattle.std.specs.Prelude.{Some, None}
+use Rattle.std.proofs.lemmas.Option.{none-some, same_Some}
 use Prim.Native.Nat.{ℕ, suc, ◌+◌, ◌-◌, ◌≤◌, ◌<◌}
 use mathlib.Core.Path.{◌≡◌, refl, sym, ap, ap₂, ◌∙◌}
 use mathlib.Core.List.{List, [], ◌∷◌}
@@ -12,12 +14,10 @@ use lib.IntN.{ℤ}
 use borrow.Author.Tests.{eqb-true, eqb-false, eq-eqb, ne_eqb}
 use Rattle.format.specs.Bytes.{pick, be16, to_be16, Bytes}
 use Rattle.format.specs.State.{Record, leg, station, section, error}
-use Rattle.format.specs.Refusals.{Result, stop, also}
+use Rattle.format.specs.Refusals.{Result, stop, also, Verdict, Good, Refusal}
 use Rattle.format.specs.Sheet.{leg_size, label_from, leg_fields, good_front, version_of, version_result, sheet_result, layout, leg_entry, Entry, flawed, entry, entry_of, framed, records_from, records_of}
 use Rattle.format.specs.Reach.{highest, lowest, takes_part, legs_of, ends, along, bounds_of, spans, unspanned, reach_from, result_reach, reach_of}
 use Rattle.format.specs.declared.Leg.{Leg}
-use Rattle.format.specs.declared.Verdict.{Verdict}
-use Rattle.format.specs.declared.Verdict.TheVariants.{Good, Refusal}
 use Rattle.format.proofs.Basics.{pick_case, pick_true, pick_false, both}
 use Rattle.format.proofs.SheetLaws.{fits, entry_sized, entry_read, records_none, records_more}
 use Rattle.sheet.specs.Seen.{Fronted}
@@ -26,23 +26,23 @@ use Rattle.reach.specs.Reaching.{row_from, bounds_from, size_of, ends_at, takes_
 
 -- ---- the record at the front of s, by its size
 
-pub none_there : (version : ℕ) (s : List ℕ) (n : ℕ) → n ≡ size_of (entry_of version s) → n ≡ 0 → entry_of version s ≡ flawed
-none_there version s n e z = go (entry_of version s) refl (sym e ∙ z)
+pub none_there : (version : ℕ) (s : List ℕ) → None ≡ size_of (entry_of version s) → entry_of version s ≡ flawed
+none_there version s e = go (entry_of version s) e
   where
-    go : (x : Entry) → entry_of version s ≡ x → size_of x ≡ 0 → x ≡ flawed
-    go flawed q h = refl
-    go (entry k r) q h = absurd (omega (arith, (entry_sized version s q).least))
+    go : (x : Entry) → None ≡ size_of x → x ≡ flawed
+    go flawed h = refl
+    go (entry k r) h = absurd (none-some k h)
 
 pub record There (version : ℕ) (s : List ℕ) (n : ℕ) : Type 0 where
   pub kept : Record
   pub same : entry_of version s ≡ entry n kept
 
-pub there : (version : ℕ) (s : List ℕ) (n : ℕ) → n ≡ size_of (entry_of version s) → (n ≡ 0 → ⊥) → There version s n
-there version s n e z = go (entry_of version s) refl e
+pub there : (version : ℕ) (s : List ℕ) (n : ℕ) → Some n ≡ size_of (entry_of version s) → There version s n
+there version s n e = go (entry_of version s) refl e
   where
-    go : (x : Entry) → entry_of version s ≡ x → n ≡ size_of x → There version s n
-    go flawed q h = absurd (z h)
-    go (entry k r) q h = record { kept = r; same = q ∙ ap (λ (j : ℕ). entry j r) (sym h) }
+    go : (x : Entry) → entry_of version s ≡ x → Some n ≡ size_of x → There version s n
+    go flawed q h = absurd (none-some n (sym h))
+    go (entry k r) q h = record { kept = r; same = q ∙ ap (λ (j : ℕ). entry j r) (sym (same_Some n k h)) }
 
 -- a leg
 pub record LegThere (s : List ℕ) (n : ℕ) (r : Record) : Type 0 where
@@ -124,11 +124,11 @@ module _ {v : ℕ} {sheet name : List ℕ} {begin at number legs : ℕ} {b : Lis
       let m : records_from v R.place (drop at sheet) number ≡ stop Good = rw d (records_none v R.place number) in
       rw m at R.same
 
-  pub reaching_flawed : at < length sheet → (n : ℕ) → n ≡ size_of (entry_of v (drop at sheet)) → n ≡ 0 → unspanned 12 number ≡ result_reach name (records_of v (drop begin sheet))
-  reaching_flawed h n e z =
+  pub reaching_flawed : at < length sheet → None ≡ size_of (entry_of v (drop at sheet)) → unspanned 12 number ≡ result_reach name (records_of v (drop begin sheet))
+  reaching_flawed h e =
       let l = length-drop at sheet in
       let m = records_more v R.place (drop at sheet) number (omega arith) in
-      let f : records_from v R.place (drop at sheet) number ≡ stop (Refusal 12 number) = rw (none_there v (drop at sheet) n e z) at m in
+      let f : records_from v R.place (drop at sheet) number ≡ stop (Refusal 12 number) = rw (none_there v (drop at sheet) e) at m in
       rw f at R.same
 
   module _ (n : ℕ) (r : Record) (e : entry_of v (drop at sheet) ≡ entry n r) where

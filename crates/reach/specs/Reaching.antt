@@ -1,14 +1,12 @@
 -- The bounds as the code holds them, two rows of three, and what is left to take in. Assumes nothing.
-use Rattle.std.specs.Prelude.{ℕ, ◌+◌, ◌-◌, List, [], ◌∷◌, Bool, ◌&&◌, length, get_or, take, drop, eqb, ℤ, pos}
+use Rattle.std.specs.Prelude.{ℕ, ◌+◌, ◌-◌, List, [], ◌∷◌, Bool, ◌&&◌, length, get_or, take, drop, eqb, ℤ, pos, Option, Some, None}
 use Rattle.format.specs.Bytes.{pick, be32}
 use Rattle.format.specs.Items.{point_of}
 use Rattle.format.specs.Sheet.{Entry, flawed, entry}
-use Rattle.format.specs.Refusals.{Result}
+use Rattle.format.specs.Refusals.{Result, Verdict, Good, Refusal}
 use Rattle.format.specs.Reach.{axis_x, axis_y, axis_z, lesser, greater, along, takes_part, legs_of, ends, ReachOutcome, spans, unspanned}
 use Rattle.format.specs.declared.Point.{Point}
 use Rattle.format.specs.declared.Leg.{Leg}
-use Rattle.format.specs.declared.Verdict.{Verdict}
-use Rattle.format.specs.declared.Verdict.TheVariants.{Good, Refusal}
 
 -- ---- bounds with places taken in
 
@@ -20,10 +18,10 @@ bounds_from b ps = row_from lesser (get_or b 0 []) ps ∷ row_from greater (get_
 
 -- ---- the record at the front of s
 
--- its size, or 0 where none is well-formed
-abbrev pub size_of : Entry → ℕ
-size_of flawed = 0
-size_of (entry n r) = n
+-- its size, where it is well-formed
+abbrev pub size_of : Entry → Option ℕ
+size_of flawed = None
+size_of (entry n r) = Some n
 
 -- both ends of a leg's record
 abbrev pub ends_at : List ℕ → List Point

@@ -9,7 +9,7 @@ ghost use Rattle.format.specs.Reach.{signed, lesser, greater, highest, lowest, b
 ghost use Rattle.format.specs.Answers.{reached_of};
 ghost use Rattle.reach.specs.Reaching.{row_from, bounds_from, size_of, ends_at, takes_at, legs_reach_from};
 
-use format::{Corner, Point, Reached};
+use format::{Corner, Fault, Point, Reached, Refusal};
 
 // ---- the box
 
@@ -109,6 +109,7 @@ fn begins_long(s: &[u8], name: &[u8]) -> bool
 {
     let last = name.len() - 8;
     let mut i = 0;
+    // a while, since a turn passes eight bytes
     while i < last {
         if !same_word(&s[i..], &name[i..]) {
             return false;
@@ -162,49 +163,42 @@ fn takes(s: &[u8], size: usize, name: &[u8]) -> bool
 
 // ---- the sheet
 
-// The size of the leg's record s, whose body has n bytes; 0 where it is not well-formed.
-fn leg_size(s: &[u8], n: usize) -> usize
+// The size of the leg's record s, whose body has n bytes, where it is well-formed.
+fn leg_size(s: &[u8], n: usize) -> Option<usize>
     requires { 2 + n ≤ length s.now }
     ensures { result ≡ size_of (leg_entry n (drop 2 s.now)) }
 {
     if !sheet::label_fits(n, 32) {
-        return 0;
+        return None;
     }
     if 0x07 < s[3] {
-        return 0;
+        return None;
     }
     if 5 < s[4] {
-        return 0;
+        return None;
     }
     let first = sheet::day_of(number::get_be16(&s[6..]));
     let last = sheet::day_of(number::get_be16(&s[8..]));
     if !sheet::good_date(s[5], first, last) {
-        return 0;
+        return None;
     }
-    2 + n
+    Some(2 + n)
 }
 
-// The size of the record at the front of s, whatever it is; 0 where none is well-formed.
-pub fn other_size(s: &[u8], version: u8) -> usize
+// The size of the record at the front of s, whatever it is, where it is well-formed.
+pub fn other_size(s: &[u8], version: u8) -> Option<usize>
     ensures { result ≡ size_of (entry_of version s.now) }
 {
-    let entry = sheet::read_entry(s, version);
-    match entry {
-        sheet::Entry::Flawed => 0,
-        sheet::Entry::Whole {
-            size,
-            fields: _,
-            from: _,
-        } => size,
-    }
+    let entry = sheet::read_entry(s, version)?;
+    Some(entry.size)
 }
 
 // The same: a leg is judged without being taken apart.
-fn size_at(s: &[u8], version: u8) -> usize
+fn size_at(s: &[u8], version: u8) -> Option<usize>
     ensures { result ≡ size_of (entry_of version s.now) }
 {
     if !sheet::is_framed(s) {
-        return 0;
+        return None;
     }
     if s[2] != 1 {
         return other_size(s, version);
@@ -214,14 +208,11 @@ fn size_at(s: &[u8], version: u8) -> usize
 }
 
 // What so many legs reach, whose ends are all in the box.
-fn answer(b: [[i32; 3]; 2], legs: usize) -> Reached
+fn answer(b: [[i32; 3]; 2], legs: usize) -> Result<Reached, Refusal>
     ensures { reached_of result ≡ legs_reach_from legs b [] }
 {
     if legs == 0 {
-        return Reached::Refused {
-            number: 21,
-            place: 0,
-        };
+        return Err(Fault::NoLegs.at(0));
     }
     let least = Corner {
         x: b[0][0],
@@ -233,15 +224,15 @@ fn answer(b: [[i32; 3]; 2], legs: usize) -> Reached
         y: b[1][1],
         z: b[1][2],
     };
-    Reached::Box {
+    Ok(Reached {
         legs,
         least,
         greatest,
-    }
+    })
 }
 
 // How far the survey reaches in the records of a sheet of the version, from `begin` on.
-fn records_reach(sheet: &[u8], version: u8, begin: usize, name: &[u8]) -> Reached
+fn records_reach(sheet: &[u8], version: u8, begin: usize, name: &[u8]) -> Result<Reached, Refusal>
     requires { begin ≤ length sheet.now }
     ensures { reached_of result ≡ result_reach name.now (records_of version (drop begin sheet.now)) }
 {
@@ -249,15 +240,12 @@ fn records_reach(sheet: &[u8], version: u8, begin: usize, name: &[u8]) -> Reache
     let mut number: usize = 0;
     let mut legs: usize = 0;
     let mut bounds = unbounded();
+    // a while, since each record has a size of its own
     while at < sheet.len() {
         let rest = &sheet[at..];
-        let size = size_at(rest, version);
-        if size == 0 {
-            return Reached::Refused {
-                number: 12,
-                place: number,
-            };
-        }
+        let Some(size) = size_at(rest, version) else {
+            return Err(Fault::BrokenLayout.at(number));
+        };
         if takes(rest, size, name) {
             let wider = with_leg(bounds, rest);
             bounds = wider;
@@ -273,20 +261,12 @@ fn records_reach(sheet: &[u8], version: u8, begin: usize, name: &[u8]) -> Reache
 }
 
 // How far the survey of that name reaches in a sheet.
-pub fn reach(sheet: &[u8], name: &[u8]) -> Reached
+pub fn reach(sheet: &[u8], name: &[u8]) -> Result<Reached, Refusal>
     ensures { reached_of result ≡ reach_of sheet.now name.now }
 {
     let version = sheet::version_of(sheet);
-    let front = sheet::read_front(sheet, version);
-    match front {
-        sheet::Front::Flawed => Reached::Refused {
-            number: 12,
-            place: 0,
-        },
-        sheet::Front::Whole {
-            extended: _,
-            title,
-            time,
-        } => records_reach(sheet, version, 7 + title + time, name),
-    }
+    let Some(front) = sheet::read_front(sheet, version) else {
+        return Err(Fault::BrokenLayout.at(0));
+    };
+    records_reach(sheet, version, 7 + front.title + front.time, name)
 }

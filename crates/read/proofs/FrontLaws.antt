@@ -1,5 +1,6 @@
 -- An item is settled by its own bytes. With other bytes behind them it is the same item; and where bytes are too few for an item, whatever comes
 -- behind them makes an item that is longer than they are, or none. Assumes nothing.
+use Rattle.std.specs.Prelude.{Option, None, Some}
 use Prim.Native.Nat.{ℕ, zero, suc, ◌+◌, ◌-◌, ◌%◌, ◌≤◌, ◌<◌}
 use mathlib.Core.Path.{◌≡◌, refl, sym, ap, ap₂, ◌∙◌}
 use mathlib.Core.List.{List, [], ◌∷◌, ◌++◌}
@@ -10,11 +11,10 @@ use lib.Dec.{eqb, ltb}
 use lib.Seq.{drop-drop, length-take-le}
 use borrow.Author.Tests.{ltb-true, ltb-false, le-ltb, eqb-false, eq-eqb, ne_eqb}
 use Rattle.format.specs.Bytes.{pick, le16, le32, widened}
-use Rattle.format.specs.Items.{Item, Move, Date, Error, Xsect, Label, Line, Decoded, faulty, whole, sized, with_part, behind_code, labelled_item, station_item, line_item, section_item, move_item, error_item, day_item, span_item, days_item, seconds_item, two_seconds_item, day_of_seconds, old_part, length_size, length_value, long_part, new_part, old_date_item, v7_date_item, old_middle_item, old_low_item, old_high_item, new_date_item, new_low_item, new_high_item, point_of, dimensions_of, traverse_of, item_of}
+use Rattle.format.specs.Items.{Item, Move, Date, Error, Xsect, Label, Line, Decoded, faulty, whole, sized, with_part, behind_code, labelled_item, station_item, line_item, section_item, move_item, error_item, day_item, span_item, days_item, seconds_item, two_seconds_item, day_of_seconds, old_part, length_size, length_value, long_part, new_part, old_date_item, v7_date_item, old_middle_item, old_low_item, old_high_item, new_date_item, new_low_item, new_high_item, point_of, dimensions_of, traverse_of, item_of, numbers}
 use Rattle.format.specs.declared.Point.{Point}
 use Rattle.format.specs.declared.Dimensions.{Dimensions}
 use Rattle.format.specs.declared.LabelPart.{LabelPart}
-use Rattle.format.specs.declared.LabelPart.TheVariants.{Unfinished, Numbers}
 use Rattle.format.proofs.Basics.{pick_case}
 use Rattle.format.proofs.ReadingLaws.{SizedItem, progress}
 
@@ -97,25 +97,25 @@ unfolding pick
 pick_false c a b e = rw e
 
 -- the same of a label part's numbers
-abbrev PartLonger : ℕ → LabelPart → Type 0
-PartLonger m Unfinished = Unit
-PartLonger m (Numbers k d a) = m < k
+abbrev PartLonger : ℕ → Option LabelPart → Type 0
+PartLonger m None = Unit
+PartLonger m (Some q) = m < q.size
 
-abbrev PartGrows : ℕ → LabelPart → LabelPart → Type 0
-PartGrows m Unfinished y = PartLonger m y
-PartGrows m (Numbers k d a) y = y ≡ Numbers k d a
+abbrev PartGrows : ℕ → Option LabelPart → Option LabelPart → Type 0
+PartGrows m None y = PartLonger m y
+PartGrows m (Some q) y = y ≡ numbers q.size q.drop q.add
 
-part_pick : (m : ℕ) (c : Bool) (a b a' b' : LabelPart) → PartGrows m a a' → PartGrows m b b' → PartGrows m (pick c a b) (pick c a' b')
+part_pick : (m : ℕ) (c : Bool) (a b a' b' : Option LabelPart) → PartGrows m a a' → PartGrows m b b' → PartGrows m (pick c a b) (pick c a' b')
 unfolding pick
 part_pick m true a b a' b' p q = p
 part_pick m false a b a' b' p q = q
 
-part_skip : (m : ℕ) (c c' : Bool) (a b a' b' : LabelPart) → c ≡ false → c' ≡ false → PartGrows m b b' → PartGrows m (pick c a b) (pick c' a' b')
+part_skip : (m : ℕ) (c c' : Bool) (a b a' b' : Option LabelPart) → c ≡ false → c' ≡ false → PartGrows m b b' → PartGrows m (pick c a b) (pick c' a' b')
 unfolding pick
 part_skip m c c' a b a' b' e e' g = rw (e, e') g
 
 -- what is not finished yet
-part_open : (m : ℕ) (c : Bool) (b y : LabelPart) → c ≡ true → PartLonger m y → PartGrows m (pick c Unfinished b) y
+part_open : (m : ℕ) (c : Bool) (b y : Option LabelPart) → c ≡ true → PartLonger m y → PartGrows m (pick c None b) y
 unfolding pick
 part_open m c b y e g = rw e g
 
@@ -134,11 +134,11 @@ module _ (u t : List ℕ) where
       (λ e. let l = ltb-false (length u) k e in pick_false _ _ _ (enough k l) ∙ ap (whole k) (h l))
 
   part_sized : (k d a a' : ℕ) → (k ≤ length u → a' ≡ a)
-      → PartGrows (length u) (pick (ltb (length u) k) Unfinished (Numbers k d a)) (pick (ltb (length (u ++ t)) k) Unfinished (Numbers k d a'))
+      → PartGrows (length u) (pick (ltb (length u) k) None (numbers k d a)) (pick (ltb (length (u ++ t)) k) None (numbers k d a'))
   part_sized k d a a' h =
-      pick_case (λ (y : LabelPart). PartGrows (length u) y (pick (ltb (length (u ++ t)) k) Unfinished (Numbers k d a'))) (ltb (length u) k) Unfinished (Numbers k d a)
-      (λ e. pick_case (PartLonger (length u)) (ltb (length (u ++ t)) k) Unfinished (Numbers k d a') (λ f. tt) (λ f. ltb-true (length u) k e))
-      (λ e. let l = ltb-false (length u) k e in pick_false _ _ _ (enough k l) ∙ ap (Numbers k d) (h l))
+      pick_case (λ (y : Option LabelPart). PartGrows (length u) y (pick (ltb (length (u ++ t)) k) None (numbers k d a'))) (ltb (length u) k) None (numbers k d a)
+      (λ e. pick_case (PartLonger (length u)) (ltb (length (u ++ t)) k) None (numbers k d a') (λ f. tt) (λ f. ltb-true (length u) k e))
+      (λ e. let l = ltb-false (length u) k e in pick_false _ _ _ (enough k l) ∙ ap (numbers k d) (h l))
 
   -- ---- items without a label
 
@@ -184,23 +184,23 @@ module _ (u t : List ℕ) where
   behind m (whole n it) y g = ap behind_code g
 
   part_rest : (k a n : ℕ) (make : ℕ → List ℕ → List ℕ → Item) (d : ℕ) → ((v : List ℕ) (added : List ℕ) → n ≤ length v → make d added (v ++ t) ≡ make d added v)
-      → Grows (length u) (with_part (Numbers k d a) u n make) (with_part (Numbers k d a) (u ++ t) n make)
+      → Grows (length u) (with_part (numbers k d a) u n make) (with_part (numbers k d a) (u ++ t) n make)
   part_rest k a n make d h =
       grow_sized (k + a + n) _ _ λ l.
       let e : take a (drop k (u ++ t)) ≡ take a (drop k u) = ap (take a) (drop_front k u t (omega arith)) ∙ take_front a (drop k u) t (let z = length-drop k u in omega arith) in
       rw e (front_at (make d (take a (drop k u))) n t (λ v l'. h v _ l') (k + a) u l)
 
-  part_longer : (k d a n : ℕ) (make : ℕ → List ℕ → List ℕ → Item) → length u < k → Longer (length u) (with_part (Numbers k d a) (u ++ t) n make)
+  part_longer : (k d a n : ℕ) (make : ℕ → List ℕ → List ℕ → Item) → length u < k → Longer (length u) (with_part (numbers k d a) (u ++ t) n make)
   unfolding sized
   part_longer k d a n make g = pick_case (Longer (length u)) _ _ _ (λ f. tt) (λ f. omega arith)
 
-  with_part_lem : (p q : LabelPart) → PartGrows (length u) p q → (n : ℕ) (make : ℕ → List ℕ → List ℕ → Item)
+  with_part_lem : (p q : Option LabelPart) → PartGrows (length u) p q → (n : ℕ) (make : ℕ → List ℕ → List ℕ → Item)
       → ((d : ℕ) (v : List ℕ) (added : List ℕ) → n ≤ length v → make d added (v ++ t) ≡ make d added v) → Grows (length u) (with_part p u n make) (with_part q (u ++ t) n make)
-  with_part_lem Unfinished Unfinished g n make h = tt
-  with_part_lem Unfinished (Numbers k d a) g n make h = part_longer k d a n make g
-  with_part_lem (Numbers k d a) q g n make h = rw g (part_rest k a n make d (h d))
+  with_part_lem None None g n make h = tt
+  with_part_lem None (Some q) g n make h = part_longer q.size q.drop q.add n make g
+  with_part_lem (Some p) q g n make h = rw g (part_rest p.size p.add n make p.drop (h p.drop))
 
-  module _ (p q : LabelPart) (g : PartGrows (length u) p q) where
+  module _ (p q : Option LabelPart) (g : PartGrows (length u) p q) where
     grow_labelled : (n : ℕ) (make : ℕ → List ℕ → List ℕ → Item) → ((d : ℕ) (v : List ℕ) (added : List ℕ) → n ≤ length v → make d added (v ++ t) ≡ make d added v)
         → Grows (1 + length u) (labelled_item p u n make) (labelled_item q (u ++ t) n make)
     unfolding labelled_item
@@ -422,7 +422,7 @@ module _ (u t : List ℕ) where
       (grow_pick m (ltb code 0x40) _ _ _ _ tt
       (grow_pick m (ltb code 0x48) _ _ _ _ (grow_line u t _ _ p (code - 0x40))
       (grow_pick m (ltb code 0x60) _ _ _ _ tt
-      (grow_pick m (ltb code 0x68) _ _ _ _ (grow_line u t (Numbers 0 0 0) (Numbers 0 0 0) refl (code - 0x60))
+      (grow_pick m (ltb code 0x68) _ _ _ _ (grow_line u t (numbers 0 0 0) (numbers 0 0 0) refl (code - 0x60))
       (grow_pick m (ltb code 0x80) _ _ _ _ tt
       (grow_station u t _ _ p (code - 0x80)))))))
 

@@ -17,11 +17,9 @@ use Rattle.format.specs.Items.{Item, Stop, Shorten, Style, Move, NoDate, Date, E
 use Rattle.format.specs.State.{State, start, Record, Next, bad, end, on, made, on_label, apply}
 use Rattle.format.specs.Label.{label_step}
 use Rattle.format.specs.Reading.{next, run, items_of, read_outcome, read_buffer, read_from}
-use Rattle.format.specs.Refusals.{Result, accepted, refused, outcome_of}
+use Rattle.format.specs.Refusals.{Result, accepted, refused, outcome_of, Verdict, Good, Refusal}
 use Rattle.format.specs.declared.Cut.{Cut}
 use Rattle.format.specs.declared.Cut.TheVariants.{Empty, Back}
-use Rattle.format.specs.declared.Verdict.{Verdict}
-use Rattle.format.specs.declared.Verdict.TheVariants.{Good, Refusal}
 use Rattle.format.proofs.Basics.{pick_case}
 use Rattle.format.proofs.ApplyLaws.{label_case, leg_case}
 use Rattle.format.proofs.HeaderLaws.{opening_fits}

@@ -8,9 +8,7 @@ use lib.Seq.{length-take-le, take_all, drop-length}
 use Rattle.format.specs.Bytes.{over}
 use Rattle.format.specs.State.{State, start_setting, start, Next}
 use Rattle.format.specs.Sheet.{sheet_version, layout, layout_all}
-use Rattle.format.specs.Refusals.{Result, stop}
-use Rattle.format.specs.declared.Verdict.TheVariants.{Refusal}
-use Rattle.format.specs.declared.Verdict.{Verdict}
+use Rattle.format.specs.Refusals.{Result, stop, Refusal, Verdict}
 use Rattle.format.specs.Reading.{next, ended, run, items_of}
 use Rattle.format.specs.Fields.{record_of, state_of, record_size}
 use Rattle.format.specs.declared.Fields.{Fields}
@@ -20,12 +18,14 @@ use Rattle.wire.proofs.Laws.{laid_within, length_over, laid_zero, laid_next}
 use Rattle.layout.specs.Freely.{LaidFreely}
 use Rattle.label.specs.declared.Label.{Label}
 use Rattle.item.specs.Seen.{seen, Tells}
+use Rattle.std.specs.Prelude.{Result as Answer, Ok, Err}
+use Rattle.format.specs.Faults.{fault_number}
+use Rattle.format.specs.declared.Fault.{Fault}
 use Rattle.format.specs.declared.Setting.{Setting}
 use Rattle.item.specs.declared.Step.{Step}
-use Rattle.item.specs.declared.Step.TheVariants.{Bad, End, On, Made}
+use Rattle.item.specs.declared.Step.TheVariants.{End, On, Made}
 use Rattle.format.proofs.SheetLaws.{layout_size}
-use Rattle.measure.specs.Totals.{passed_by, pass_of}
-use Rattle.measure.specs.declared.Passed.{Passed}
+use Rattle.measure.specs.Totals.{Total, total_by, pass_of}
 use Rattle.measure.proofs.Sums.{pass_also, pass_stop}
 use Rattle.measure.proofs.Turn.{left_end}
 use Rattle.read.specs.Turning.{LaidBy}
@@ -33,7 +33,7 @@ use Rattle.read.specs.Turning.{LaidBy}
 -- ---- a record is laid in just where one is made
 
 -- what a step tells, laid in
-pub told_laid : (n m : ℕ) (st : Setting) (f : Fields) (kept : ℕ) (b d d' : List ℕ) (k : ℕ) (x : Next) → Tells (Made n m st f kept) b x
+pub told_laid : (n m : ℕ) (st : Setting) (f : Fields) (kept : ℕ) (b d d' : List ℕ) (k : ℕ) (x : Next) → Tells (Ok (Made n m st f kept)) b x
     → LaidFreely d d' k (layout sheet_version (record_of f (take m b))) → LaidBy x d d' k
 told_laid n m st f kept b d d' k x T L = rw (← T.same) L
 
@@ -52,7 +52,7 @@ abbrev pub left : ℕ → List ℕ → ℕ → Setting → Label → Result
 left version file at setting label = run version at (drop at file) (state_of setting (text label))
 
 -- what an item's step tells there
-abbrev pub Found : ℕ → List ℕ → ℕ → Setting → Label → Step → List ℕ → Type 0
+abbrev pub Found : ℕ → List ℕ → ℕ → Setting → Label → Answer Step Fault → List ℕ → Type 0
 Found version file at setting label it b = Tells it b (next version (take (length file - at) (drop at file)) (state_of setting (text label)))
 
 -- ---- the loop: what is left of the file, with the counts and the sheet so far, comes to the same as the whole
@@ -103,13 +103,13 @@ module _ (version : ℕ) (file : List ℕ) (place : ℕ) (sheet₀ : List ℕ) (
   -- the records that are left end where the whole sheet does
   bytes_left_lem : out + length (layout_all sheet_version (left version file at setting label).records) ≡ front + length all
   unfolding pass_of
-  bytes_left_lem = ap (λ (q : Passed). q.bytes) G.answer
+  bytes_left_lem = ap (λ (q : Total). q.bytes) G.answer
 
   -- the pass ends here
-  abbrev pub Ends : Passed → List ℕ → Type 0
+  abbrev pub Ends : Total → List ℕ → Type 0
   Ends a s = (a ≡ pass_of front 0 (items_of version place file)) × LaidFreely sheet₀ s front all
 
-  ends : {v : Verdict} {s : List ℕ} → left version file at setting label ≡ stop v → s ≡ sheet → Ends (passed_by v out records) s
+  ends : {v : Verdict} {s : List ℕ} → left version file at setting label ≡ stop v → s ≡ sheet → Ends (total_by v out records) s
   unfolding layout_all
   ends {v} {s} e q =
       let n : out ≡ front + length all = let z = rw e at bytes_left_lem in omega arith in (
@@ -120,24 +120,24 @@ module _ (version : ℕ) (file : List ℕ) (place : ℕ) (sheet₀ : List ℕ) (
         },
       )
 
-  pub ends_bad : (k : ℕ) (b s : List ℕ) → Found version file at setting label (Bad k) b → s ≡ sheet → Ends (passed_by (Refusal k at) out records) s
+  pub ends_bad : (k : Fault) (b s : List ℕ) → Found version file at setting label (Err k) b → s ≡ sheet → Ends (total_by (Refusal (fault_number k) at) out records) s
   ends_bad k b s T e = ends (left_bad version file at state T.same) e
 
-  pub ends_end : (b s : List ℕ) → Found version file at setting label End b → s ≡ sheet
-      → Ends (passed_by (ended at (take (length file - at) (drop at file))) out records) s
+  pub ends_end : (b s : List ℕ) → Found version file at setting label (Ok End) b → s ≡ sheet
+      → Ends (total_by (ended at (take (length file - at) (drop at file))) out records) s
   ends_end b s T e = ends (left_end version file at state T.same) e
 
   -- the item's bytes are there; which buffer they are seen by is all one
-  pub item_within : (it : Step) (b : List ℕ) → Found version file at setting label it b → Within (length file) at (seen it [])
-  item_within (Bad k) b T = tt
-  item_within End b T = tt
-  item_within (On n m st) b T = there_within version file at state G.stands.inside T.same
-  item_within (Made n m st f kept) b T = there_within version file at state G.stands.inside T.same
+  pub item_within : (it : Answer Step Fault) (b : List ℕ) → Found version file at setting label it b → Within (length file) at (seen it [])
+  item_within (Err k) b T = tt
+  item_within (Ok End) b T = tt
+  item_within (Ok (On n m st)) b T = there_within version file at state G.stands.inside T.same
+  item_within (Ok (Made n m st f kept)) b T = there_within version file at state G.stands.inside T.same
 
-  pub going_on : (n m : ℕ) (st : Setting) (b s : List ℕ) → Found version file at setting label (On n m st) b → Laid s
+  pub going_on : (n m : ℕ) (st : Setting) (b s : List ℕ) → Found version file at setting label (Ok (On n m st)) b → Laid s
       → Going version file place sheet₀ front s (at + n) out records st (record { bytes = b; len = m })
   going_on n m st b s T e =
-      let z = item_within (On n m st) b T in
+      let z = item_within (Ok (On n m st)) b T in
       let q : s ≡ sheet = rw (← T.same) at e in
       let l = left_on version file at state T.same in
       record {
@@ -150,11 +150,11 @@ module _ (version : ℕ) (file : List ℕ) (place : ℕ) (sheet₀ : List ℕ) (
       }
 
   pub going_made : (n m size : ℕ) (st : Setting) (f : Fields) (own : ℕ) (b s : List ℕ)
-      → Found version file at setting label (Made n m st f own) b → Laid s
+      → Found version file at setting label (Ok (Made n m st f own)) b → Laid s
       → (size ≡ record_size f m) × (size ≤ 4130) → Going version file place sheet₀ front s (at + n) (out + size) (records + 1) st (record { bytes = b; len = m })
   unfolding layout_all
   going_made n m size st f own b s T e q =
-      let z = item_within (Made n m st f own) b T in
+      let z = item_within (Ok (Made n m st f own)) b T in
       let r = record_of f (take m b) in
       let t : length (take m b) ≡ m = length-take-le m b (omega (arith, T.short, T.whole)) in
       let k : size ≡ length (layout sheet_version r) = q.0 ∙ sym (layout_size f (take m b) ∙ rw t) in

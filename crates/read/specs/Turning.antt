@@ -1,30 +1,29 @@
 -- What an item comes to in a pass. Assumes nothing.
-use Rattle.std.specs.Prelude.{ℕ, ◌+◌, ◌^◌, ◌≤◌, ◌<◌, ◌≡◌, List, length, take}
+use Rattle.std.specs.Prelude.{ℕ, ◌+◌, ◌^◌, ◌≤◌, ◌<◌, ◌≡◌, List, length, take, Option, None, Some, Result, Ok, Err}
 use Rattle.format.specs.Label.{label_limit}
 use Rattle.format.specs.Reading.{next}
 use Rattle.format.specs.State.{Next, bad, end, on, made, leg}
 use Rattle.format.specs.Sheet.{sheet_version, layout, record_limit}
 use Rattle.format.specs.Fields.{state_of, record_size}
+use Rattle.format.specs.declared.Fault.{Fault}
 use Rattle.format.specs.declared.Setting.{Setting}
 use Rattle.format.specs.declared.Point.{Point}
-use Rattle.format.specs.declared.Position.TheVariants.{Unset, Stands}
 use Rattle.layout.specs.Freely.{LaidFreely}
 use Rattle.short.specs.Brief.{place_at, leg_at}
 use Rattle.item.specs.Seen.{Tells}
 use Rattle.item.specs.Commonest.{moved_to, trim_step}
 use Rattle.item.specs.declared.Step.{Step}
-use Rattle.item.specs.declared.Step.TheVariants.{Bad as BadStep, End as EndStep, On as OnStep, Made as MadeStep}
+use Rattle.item.specs.declared.Step.TheVariants.{End as EndStep, On as OnStep, Made as MadeStep}
 use Rattle.laying.specs.Quickly.{name_of}
 use Rattle.laying.specs.declared.Joint.{Joint}
 use Rattle.read.specs.declared.Before.{Before}
 use Rattle.read.specs.declared.Moved.{Moved}
 use Rattle.read.specs.declared.Progress.{Progress}
-use Rattle.read.specs.declared.Rule.TheVariants.{Off}
 use Rattle.read.specs.declared.Stand.{Stand}
 use Rattle.read.specs.declared.Common.{Common}
-use Rattle.read.specs.declared.Common.TheVariants.{Other, Trim, Went as WentOn}
+use Rattle.read.specs.declared.Common.TheVariants.{Trim, Went as WentOn}
 use Rattle.read.specs.declared.Turned.{Turned}
-use Rattle.read.specs.declared.Turned.TheVariants.{Bad, End, Went}
+use Rattle.read.specs.declared.Turned.TheVariants.{End, Went}
 
 -- ---- before an item: b is the label's buffer, s the bytes from the item on
 
@@ -67,11 +66,11 @@ abbrev pub same_joint : Progress → Joint
 same_joint y = record { keep = y.len; add = 0; size = 13; out = y.out }
 
 -- a step goes so far, with this setting after it
-abbrev pub MovesBy : Step → Moved → Setting → Type 0
-MovesBy (BadStep k) by after = ⊥
-MovesBy EndStep by after = ⊥
-MovesBy (OnStep n m st) by after = (by ≡ record { size = n; len = m; bytes = 0; records = 0 }) × (st ≡ after)
-MovesBy (MadeStep n m st f kept) by after = (by ≡ record { size = n; len = m; bytes = record_size f m; records = 1 }) × (st ≡ after)
+abbrev pub MovesBy : Result Step Fault → Moved → Setting → Type 0
+MovesBy (Err f) by after = ⊥
+MovesBy (Ok EndStep) by after = ⊥
+MovesBy (Ok (OnStep n m st)) by after = (by ≡ record { size = n; len = m; bytes = 0; records = 0 }) × (st ≡ after)
+MovesBy (Ok (MadeStep n m st f kept)) by after = (by ≡ record { size = n; len = m; bytes = record_size f m; records = 1 }) × (st ≡ after)
 
 -- the record that an item makes, if any, is laid into d from k on, and d' comes of it
 abbrev pub LaidBy : Next → List ℕ → List ℕ → ℕ → Type 0
@@ -82,7 +81,7 @@ LaidBy (made n r st) d d' k = LaidFreely d d' k (layout sheet_version r)
 
 -- an item x takes a pass so far: b is the label's buffer after it, d and d' the sheet before and after it
 pub record Passes (by : Moved) (after : Setting) (x : Next) (b d d' : List ℕ) (out : ℕ) : Type 0 where
-  pub step : Step
+  pub step : Result Step Fault
   pub told : Tells step b x
   pub moves : MovesBy step by after
   pub small : by.bytes ≤ record_limit
@@ -91,13 +90,13 @@ pub record Passes (by : Moved) (after : Setting) (x : Next) (b d d' : List ℕ) 
 -- ---- any item
 
 -- a turn tells what the item x comes to
-abbrev pub TurnsAs : Turned → Next → List ℕ → List ℕ → List ℕ → ℕ → Type 0
-TurnsAs (Bad k) x b d d' out = Tells (BadStep k) b x × (d' ≡ d)
-TurnsAs End x b d d' out = Tells EndStep b x × (d' ≡ d)
-TurnsAs (Went by after rule) x b d d' out = (rule ≡ Off) × Passes by after x b d d' out
+abbrev pub TurnsAs : Result Turned Fault → Next → List ℕ → List ℕ → List ℕ → ℕ → Type 0
+TurnsAs (Err f) x b d d' out = Tells (Err f) b x × (d' ≡ d)
+TurnsAs (Ok End) x b d d' out = Tells (Ok EndStep) b x × (d' ≡ d)
+TurnsAs (Ok (Went by after rule)) x b d d' out = (rule ≡ None) × Passes by after x b d d' out
 
 -- `lay_item`: the label's buffer is b before the item and b' after it
-abbrev pub Turns : Turned → Before → Setting → List ℕ → List ℕ → List ℕ → List ℕ → List ℕ → Type 0
+abbrev pub Turns : Result Turned Fault → Before → Setting → List ℕ → List ℕ → List ℕ → List ℕ → List ℕ → Type 0
 Turns r y setting s b b' d d' = TurnsAs r (next y.version s (state_of setting (take y.len b))) b' d d' y.out
 
 -- ---- the commonest items
@@ -107,10 +106,10 @@ abbrev pub comes : ℕ → Stand → List ℕ → List ℕ → Next
 comes version y s b = next version s (state_of y.setting (take y.here.len b))
 
 -- a leg, in `turn_line` and `turn_again`: its numbers stand from byte k on, and where it is laid the label's buffer is b₁ then
-pub record TurnsLine (r : Common) (y : Stand) (j : Joint) (k flags : ℕ) (s b b₁ b' d d' : List ℕ) : Type 0 where
-  pub unset : y.setting.position ≡ Unset → (r ≡ Other) × (b' ≡ b) × (d' ≡ d)
-  pub led : (from : Point) → y.setting.position ≡ Stands from
-      → (r ≡ WentOn (record { here = ahead_of y.here (record_by j 34); setting = moved_to y.setting (place_at s k) })) × (b' ≡ b₁)
+pub record TurnsLine (r : Option Common) (y : Stand) (j : Joint) (k flags : ℕ) (s b b₁ b' d d' : List ℕ) : Type 0 where
+  pub unset : y.setting.position ≡ None → (r ≡ None) × (b' ≡ b) × (d' ≡ d)
+  pub led : (from : Point) → y.setting.position ≡ Some from
+      → (r ≡ Some (WentOn (record { here = ahead_of y.here (record_by j 34); setting = moved_to y.setting (place_at s k) }))) × (b' ≡ b₁)
       × LaidFreely d d' j.out (layout sheet_version (leg (leg_at s k flags y.setting from) (name_of j s b)))
 
 -- the pass stands at z behind the item x
@@ -119,11 +118,11 @@ pub record PassesTo (y z : Stand) (x : Next) (b d d' : List ℕ) : Type 0 where
   pub here_is : z.here ≡ ahead_of y.here by
   pub passes : Passes by z.setting x b d d' y.here.out
 
-abbrev pub ShortlyAs : Common → Next → Stand → List ℕ → List ℕ → List ℕ → List ℕ → Type 0
-ShortlyAs Other x y b b' d d' = (b' ≡ b) × (d' ≡ d)
-ShortlyAs (Trim m) x y b b' d d' = Tells (trim_step m y.setting) b' x × (d' ≡ d)
-ShortlyAs (WentOn z) x y b b' d d' = PassesTo y z x b' d d'
+abbrev pub ShortlyAs : Option Common → Next → Stand → List ℕ → List ℕ → List ℕ → List ℕ → Type 0
+ShortlyAs None x y b b' d d' = (b' ≡ b) × (d' ≡ d)
+ShortlyAs (Some (Trim m)) x y b b' d d' = Tells (Ok (trim_step m y.setting)) b' x × (d' ≡ d)
+ShortlyAs (Some (WentOn z)) x y b b' d d' = PassesTo y z x b' d d'
 
 -- `lay_short`
-abbrev pub Shortly : Common → ℕ → Stand → List ℕ → List ℕ → List ℕ → List ℕ → List ℕ → Type 0
+abbrev pub Shortly : Option Common → ℕ → Stand → List ℕ → List ℕ → List ℕ → List ℕ → List ℕ → Type 0
 Shortly r version y s b b' d d' = ShortlyAs r (comes version y s b) y b b' d d'

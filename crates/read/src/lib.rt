@@ -1,14 +1,16 @@
 // Reading a whole file into a sheet: a first pass judges every item and measures the
 // sheet, a second lays the records in.
+// A label's bytes and its length stand apart: C lends the bytes and has the length in its stand.
 #![tactic(auto)]
 
-ghost use Rattle.std.specs.Prelude.{◌≡◌, List, [], ℕ, ◌+◌, ◌^◌, ◌≤◌, ◌<◌, length, replicate};
+ghost use Rattle.std.specs.Prelude.{◌≡◌, List, [], ℕ, ◌+◌, ◌^◌, ◌≤◌, ◌<◌, length, replicate, Ok};
 ghost use Rattle.format.specs.State.{start_setting};
 ghost use Rattle.format.specs.Reading.{items_of, read_outcome, read_buffer};
-ghost use Rattle.format.specs.Answers.{answer_of};
-ghost use Rattle.measure.specs.Totals.{pass_of, passed_by};
+ghost use Rattle.format.specs.Answers.{answer_of, verdict_of};
+ghost use Rattle.format.specs.Refusals.{Good};
+ghost use Rattle.measure.specs.Totals.{pass_of, total_of};
 ghost use Rattle.read.specs.Pass.{Headed, Judges, Fills, sheet_of_head, ReadsTo, SettlesTo, front_of, course_of};
-ghost use Rattle.read.specs.Ruling.{is_on, ReadyTo, RulesIn, AnyItem, ShortTurn, Begins, BeginsAs, items_by, LentBy};
+ghost use Rattle.read.specs.Ruling.{ReadyTo, RulesIn, AnyItem, ShortTurn, Begins, BeginsAs, items_by, LentBy};
 ghost use Rattle.strict.specs.Strict.{strict_items, strict_outcome, strict_buffer};
 ghost use Rattle.table.specs.Told.{Holds};
 ghost use Rattle.item.specs.Seen.{seen, Short as ShortStep};
@@ -23,15 +25,13 @@ ghost use Rattle.format.specs.Label.{label_limit};
 ghost use Rattle.short.specs.Brief.{Finds, place_at};
 
 use decode::get_point;
-use format::{Answer, LABEL_LIMIT, Point, Position, Setting, Verdict};
+use format::{Done, Fault, LABEL_LIMIT, Point, Refusal, Setting};
 use header::Head;
 use item::{Step, leg_at, section_at, station_at, with_position};
-use laying::{
-    Joint, joint_of, lay_leg_freely, lay_same_freely, lay_section_freely, lay_station_freely,
-};
-use measure::{Passed, ended, stopped};
+use laying::{Joint, lay_leg_freely, lay_same_freely, lay_section_freely, lay_station_freely};
+use measure::{Passed, ended};
 use short::{Short, new_item, old_item, sides};
-use strict::{Judged, take_next};
+use strict::take_next;
 use table::Index;
 
 // How far a pass has come: the next item's place, where the next record goes, how many records
@@ -69,40 +69,29 @@ struct Moved {
     records: usize,
 }
 
-// Whether a pass judges names (#108): by an index, in the buffer that is lent to it.
-#[derive(Clone, Copy)]
-enum Rule {
-    Off,
-    On { index: Index },
-}
-
-// What an item comes to in a pass: a refusal; the end; or how far it takes the pass, with the
-// setting and the index after it.
+// What an item comes to in a pass: the end; or how far it takes the pass, with the setting after
+// it, and the index where names are judged (#108).
 #[derive(Clone, Copy)]
 enum Turned {
-    Bad {
-        number: u8,
-    },
     End,
     Went {
         by: Moved,
         setting: Setting,
-        rule: Rule,
+        rule: Option<Index>,
     },
 }
 
-// What one of the commonest items comes to: another item; the label's length after a trim; or
-// where the pass stands behind it. (A trim leaves all else as it was, and so copies nothing.)
+// What one of the commonest items comes to: the label's length after a trim; or where the pass
+// stands behind it. (A trim leaves all else as it was, and so copies nothing.)
 #[derive(Clone, Copy)]
 enum Common {
-    Other,
     Trim { len: usize },
     Went { stand: Stand },
 }
 
 // The item at the front of s, after a label of len bytes, where it is one of the commonest.
 // (`short_item` has other callers, and so is not joined to the loop.)
-fn find_short(version: u8, s: &[u8], len: usize) -> Short
+fn find_short(version: u8, s: &[u8], len: usize) -> Option<Short>
     requires { len ≤ label_limit }
     ensures { Finds result version s.now len }
 {
@@ -110,17 +99,6 @@ fn find_short(version: u8, s: &[u8], len: usize) -> Short
         return old_item(version, s, len);
     }
     new_item(s, len)
-}
-
-fn moved_by(size: usize, len: usize, bytes: usize, records: usize) -> Moved
-    ensures { result ≡ record { size = size; len = len; bytes = bytes; records = records } }
-{
-    Moved {
-        size,
-        len,
-        bytes,
-        records,
-    }
 }
 
 // ---- how far a pass has come
@@ -179,19 +157,14 @@ fn behind(here: Progress, joint: Joint, head: usize) -> Progress
     }
 }
 
-fn went(here: Progress, setting: Setting) -> Common
-    ensures { result ≡ Common.Went (record { here = here; setting = setting }) }
-{
-    let stand = Stand { here, setting };
-    Common::Went { stand }
-}
-
-// The same with the position that an item leads to.
+// Behind an item that leads the position so far.
 fn leads(here: Progress, setting: Setting, to: Point) -> Common
     ensures { result ≡ Common.Went (record { here = here; setting = moved_to setting to }) }
 {
-    let after = with_position(setting, to);
-    went(here, after)
+    let setting = with_position(setting, to);
+    Common::Went {
+        stand: Stand { here, setting },
+    }
 }
 
 // ---- the commonest items, at the front of s: their records are laid in
@@ -204,19 +177,16 @@ fn turn_line(
     joint: Joint,
     flags: u8,
     sheet: &mut [u8],
-) -> Common
+) -> Option<Common>
     requires { Joined joint s.now bytes.old × Few stand.here × SmallJoint joint }
     ensures { TurnsLine result stand joint (2 + joint.add) flags s.now bytes.old (extended bytes.old joint.keep s.now) bytes.new sheet.old sheet.new }
 {
     let setting = stand.setting;
-    let position = setting.position;
-    let Position::Stands { point } = position else {
-        return Common::Other;
-    };
+    let point = setting.position?;
     let leg = leg_at(s, 2 + joint.add, flags, setting, point);
     lay_leg_freely(s, bytes, joint, leg, sheet);
     let here = behind(stand.here, joint, 34);
-    leads(here, setting, leg.to)
+    Some(leads(here, setting, leg.to))
 }
 
 // A LINE with the same label, in the same way.
@@ -226,21 +196,23 @@ fn turn_again(
     stand: Stand,
     flags: u8,
     sheet: &mut [u8],
-) -> Common
+) -> Option<Common>
     requires { (33 ≤ length s.now) × Ready stand.here bytes.old × (stand.here.len + 16 ≤ label_limit) }
     ensures { TurnsLine result stand (same_joint stand.here) 1 flags s.now bytes.old bytes.old bytes.new sheet.old sheet.new }
 {
     let setting = stand.setting;
-    let position = setting.position;
-    let Position::Stands { point } = position else {
-        return Common::Other;
-    };
+    let point = setting.position?;
     let leg = leg_at(s, 1, flags, setting, point);
     let old = stand.here;
     lay_same_freely(bytes, old.len, old.out, leg, sheet);
-    let joint = joint_of(old.len, 0, 13, old.out);
+    let joint = Joint {
+        keep: old.len,
+        add: 0,
+        size: 13,
+        out: old.out,
+    };
     let here = behind(old, joint, 34);
-    leads(here, setting, leg.to)
+    Some(leads(here, setting, leg.to))
 }
 
 // A MOVE.
@@ -260,58 +232,58 @@ fn lay_short(
     bytes: &mut [u8; LABEL_LIMIT],
     stand: Stand,
     sheet: &mut [u8],
-) -> Common
+) -> Option<Common>
     requires { Ready stand.here bytes.old }
     ensures { Shortly result version stand s.now bytes.old bytes.new sheet.old sheet.new }
 {
     let here = stand.here;
     let setting = stand.setting;
-    let it = find_short(version, s, here.len);
-    match it {
-        Short::Other => Common::Other,
+    let short = find_short(version, s, here.len)?;
+    match short {
         Short::Line { keep, add, flags } => {
-            let joint = joint_of(keep, add, 14 + add, here.out);
+            let joint = Joint {
+                keep,
+                add,
+                size: 14 + add,
+                out: here.out,
+            };
             turn_line(s, bytes, stand, joint, flags, sheet)
         }
         Short::Again { flags } => turn_again(s, bytes, stand, flags, sheet),
         Short::Place { keep, add, flags } => {
-            let joint = joint_of(keep, add, 14 + add, here.out);
+            let joint = Joint {
+                keep,
+                add,
+                size: 14 + add,
+                out: here.out,
+            };
             let station = station_at(s, 2 + add, flags);
             lay_station_freely(s, bytes, joint, station, sheet);
-            went(behind(here, joint, 16), setting)
+            let here = behind(here, joint, 16);
+            Some(Common::Went {
+                stand: Stand { here, setting },
+            })
         }
         Short::Section { keep, add, code } => {
-            let joint = joint_of(keep, add, 2 + add + sides(code), here.out);
+            let joint = Joint {
+                keep,
+                add,
+                size: 2 + add + sides(code),
+                out: here.out,
+            };
             let section = section_at(s, 2 + add, code, setting);
             lay_section_freely(s, bytes, joint, section, sheet);
-            went(behind(here, joint, 25), setting)
+            let here = behind(here, joint, 25);
+            Some(Common::Went {
+                stand: Stand { here, setting },
+            })
         }
-        Short::Trim { len } => Common::Trim { len },
-        Short::Move => turn_move(s, here, setting),
+        Short::Trim { len } => Some(Common::Trim { len }),
+        Short::Move => Some(turn_move(s, here, setting)),
     }
 }
 
 // ---- the items of a file
-
-fn before_item(version: u8, here: Progress) -> Before
-    ensures { result ≡ record { version = version; len = here.len; out = here.out } }
-{
-    Before {
-        version,
-        len: here.len,
-        out: here.out,
-    }
-}
-
-fn went_on(by: Moved, setting: Setting) -> Turned
-    ensures { result ≡ Turned.Went by setting Rule.Off }
-{
-    Turned::Went {
-        by,
-        setting,
-        rule: Rule::Off,
-    }
-}
 
 // The item at the front of s, whichever it is: its record is laid in.
 fn lay_item(
@@ -320,59 +292,23 @@ fn lay_item(
     bytes: &mut [u8; LABEL_LIMIT],
     setting: Setting,
     sheet: &mut [u8],
-) -> Turned
+) -> Result<Turned, Fault>
     requires { ReadyFor before bytes.old }
     ensures { Turns result before setting s.now bytes.old bytes.new sheet.old sheet.new }
 {
-    let it = item::take_item(before.version, s, bytes, before.len, setting);
-    match it {
-        Step::Bad { number } => Turned::Bad { number },
-        Step::End => Turned::End,
-        Step::On {
-            size,
-            len,
-            setting: after,
-        } => {
-            let by = moved_by(size, len, 0, 0);
-            went_on(by, after)
-        }
-        Step::Made {
-            size,
-            len,
-            setting: after,
-            fields,
-            kept: _,
-        } => {
-            layout::lay_record(sheet, before.out, fields, bytes, len);
-            let by = moved_by(size, len, layout::record_size(fields, len), 1);
-            went_on(by, after)
-        }
-    }
-}
-
-fn judged_on(by: Moved, setting: Setting, index: Index) -> Turned
-    ensures { result ≡ Turned.Went by setting (Rule.On index) }
-{
-    Turned::Went {
-        by,
-        setting,
-        rule: Rule::On { index },
-    }
-}
-
-// What an item's step comes to once the record that it makes is judged, with the label in the
-// first bytes of a buffer.
-fn judge_step(room: &mut [u8], index: Index, step: Step, bytes: &[u8; LABEL_LIMIT]) -> Turned
-    requires { Holds room.old index × ShortStep step × (length bytes.now ≡ label_limit) × (index.count < 16777215) }
-    ensures { RulesIn result index bytes.now (seen step bytes.now) room.old room.new }
-{
+    let step = item::take_item(before.version, s, bytes, before.len, setting)?;
     match step {
-        Step::Bad { number } => Turned::Bad { number },
-        Step::End => Turned::End,
-        Step::On { size, len, setting } => {
-            let by = moved_by(size, len, 0, 0);
-            judged_on(by, setting, index)
-        }
+        Step::End => Ok(Turned::End),
+        Step::On { size, len, setting } => Ok(Turned::Went {
+            by: Moved {
+                size,
+                len,
+                bytes: 0,
+                records: 0,
+            },
+            setting,
+            rule: None,
+        }),
         Step::Made {
             size,
             len,
@@ -380,14 +316,62 @@ fn judge_step(room: &mut [u8], index: Index, step: Step, bytes: &[u8; LABEL_LIMI
             fields,
             kept: _,
         } => {
-            let judged = strict::judge(room, index, fields, bytes, len);
-            match judged {
-                Judged::Faulty { number } => Turned::Bad { number },
-                Judged::Fine { index: next } => {
-                    let by = moved_by(size, len, layout::record_size(fields, len), 1);
-                    judged_on(by, setting, next)
-                }
-            }
+            layout::lay_record(sheet, before.out, fields, bytes, len);
+            Ok(Turned::Went {
+                by: Moved {
+                    size,
+                    len,
+                    bytes: layout::record_size(fields, len),
+                    records: 1,
+                },
+                setting,
+                rule: None,
+            })
+        }
+    }
+}
+
+// What an item's step comes to once the record that it makes is judged, with the label in the
+// first bytes of a buffer.
+fn judge_step(
+    room: &mut [u8],
+    index: Index,
+    step: Step,
+    bytes: &[u8; LABEL_LIMIT],
+) -> Result<Turned, Fault>
+    requires { Holds room.old index × ShortStep (Ok step) × (length bytes.now ≡ label_limit) × (index.count < 16777215) }
+    ensures { RulesIn result index bytes.now (seen (Ok step) bytes.now) room.old room.new }
+{
+    match step {
+        Step::End => Ok(Turned::End),
+        Step::On { size, len, setting } => Ok(Turned::Went {
+            by: Moved {
+                size,
+                len,
+                bytes: 0,
+                records: 0,
+            },
+            setting,
+            rule: Some(index),
+        }),
+        Step::Made {
+            size,
+            len,
+            setting,
+            fields,
+            kept: _,
+        } => {
+            let index = strict::judge(room, index, fields, bytes, len)?;
+            Ok(Turned::Went {
+                by: Moved {
+                    size,
+                    len,
+                    bytes: layout::record_size(fields, len),
+                    records: 1,
+                },
+                setting,
+                rule: Some(index),
+            })
         }
     }
 }
@@ -400,26 +384,17 @@ fn any_item(
     bytes: &mut [u8; LABEL_LIMIT],
     setting: Setting,
     lent: &mut [u8],
-    rule: Rule,
-) -> Turned
+    rule: Option<Index>,
+) -> Result<Turned, Fault>
     requires { ReadyFor before bytes.old × ReadyTo rule lent.old }
     ensures { AnyItem rule result before setting s.now bytes.old bytes.new lent.old lent.new }
 {
     match rule {
-        Rule::Off => lay_item(before, s, bytes, setting, lent),
-        Rule::On { index } => {
-            let step = take_next(before.version, s, bytes, before.len, setting);
+        None => lay_item(before, s, bytes, setting, lent),
+        Some(index) => {
+            let step = take_next(before.version, s, bytes, before.len, setting)?;
             judge_step(lent, index, step, bytes)
         }
-    }
-}
-
-fn is_on(rule: Rule) -> bool
-    ensures { result ≡ is_on rule }
-{
-    match rule {
-        Rule::Off => false,
-        Rule::On { index: _ } => true,
     }
 }
 
@@ -431,25 +406,14 @@ fn short_turn(
     bytes: &mut [u8; LABEL_LIMIT],
     stand: Stand,
     lent: &mut [u8],
-) -> Common
+) -> Option<Common>
     requires { Ready stand.here bytes.old }
     ensures { ShortTurn strict result version stand s.now bytes.old bytes.new lent.old lent.new }
 {
     if strict {
-        return Common::Other;
+        return None;
     }
     lay_short(version, s, bytes, stand, lent)
-}
-
-// What a pass comes to where it stops here, at an item that is refused.
-fn refused_at(number: u8, here: Progress) -> Passed
-    ensures { result ≡ passed_by (Verdict.Refusal number here.at) here.out here.records }
-{
-    let verdict = Verdict::Refusal {
-        number,
-        place: here.at,
-    };
-    stopped(verdict, here.out, here.records)
 }
 
 // Which items a pass goes over, and where the first record goes.
@@ -463,16 +427,17 @@ struct Course {
 // A pass over the items of a file: the answer for a sheet with room enough. It is lent the sheet,
 // and lays the records in, where there is room for all of them; or the room for names, by which
 // it judges stations and cross-sections.
-fn pass(file: &[u8], course: Course, lent: &mut [u8], first: Rule) -> Passed
+fn pass(file: &[u8], course: Course, lent: &mut [u8], first: Option<Index>) -> Passed
     requires { Begins file.now course × BeginsAs first course.place lent.old }
-    ensures answer { result ≡ pass_of course.front 0 (items_by first (length lent.old) course file.now) }
+    ensures answer { total_of result ≡ pass_of course.front 0 (items_by first (length lent.old) course file.now) }
     ensures lent { LentBy first lent.old lent.new course file.now }
 {
     let mut label = label::blank();
     let mut stand = outset(course.place, course.front);
     let version = course.version;
-    let strict = is_on(first);
+    let strict = first.is_some();
     let mut ruling = first;
+    // Items differ in size: each turn moves the place on by its own item.
     loop {
         let here = stand.here;
         let setting = stand.setting;
@@ -480,20 +445,30 @@ fn pass(file: &[u8], course: Course, lent: &mut [u8], first: Rule) -> Passed
         let rest = &file[at..];
         let turn = short_turn(strict, version, rest, &mut label.bytes, stand, lent);
         match turn {
-            Common::Went { stand: next } => {
+            Some(Common::Went { stand: next }) => {
                 stand = next;
             }
-            Common::Trim { len } => {
+            Some(Common::Trim { len }) => {
                 let here = passed(here, 1, len);
                 stand = Stand { here, setting };
             }
-            Common::Other => {
-                let before = before_item(version, here);
+            None => {
+                let before = Before {
+                    version,
+                    len: here.len,
+                    out: here.out,
+                };
                 let it = any_item(before, rest, &mut label.bytes, setting, lent, ruling);
                 match it {
-                    Turned::Bad { number } => return refused_at(number, here),
-                    Turned::End => return ended(at, rest, here.out, here.records),
-                    Turned::Went { by, setting, rule } => {
+                    Err(fault) => {
+                        return Passed {
+                            verdict: Err(fault.at(at)),
+                            bytes: here.out,
+                            records: here.records,
+                        };
+                    }
+                    Ok(Turned::End) => return ended(at, rest, here.out, here.records),
+                    Ok(Turned::Went { by, setting, rule }) => {
                         let here = ahead(here, by);
                         stand = Stand { here, setting };
                         ruling = rule;
@@ -507,27 +482,16 @@ fn pass(file: &[u8], course: Course, lent: &mut [u8], first: Rule) -> Passed
 // The first pass: the answer for a sheet with room enough. The sheet stays as it was.
 fn measured(file: &[u8], sheet: &mut [u8], course: Course) -> Passed
     requires { Begins file.now course × (course.version ≤ 8) }
-    ensures answer { result ≡ pass_of course.front 0 (items_of course.version course.place file.now) }
+    ensures answer { total_of result ≡ pass_of course.front 0 (items_of course.version course.place file.now) }
     ensures sheet { sheet.new ≡ sheet.old }
 {
     if course.version < 8 {
-        return pass(file, course, &mut sheet[..0], Rule::Off);
+        return pass(file, course, &mut sheet[..0], None);
     }
     measure::measure(file, course.place, course.front)
 }
 
-// A header that was opened, in numbers: the version, the first item's place, the flag, and
-// how many bytes the title and the time line have.
-#[derive(Clone, Copy)]
-struct Heading {
-    version: u8,
-    place: usize,
-    extended: u8,
-    title: usize,
-    time: usize,
-}
-
-fn course_of(head: Heading) -> Course
+fn course_of(head: Head) -> Course
     requires { (head.title ≤ title_limit) × (head.time ≤ time_limit) }
     ensures { result ≡ course_of head }
 {
@@ -539,7 +503,7 @@ fn course_of(head: Heading) -> Course
 }
 
 // The first pass over the items of a file that was opened.
-fn judged(file: &[u8], sheet: &mut [u8], head: Heading) -> Passed
+fn judged(file: &[u8], sheet: &mut [u8], head: Head) -> Passed
     requires { Headed file.now head }
     ensures { Judges file.now head result × (sheet.new ≡ sheet.old) }
 {
@@ -548,7 +512,7 @@ fn judged(file: &[u8], sheet: &mut [u8], head: Heading) -> Passed
 }
 
 // The second pass: the sheet of the records before the first refused item, of so many bytes.
-fn fill(file: &[u8], sheet: &mut [u8], head: Heading, bytes: usize)
+fn fill(file: &[u8], sheet: &mut [u8], head: Head, bytes: usize)
     requires { Headed file.now head × Fills file.now head bytes sheet.old }
     ensures { sheet.new ≡ over (sheet_of_head file.now head) sheet.old }
 {
@@ -557,37 +521,29 @@ fn fill(file: &[u8], sheet: &mut [u8], head: Heading, bytes: usize)
     let stops = from + head.time;
     layout::put_front(sheet, head.extended, &file[24..ends], &file[from..stops]);
     let course = course_of(head);
-    pass(file, course, &mut sheet[..bytes], Rule::Off);
+    pass(file, course, &mut sheet[..bytes], None);
 }
 
 // What reading comes to after its first pass: 11 comes last, and then the sheet is filled.
-fn settle(file: &[u8], sheet: &mut [u8], head: Heading, total: Passed) -> Answer
-    requires { Headed file.now head × (total.verdict ≡ Verdict.Good → Judges file.now head total) }
+fn settle(file: &[u8], sheet: &mut [u8], head: Head, total: Passed) -> Result<Done, Refusal>
+    requires { Headed file.now head × (verdict_of total.verdict ≡ Good → Judges file.now head total) }
     ensures { SettlesTo file.now total sheet.old result sheet.new }
 {
-    let verdict = total.verdict;
+    total.verdict?;
     let bytes = total.bytes;
-    match verdict {
-        Verdict::Refusal { number, place } => Answer::Refused { number, place },
-        Verdict::Good => {
-            if sheet.len() < bytes {
-                return Answer::Refused {
-                    number: 11,
-                    place: bytes,
-                };
-            }
-            fill(file, sheet, head, bytes);
-            Answer::Done {
-                bytes,
-                records: total.records,
-                version: head.version,
-            }
-        }
+    if sheet.len() < total.bytes {
+        return Err(Fault::BufferTooSmall.at(bytes));
     }
+    fill(file, sheet, head, bytes);
+    Ok(Done {
+        bytes,
+        records: total.records,
+        version: head.version,
+    })
 }
 
 // Reads the items of a file that was opened, in two passes.
-fn read_items(file: &[u8], sheet: &mut [u8], head: Heading) -> Answer
+fn read_items(file: &[u8], sheet: &mut [u8], head: Head) -> Result<Done, Refusal>
     requires { Headed file.now head }
     ensures { ReadsTo file.now sheet.old result sheet.new }
 {
@@ -596,144 +552,93 @@ fn read_items(file: &[u8], sheet: &mut [u8], head: Heading) -> Answer
 }
 
 // Reads a file into the lent sheet.
-pub fn read(file: &[u8], sheet: &mut [u8]) -> Answer
+pub fn read(file: &[u8], sheet: &mut [u8]) -> Result<Done, Refusal>
     ensures answer { answer_of result ≡ read_outcome file.now (length sheet.old) }
     ensures sheet { sheet.new ≡ read_buffer file.now sheet.old }
 {
-    let head = header::opening(file);
-    match head {
-        Head::Shut { number, place } => Answer::Refused { number, place },
-        Head::Whole {
-            version,
-            place,
-            extended,
-            title,
-            time,
-        } => {
-            let heading = Heading {
-                version,
-                place,
-                extended,
-                title,
-                time,
-            };
-            read_items(file, sheet, heading)
-        }
-    }
+    let head = header::opening(file)?;
+    read_items(file, sheet, head)
 }
 
 // ---- request #111: what can be saved
 
-// What salvaging answers: the sheet's bytes and records, the file's version, and the report:
-// the refusal and its place, and the file's bytes from there on; or a refusal.
-#[derive(Clone, Copy)]
-pub enum Salvaged {
-    Saved {
-        bytes: usize,
-        records: usize,
-        version: u8,
-        number: u8,
-        place: usize,
-        left: usize,
-    },
-    Refused {
-        number: u8,
-        place: usize,
-    },
+// What is saved: the sheet's bytes and records, the file's version, and the report: the refusal's
+// number and its place, and the file's bytes from there on. (0 is the number where nothing was
+// refused, as C has it.)
+#[derive(Clone, Copy, PartialEq, Eq)]
+pub struct Saved {
+    pub bytes: usize,
+    pub records: usize,
+    pub version: u8,
+    pub number: u8,
+    pub place: usize,
+    pub left: usize,
 }
 
-// Why reading stopped, in numbers: 0 and the file's length for a whole file.
-#[derive(Clone, Copy)]
-struct Report {
-    number: u8,
-    place: usize,
-}
-
-fn reported(verdict: Verdict, size: usize) -> Report
-    ensures { (result.number ≡ report_number verdict) × (result.place ≡ report_place verdict size) }
+// Why reading stopped: number 0 and the file's length for a whole file.
+fn reported(verdict: Result<(), Refusal>, size: usize) -> Refusal
+    ensures { (result.number ≡ report_number (verdict_of verdict)) × (result.place ≡ report_place (verdict_of verdict) size) }
 {
     match verdict {
-        Verdict::Good => Report {
+        Ok(()) => Refusal {
             number: 0,
             place: size,
         },
-        Verdict::Refusal { number, place } => Report { number, place },
+        Err(refusal) => refusal,
     }
 }
 
 // Salvages the items of a file that was opened: the two passes of reading with another ending.
-fn salvage_items(file: &[u8], sheet: &mut [u8], head: Heading) -> Salvaged
+fn salvage_items(file: &[u8], sheet: &mut [u8], head: Head) -> Result<Saved, Refusal>
     requires { Headed file.now head }
     ensures { SalvagesTo file.now sheet.old result sheet.new }
 {
     let total = judged(file, sheet, head);
-    let verdict = total.verdict;
     let bytes = total.bytes;
     if sheet.len() < bytes {
-        return Salvaged::Refused {
-            number: 11,
-            place: bytes,
-        };
+        return Err(Fault::BufferTooSmall.at(bytes));
     }
     fill(file, sheet, head, bytes);
-    let report = reported(verdict, file.len());
-    Salvaged::Saved {
+    let report = reported(total.verdict, file.len());
+    Ok(Saved {
         bytes,
         records: total.records,
         version: head.version,
         number: report.number,
         place: report.place,
         left: file.len() - report.place,
-    }
+    })
 }
 
 // Writes the records that the items of a file make before the first refused one to the lent
 // sheet.
-pub fn salvage(file: &[u8], sheet: &mut [u8]) -> Salvaged
+pub fn salvage(file: &[u8], sheet: &mut [u8]) -> Result<Saved, Refusal>
     ensures answer { salvaged_of result ≡ salvage_outcome file.now (length sheet.old) }
     ensures sheet { sheet.new ≡ salvage_buffer file.now sheet.old }
 {
-    let head = header::opening(file);
-    match head {
-        Head::Shut { number, place } => Salvaged::Refused { number, place },
-        Head::Whole {
-            version,
-            place,
-            extended,
-            title,
-            time,
-        } => {
-            let heading = Heading {
-                version,
-                place,
-                extended,
-                title,
-                time,
-            };
-            salvage_items(file, sheet, heading)
-        }
-    }
+    let head = header::opening(file)?;
+    salvage_items(file, sheet, head)
 }
 
 // ---- request #108: strict reading
 
 // How much of the room is cleared: all of it, and not only the nodes of so many names, since it
 // may have held anything.
-fn cleared(_names: usize, room: usize) -> usize
-    ensures { result ≡ room }
+fn cleared(_names: usize, whole: usize) -> usize
+    ensures { result ≡ whole }
 {
-    room
+    whole
 }
 
 // The first pass with the names judged in lent room, which then holds zeros.
-fn judge_names(file: &[u8], head: Heading, room: &mut [u8], seed: u64) -> Passed
+fn judge_names(file: &[u8], head: Head, room: &mut [u8], seed: u64) -> Passed
     requires { Headed file.now head }
-    ensures total { result ≡ pass_of (front_of head) 0 (strict_items head.version (length room.old) head.place file.now) }
+    ensures total { total_of result ≡ pass_of (front_of head) 0 (strict_items head.version (length room.old) head.place file.now) }
     ensures room { room.new ≡ replicate (length room.old) 0 }
 {
     let index = table::empty(room, seed);
     let course = course_of(head);
-    let total = pass(file, course, room, Rule::On { index });
+    let total = pass(file, course, room, Some(index));
     let end = cleared(total.records, room.len());
     piece::clear(&mut room[..end]);
     total
@@ -741,33 +646,24 @@ fn judge_names(file: &[u8], head: Heading, room: &mut [u8], seed: u64) -> Passed
 
 // Reads a file into the lent sheet and refuses unknown and moved stations, with lent room
 // for an index of names and a seed for its hash. The room then holds zeros.
-pub fn read_strict(file: &[u8], sheet: &mut [u8], room: &mut [u8], seed: u64) -> Answer
+pub fn read_strict(
+    file: &[u8],
+    sheet: &mut [u8],
+    room: &mut [u8],
+    seed: u64,
+) -> Result<Done, Refusal>
     ensures answer { answer_of result ≡ strict_outcome file.now (length room.old) (length sheet.old) }
     ensures sheet { sheet.new ≡ strict_buffer file.now (length room.old) sheet.old }
     ensures room { room.new ≡ replicate (length room.old) 0 }
 {
-    let opening = header::opening(file);
-    match opening {
-        Head::Shut { number, place } => {
-            piece::clear(room);
-            Answer::Refused { number, place }
-        }
-        Head::Whole {
-            version,
-            place,
-            extended,
-            title,
-            time,
-        } => {
-            let head = Heading {
-                version,
-                place,
-                extended,
-                title,
-                time,
-            };
+    match header::opening(file) {
+        Ok(head) => {
             let total = judge_names(file, head, room, seed);
             settle(file, sheet, head, total)
+        }
+        Err(refusal) => {
+            piece::clear(room);
+            Err(refusal)
         }
     }
 }

@@ -1,4 +1,5 @@
 -- The items up to the next record, on plain values: what comes from an item on is what comes as a whole. Assumes nothing.
+use Rattle.format.specs.Refusals.{Refusal}
 use mathlib.Core.Path.{◌≡◌, refl, sym, ap, ◌∙◌}
 use mathlib.Core.List.{List, []}
 use Prim.Native.Nat.{ℕ, ◌+◌, ◌-◌, ◌≤◌, ◌<◌}
@@ -11,17 +12,20 @@ use Rattle.format.specs.Reading.{next, ended, run}
 use Rattle.format.specs.Fields.{state_of}
 use Rattle.format.specs.declared.Fields.{Fields}
 use Rattle.format.specs.declared.Setting.{Setting}
-use Rattle.format.specs.declared.Verdict.TheVariants.{Refusal}
 use Rattle.format.proofs.Basics.{pick_true, pick_false, less_or_not}
 use Rattle.format.proofs.IterateLaws.{iter_eq}
 use Rattle.format.proofs.ReadingLaws.{SizedNext, next_sized, Within, next_there_lem, there_within, left_bad, left_after, left_done, left_on, left_made}
 use Rattle.item.specs.Seen.{seen, Tells}
+use Rattle.std.specs.Prelude.{Result, Ok, Err}
+use Rattle.format.specs.Faults.{fault_number}
+use Rattle.format.specs.declared.Fault.{Fault}
+use Rattle.format.specs.declared.Refusal.{Refusal as Refused}
 use Rattle.item.specs.declared.Step.{Step}
-use Rattle.item.specs.declared.Step.TheVariants.{Bad, End, On, Made}
+use Rattle.item.specs.declared.Step.TheVariants.{End, On, Made}
 use Rattle.scan.specs.Places.{state_at, left_at, Coming, stops, coming_item, coming_step, coming, ended_at, Finds}
 use Rattle.scan.specs.declared.Place.{Place}
 use Rattle.scan.specs.declared.Found.{Found}
-use Rattle.scan.specs.declared.Found.TheVariants.{Refused as FoundRefused, Record as FoundRecord}
+use Rattle.scan.specs.declared.Found.TheVariants.{Record as FoundRecord}
 
 -- ---- the equation of `coming`
 
@@ -83,55 +87,55 @@ module _ (version : ℕ) (file : List ℕ) (was : Place) (b₀ : List ℕ) (at l
   abbrev st : State
   st = state_in setting len b
 
-  abbrev pub Tell : Step → List ℕ → Type 0
+  abbrev pub Tell : Result Step Fault → List ℕ → Type 0
   Tell it b' = Tells it b' (next version (take (length file - at) (drop at file)) st)
 
-  came : (it : Step) (b' : List ℕ) → Tell it b'
+  came : (it : Result Step Fault) (b' : List ℕ) → Tell it b'
       → coming version was.at (drop was.at file) (state_at was b₀)
       ≡ coming_item (seen it b') at (drop at file) (λ n st'. coming version (at + n) (drop (at + n) file) st')
   came it b' T = G.next_is ∙ coming_by version file at st T.same
 
-  pub finds_bad : (k : ℕ) (b' : List ℕ) → Tell (Bad k) b' → Finds version file was b₀ (FoundRefused k at) b'
-  finds_bad k b' T = record { next_is = sym (came (Bad k) b' T); same = G.same ∙ left_bad version file at st T.same; further = T.whole }
+  pub finds_bad : (e : Fault) (b' : List ℕ) → Tell (Err e) b' → Finds version file was b₀ (Err (record { number = fault_number e; place = at })) b'
+  finds_bad e b' T = record { next_is = sym (came (Err e) b' T); same = G.same ∙ left_bad version file at st T.same; further = T.whole }
 
-  pub finds_ended : (b' : List ℕ) → Tell End b' → {r : Found} → r ≡ ended_at at (length (drop at file)) → Finds version file was b₀ r b'
+  pub finds_ended : (b' : List ℕ) → Tell (Ok End) b' → {r : Result Found Refused} → r ≡ ended_at at (length (drop at file)) → Finds version file was b₀ r b'
   unfolding ended_at ended
   finds_ended b' T e =
       less_or_not 1 (length (drop at file))
       (λ h.
       let t = lt-ltb 1 (length (drop at file)) h in
       rw (e ∙ pick_true _ _ t)
-      (record { next_is = sym (came End b' T ∙ ap stops (pick_true _ _ t)); same = G.same ∙ left_after version file at st T.same h; further = T.whole }))
+      (record { next_is = sym (came (Ok End) b' T ∙ ap stops (pick_true _ _ t)); same = G.same ∙ left_after version file at st T.same h; further = T.whole }))
       λ h.
       let t = le-ltb 1 (length (drop at file)) h in
       rw (e ∙ pick_false _ _ t)
-      (record { next_is = sym (came End b' T ∙ ap stops (pick_false _ _ t)); same = G.same ∙ left_done version file at st T.same h; further = T.whole })
+      (record { next_is = sym (came (Ok End) b' T ∙ ap stops (pick_false _ _ t)); same = G.same ∙ left_done version file at st T.same h; further = T.whole })
 
   -- the item's bytes are there; which buffer they are seen by is all one
-  pub item_within : (it : Step) (b : List ℕ) → Tell it b → Within (length file) at (seen it [])
-  item_within (Bad k) b T = tt
-  item_within End b T = tt
-  item_within (On n m to) b T = there_within version file at st G.inside T.same
-  item_within (Made n m to f kept) b T = there_within version file at st G.inside T.same
+  pub item_within : (it : Result Step Fault) (b : List ℕ) → Tell it b → Within (length file) at (seen it [])
+  item_within (Err e) b T = tt
+  item_within (Ok End) b T = tt
+  item_within (Ok (On n m to)) b T = there_within version file at st G.inside T.same
+  item_within (Ok (Made n m to f kept)) b T = there_within version file at st G.inside T.same
 
-  pub going_on : (n m : ℕ) (st' : Setting) (b' : List ℕ) → Tell (On n m st') b' → Going version file was b₀ (at + n) m st' b'
+  pub going_on : (n m : ℕ) (st' : Setting) (b' : List ℕ) → Tell (Ok (On n m st')) b' → Going version file was b₀ (at + n) m st' b'
   going_on n m st' b' T =
-      let z = item_within (On n m st') b' T in
+      let z = item_within (Ok (On n m st')) b' T in
       record {
         inside = z.1;
         short = T.short;
         whole = T.whole;
         on = omega (arith, G.on);
         same = G.same ∙ left_on version file at st T.same;
-        next_is = came (On n m st') b' T;
+        next_is = came (Ok (On n m st')) b' T;
       }
 
-  pub finds_record : (n m : ℕ) (st' : Setting) (f : Fields) (kept : ℕ) (b' : List ℕ) → Tell (Made n m st' f kept) b'
-      → Finds version file was b₀ (FoundRecord (record { at = at + n; len = m; setting = st' }) f) b'
+  pub finds_record : (n m : ℕ) (st' : Setting) (f : Fields) (kept : ℕ) (b' : List ℕ) → Tell (Ok (Made n m st' f kept)) b'
+      → Finds version file was b₀ (Ok (FoundRecord (record { at = at + n; len = m; setting = st' }) f)) b'
   finds_record n m st' f kept b' T =
-      let z = item_within (Made n m st' f kept) b' T in
+      let z = item_within (Ok (Made n m st' f kept)) b' T in
       record {
-        next_is = sym (came (Made n m st' f kept) b' T);
+        next_is = sym (came (Ok (Made n m st' f kept)) b' T);
         same = G.same ∙ left_made version file at st T.same;
         further = (omega (arith, G.on), record { place_inside = z.1; label_short = T.short; label_whole = T.whole });
       }

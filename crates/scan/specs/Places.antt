@@ -1,17 +1,16 @@
 -- Where reading stands, and the next record there. Assumes nothing.
-use Rattle.std.specs.Prelude.{ℕ, ◌+◌, ◌≤◌, ◌<◌, ◌≡◌, List, length, take, drop, ltb}
+use Rattle.std.specs.Prelude.{ℕ, ◌+◌, ◌≤◌, ◌<◌, ◌≡◌, List, length, take, drop, ltb, Result as Answered, Ok, Err}
 use Rattle.format.specs.Bytes.{pick}
 use Rattle.format.specs.Iterate.{iter}
 use Rattle.format.specs.Label.{label_limit}
 use Rattle.format.specs.State.{State, start_setting, Record, Next, bad, end, on, made}
-use Rattle.format.specs.Refusals.{Result, stop, also}
-use Rattle.format.specs.declared.Verdict.{Verdict}
-use Rattle.format.specs.declared.Verdict.TheVariants.{Good, Refusal}
+use Rattle.format.specs.Refusals.{Result, stop, also, Verdict, Good, Refusal}
 use Rattle.format.specs.Reading.{next, ended, run}
 use Rattle.format.specs.Fields.{record_of, state_of}
+use Rattle.format.specs.declared.Refusal.{Refusal as Refused}
 use Rattle.scan.specs.declared.Place.{Place}
 use Rattle.scan.specs.declared.Found.{Found}
-use Rattle.scan.specs.declared.Found.TheVariants.{Refused, End, Record as Recorded}
+use Rattle.scan.specs.declared.Found.TheVariants.{End, Record as Recorded}
 
 -- ---- where reading stands; b is the label's buffer
 
@@ -60,28 +59,28 @@ unfoldable pub coming : ℕ → ℕ → List ℕ → State → Coming
 coming version at s st = iter (coming_step version) (λ p. stops (Refusal 5 p)) at s st
 
 -- the end item with `left` bytes from it on, as `ended` has it
-unfoldable pub ended_at : ℕ → ℕ → Found
-ended_at at left = pick (ltb 1 left) (Refused 10 (at + 1)) End
+unfoldable pub ended_at : ℕ → ℕ → Answered Found Refused
+ended_at at left = pick (ltb 1 left) (Err (record { number = 10; place = at + 1 })) (Ok End)
 
 -- an answer and the label's buffer after it, as the definition's value
-abbrev pub found_coming : Found → List ℕ → Coming
-found_coming (Refused n p) b = stops (Refusal n p)
-found_coming End b = stops Good
-found_coming (Recorded p f) b = makes (record_of f (label_in p b)) p.at (state_at p b)
+abbrev pub found_coming : Answered Found Refused → List ℕ → Coming
+found_coming (Err r) b = stops (Refusal r.number r.place)
+found_coming (Ok End) b = stops Good
+found_coming (Ok (Recorded p f)) b = makes (record_of f (label_in p b)) p.at (state_at p b)
 
 -- what the file comes to, by an answer and the label's buffer after it
-abbrev pub found_result : ℕ → List ℕ → Found → List ℕ → Result
-found_result version file (Refused n p) b = stop (Refusal n p)
-found_result version file End b = stop Good
-found_result version file (Recorded p f) b = also (record_of f (label_in p b)) (left_at version file p b)
+abbrev pub found_result : ℕ → List ℕ → Answered Found Refused → List ℕ → Result
+found_result version file (Err r) b = stop (Refusal r.number r.place)
+found_result version file (Ok End) b = stop Good
+found_result version file (Ok (Recorded p f)) b = also (record_of f (label_in p b)) (left_at version file p b)
 
 -- reading has gone on, and stands in the file
-abbrev pub Further : List ℕ → Place → Found → List ℕ → Type 0
-Further file was (Refused n p) b = length b ≡ 4096
-Further file was End b = length b ≡ 4096
-Further file was (Recorded p f) b = (was.at < p.at) × Inside file p b
+abbrev pub Further : List ℕ → Place → Answered Found Refused → List ℕ → Type 0
+Further file was (Err r) b = length b ≡ 4096
+Further file was (Ok End) b = length b ≡ 4096
+Further file was (Ok (Recorded p f)) b = (was.at < p.at) × Inside file p b
 
-pub record Finds (version : ℕ) (file : List ℕ) (was : Place) (b : List ℕ) (r : Found) (b' : List ℕ) : Type 0 where
+pub record Finds (version : ℕ) (file : List ℕ) (was : Place) (b : List ℕ) (r : Answered Found Refused) (b' : List ℕ) : Type 0 where
   pub next_is : found_coming r b' ≡ coming version was.at (drop was.at file) (state_at was b)
   pub same : left_at version file was b ≡ found_result version file r b'
   pub further : Further file was r b'

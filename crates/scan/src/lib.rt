@@ -1,5 +1,6 @@
 // The records of a file, one at a time: the items are read where they lie, up to the
 // next one that makes a record.
+// A label's bytes and its length stand apart: C lends the bytes and has the length in its stand.
 #![tactic(auto)]
 
 ghost use Rattle.std.specs.Prelude.{◌≡◌, ◌++◌, ◌+◌, ◌-◌, ◌≤◌, ◌<◌, length, take};
@@ -7,9 +8,8 @@ ghost use Rattle.scan.specs.Places.{Starts, ended_at, Finds};
 ghost use Rattle.scan.specs.Keeping.{Swaps, Keeps};
 ghost use Rattle.format.specs.Label.{label_limit};
 
-use format::{Cut, Fields, LABEL_LIMIT, Setting};
+use format::{Cut, Fault, Fields, LABEL_LIMIT, Refusal, Setting};
 use item::Step;
-use label::Relabelled;
 
 // Where reading stands: the next item's place, the label's length and the setting. The
 // label's bytes are lent beside it.
@@ -20,11 +20,10 @@ pub struct Place {
     pub setting: Setting,
 }
 
-// What comes next: a refusal; the end; or a record, whose label is in the buffer, and
-// where reading then stands.
+// What comes next: the end; or a record, whose label is in the buffer, and where
+// reading then stands.
 #[derive(Clone, Copy)]
 pub enum Found {
-    Refused { number: u8, place: usize },
     End,
     Record { place: Place, fields: Fields },
 }
@@ -41,55 +40,61 @@ pub fn first_place(at: usize) -> Place
 }
 
 // The end item at `at`, with so many bytes from it on: 10 where bytes follow it.
-fn ended(at: usize, left: usize) -> Found
+fn ended(at: usize, left: usize) -> Result<Found, Refusal>
     requires { at < 18446744073709551615 }
     ensures { result ≡ ended_at at left }
 {
     if 1 < left {
-        return Found::Refused {
-            number: 10,
-            place: at + 1,
-        };
+        return Err(Fault::BytesAfterEnd.at(at + 1));
     }
-    Found::End
+    Ok(Found::End)
 }
 
 // The next record of the file.
-pub fn next_record(file: &[u8], version: u8, from: Place, bytes: &mut [u8; LABEL_LIMIT]) -> Found
+pub fn next_record(
+    file: &[u8],
+    version: u8,
+    from: Place,
+    bytes: &mut [u8; LABEL_LIMIT],
+) -> Result<Found, Refusal>
     requires { (from.at ≤ length file.now) × (from.len ≤ label_limit) × (length bytes.old ≡ label_limit) }
     ensures { Finds version file.now from bytes.old result bytes.new }
 {
     let mut at = from.at;
     let mut len = from.len;
     let mut setting = from.setting;
+    // Items differ in size: each turn moves the place on by its own item.
     loop {
         let rest = &file[at..];
-        let it = item::take_item(version, rest, bytes, len, setting);
-        match it {
-            Step::Bad { number } => return Found::Refused { number, place: at },
-            Step::End => return ended(at, rest.len()),
-            Step::On {
-                size,
-                len: m,
-                setting: after,
-            } => {
+        match item::take_item(version, rest, bytes, len, setting) {
+            Err(fault) => return Err(fault.at(at)),
+            Ok(Step::End) => return ended(at, rest.len()),
+            Ok(
+                Step::On {
+                    size,
+                    len: m,
+                    setting: after,
+                },
+            ) => {
                 len = m;
                 setting = after;
                 at += size;
             }
-            Step::Made {
-                size,
-                len: m,
-                setting: after,
-                fields,
-                kept: _,
-            } => {
+            Ok(
+                Step::Made {
+                    size,
+                    len: m,
+                    setting: after,
+                    fields,
+                    kept: _,
+                },
+            ) => {
                 let place = Place {
                     at: at + size,
                     len: m,
                     setting: after,
                 };
-                return Found::Record { place, fields };
+                return Ok(Found::Record { place, fields });
             }
         }
     }
@@ -101,12 +106,9 @@ pub fn relabel(bytes: &mut [u8; LABEL_LIMIT], len: usize, off: usize, added: &[u
     requires { (len ≤ label_limit) × (length bytes.old ≡ label_limit) × (off ≤ len) × (len - off + length added.now ≤ label_limit) }
     ensures { Swaps bytes.new (take (len - off) bytes.old ++ added.now) result }
 {
-    let after = label::label_step(bytes, len, Cut::Back { bytes: off }, added);
-    match after {
-        Relabelled::TooShort => len,
-        Relabelled::TooLong => len,
-        Relabelled::Fits { len: m, kept: _ } => m,
-    }
+    label::label_step(bytes, len, Cut::Back { bytes: off }, added)
+        .unwrap()
+        .len
 }
 
 // A label in a buffer that held another, of len bytes: answers its length.
@@ -124,20 +126,9 @@ pub fn keep_label(bytes: &mut [u8; LABEL_LIMIT], len: usize, name: &[u8], fields
     ensures { Keeps bytes.old bytes.new len name.now fields result }
 {
     match fields {
-        Fields::Leg {
-            flags: _,
-            style: _,
-            date: _,
-            from: _,
-            to: _,
-        } => swap_label(bytes, len, name),
-        Fields::Station { station: _ } => swap_label(bytes, len, name),
-        Fields::Section {
-            last: _,
-            unused: _,
-            date: _,
-            size: _,
-        } => swap_label(bytes, len, name),
-        Fields::Error { traverse: _ } => len,
+        Fields::Leg { .. } => swap_label(bytes, len, name),
+        Fields::Station { .. } => swap_label(bytes, len, name),
+        Fields::Section { .. } => swap_label(bytes, len, name),
+        Fields::Error { .. } => len,
     }
 }

@@ -1,4 +1,5 @@
 -- A number or nothing; what one byte more does to the number that digits spell; how large the number of a few digits is. Assumes nothing.
+use Rattle.std.specs.Prelude.{Some, None}
 use Prim.Native.Nat.{ℕ, zero, suc, ◌+◌, ◌-◌, ◌*◌, ◌≤◌, ◌<◌}
 use mathlib.Core.Path.{◌≡◌, refl, ap, ◌∙◌}
 use mathlib.Core.List.{List, [], ◌∷◌}
@@ -11,17 +12,16 @@ use borrow.Author.Tests.{le-leb, lt-leb, leb-true}
 use Rattle.format.specs.Bytes.{pick}
 use Rattle.format.specs.Times.{is_digit, all_digits, decimal_from, decimal}
 use Rattle.format.proofs.Basics.{both}
-use Rattle.format.specs.declared.Spelled.TheVariants.{Number, Unreadable}
 use Rattle.seconds.specs.Reading.{spelled, number_from}
 
 -- ---- a number or nothing: what an answer says of the test
 
-pub told : (b : Bool) (v n : ℕ) → Number n ≡ spelled b v → (b ≡ true) × (n ≡ v)
+pub told : (b : Bool) (v n : ℕ) → Some n ≡ spelled b v → (b ≡ true) × (n ≡ v)
 unfolding pick
 told true v n e = (refl, cc)
 told false v n e = absurd (let z : ◌≡◌ {A = ℕ} 0 1 = cc in omega arith)
 
-pub untold : (b : Bool) (v : ℕ) → Unreadable ≡ spelled b v → b ≡ false
+pub untold : (b : Bool) (v : ℕ) → None ≡ spelled b v → b ≡ false
 unfolding pick
 untold true v e = absurd (let z : ◌≡◌ {A = ℕ} 0 1 = cc in omega arith)
 untold false v e = refl
@@ -44,16 +44,16 @@ module _ (n : ℕ) (s : List ℕ) (i : ℕ) (h : i < length s) where
   unfolding number_from all_digits decimal_from
   next = ap (number_from n) (drop-cons s i 0 h)
 
-  pub below : get_or s i 0 < 48 → number_from n (drop i s) ≡ Unreadable
+  pub below : get_or s i 0 < 48 → number_from n (drop i s) ≡ None
   unfolding is_digit pick
   below l = next ∙ simp (lt-leb 48 (get_or s i 0) l)
 
-  pub above : 57 < get_or s i 0 → number_from n (drop i s) ≡ Unreadable
+  pub above : 57 < get_or s i 0 → number_from n (drop i s) ≡ None
   unfolding is_digit pick
   above g = next ∙ simp (lt-leb (get_or s i 0) 57 g, and_no)
 
   module _ (l : 48 ≤ get_or s i 0) (g : get_or s i 0 ≤ 57) where
-    pub large : 4294967295 < n * 10 + (get_or s i 0 - 48) → number_from n (drop i s) ≡ Unreadable
+    pub large : 4294967295 < n * 10 + (get_or s i 0 - 48) → number_from n (drop i s) ≡ None
     unfolding pick
     large x =
         let z = grows (drop (suc i) s) (n * 10 + (get_or s i 0 - 48)) in
@@ -101,10 +101,10 @@ module _ (w : ℕ) (fits : largest w 0 ≤ 4294967295) (l : List ℕ) where
           simp (le-leb (decimal_from 0 (take w l)) 4294967295 (omega arith))
       go false e = refl
 
-  pub field_told : (n : ℕ) → Number n ≡ number_from 0 (take w l) → Said w l n
+  pub field_told : (n : ℕ) → Some n ≡ number_from 0 (take w l) → Said w l n
   field_told n e =
       let t = told (all_digits (take w l)) (decimal (take w l)) n (e ∙ field_is) in
       record { digits = t.0; is = t.1 }
 
-  pub field_untold : Unreadable ≡ number_from 0 (take w l) → all_digits (take w l) ≡ false
+  pub field_untold : None ≡ number_from 0 (take w l) → all_digits (take w l) ≡ false
   field_untold e = untold (all_digits (take w l)) (decimal (take w l)) (e ∙ field_is)

@@ -1,4 +1,5 @@
 -- The two forms of a time line, put together from their pieces. Assumes nothing.
+use Rattle.std.specs.Prelude.{Option, None, Some}
 use Prim.Native.Nat.{ℕ, ◌+◌, ◌*◌, ◌≤◌, ◌<◌}
 use mathlib.Core.Path.{◌≡◌, refl, sym, ap, ap₂, ◌∙◌}
 use mathlib.Core.List.{List, [], ◌∷◌}
@@ -7,13 +8,12 @@ use native.Mathlib.Omega.{arith}
 use lib.ListN.{length, get_or, drop, length-drop}
 use lib.Seq.{drop-cons, drop-length}
 use lib.Dec.{eqb, leb}
+use lib.Pointwise.{pointwise}
 use borrow.Author.Tests.{leb-true, eq-eqb}
 use Rattle.format.specs.Bytes.{pick, same}
 use Rattle.format.specs.Times.{all_digits, decimal, field, day_number, at_form, text_marks, text_digits, text_day, text_clock, text_zone, text_form}
 use Rattle.format.specs.Times.{text_seconds, seconds_of}
-use Rattle.format.specs.declared.Spelled.TheVariants.{Unreadable, Number}
 use Rattle.format.proofs.Basics.{both, and_true, pick_true, pick_false, same_true}
-use Rattle.format.specs.declared.Spelled.{Spelled}
 use Rattle.seconds.specs.Reading.{spelled, date_of, clock_of}
 use Rattle.seconds.proofs.Digits.{told, untold, and_no}
 use Rattle.seconds.proofs.Days.{real, day_small}
@@ -62,6 +62,7 @@ other_length line h = go (text_zone line) refl
     go true e = absurd (h (zone_length line e))
     go false e = refl
 
+-- #101: the zone byte by byte, as document 02's page of that request names it
 abbrev pub last_three : List ℕ → List ℕ
 last_three line = get_or line 24 0 ∷ get_or line 25 0 ∷ get_or line 26 0 ∷ []
 
@@ -98,9 +99,33 @@ pub third_decides : (s t : List ℕ) → length s ≡ 3 → length t ≡ 3 → g
 unfolding pick
 third_decides s t m n e f = sym (same_three s t m n ∙ simp (eq-eqb _ _ e, eq-eqb _ _ f))
 
+-- `==` of two lists of bytes
+pub pointwise_same : (s t : List ℕ) → pointwise eqb s t ≡ same s t
+unfolding same pick
+pointwise_same [] [] = refl
+pointwise_same [] (y ∷ t) = refl
+pointwise_same (x ∷ s) [] = refl
+pointwise_same (x ∷ s) (y ∷ t) = go (eqb x y) (pointwise_same s t)
+  where
+    go : (b : Bool) → pointwise eqb s t ≡ same s t → (b && pointwise eqb s t) ≡ pick b (same s t) false
+    go true e = e
+    go false e = refl
+
+-- one zone, else the other, as `==` tells it
+zone_told : (line : List ℕ) → (pointwise eqb (drop 24 line) (71 ∷ 77 ∷ 84 ∷ []) || pointwise eqb (drop 24 line) (85 ∷ 84 ∷ 67 ∷ [])) ≡ text_zone line
+unfolding text_zone
+zone_told line = ap₂ (λ (a b : Bool). a || b) (pointwise_same _ _) (pointwise_same _ _)
+
+-- the same by what the code compared
+pub first_zone : (line : List ℕ) → true ≡ pointwise eqb (drop 24 line) (71 ∷ 77 ∷ 84 ∷ []) → true ≡ text_zone line
+first_zone line p = rw (← zone_told line, ← p) refl
+
+pub second_zone : (line : List ℕ) (q : Bool) → false ≡ pointwise eqb (drop 24 line) (71 ∷ 77 ∷ 84 ∷ []) → q ≡ pointwise eqb (drop 24 line) (85 ∷ 84 ∷ 67 ∷ []) → q ≡ text_zone line
+second_zone line q p r = rw (← zone_told line, ← p, ← r) refl
+
 -- the numbers of a time line in the text form
 pub record Whole (line : List ℕ) (days time : ℕ) : Type 0 where
-  pub is : Number (days * 86400 + time) ≡ spelled (text_form line) (text_seconds line)
+  pub is : Some (days * 86400 + time) ≡ spelled (text_form line) (text_seconds line)
   pub days_fit : days ≤ 47482
   pub time_fits : time < 86400
 
@@ -136,19 +161,19 @@ module _ (line : List ℕ) where
     unfolding text_form text_digits
     form_is = simp (z, m)
 
-    pub no_date : Unreadable ≡ date_of line → Unreadable ≡ spelled (text_form line) (text_seconds line)
+    pub no_date : None ≡ date_of line → None ≡ spelled (text_form line) (text_seconds line)
     unfolding date_of
     no_date e =
         let u = untold (date_digits && text_day line) days e in
         sym (pick_false _ _ (form_is ∙ no_left date_digits clock_digits (text_day line) (text_clock line) u))
 
-    pub no_clock : Unreadable ≡ clock_of line → Unreadable ≡ spelled (text_form line) (text_seconds line)
+    pub no_clock : None ≡ clock_of line → None ≡ spelled (text_form line) (text_seconds line)
     unfolding clock_of
     no_clock e =
         let u = untold (clock_digits && text_clock line) time e in
         sym (pick_false _ _ (form_is ∙ no_right date_digits clock_digits (text_day line) (text_clock line) u))
 
-    pub whole : (d t : ℕ) → Number d ≡ date_of line → Number t ≡ clock_of line → Whole line d t
+    pub whole : (d t : ℕ) → Some d ≡ date_of line → Some t ≡ clock_of line → Whole line d t
     unfolding date_of clock_of text_seconds
     whole d t e f =
         let p = told (date_digits && text_day line) days d e in
@@ -158,19 +183,19 @@ module _ (line : List ℕ) where
         let z : text_form line ≡ true = form_is ∙ and_true (and_true x.0 y.0) (and_true x.1 y.1) in
         let v : d * 86400 + t ≡ days * 86400 + time = ap₂ (λ (a b : ℕ). a * 86400 + b) p.1 q.1 in
         record {
-          is = ap Number v ∙ sym (pick_true _ _ z);
+          is = ap Some v ∙ sym (pick_true _ _ z);
           days_fit = omega (arith, days_small x.1, p.1);
           time_fits = omega (arith, time_small y.1, q.1);
         }
 
   -- ---- either form
 
-  pub by_at : (n : ℕ) → Number n ≡ spelled (at_form line) (decimal (drop 1 line)) → Number n ≡ seconds_of line
+  pub by_at : (n : ℕ) → Some n ≡ spelled (at_form line) (decimal (drop 1 line)) → Some n ≡ seconds_of line
   unfolding seconds_of
   by_at n e =
       let t = told (at_form line) (decimal (drop 1 line)) n e in
-      ap Number t.1 ∙ sym (pick_true _ _ t.0)
+      ap Some t.1 ∙ sym (pick_true _ _ t.0)
 
-  pub by_text : (r : Spelled) → Unreadable ≡ spelled (at_form line) (decimal (drop 1 line)) → r ≡ spelled (text_form line) (text_seconds line) → r ≡ seconds_of line
+  pub by_text : (r : Option ℕ) → None ≡ spelled (at_form line) (decimal (drop 1 line)) → r ≡ spelled (text_form line) (text_seconds line) → r ≡ seconds_of line
   unfolding seconds_of
   by_text r e f = f ∙ sym (pick_false _ _ (untold (at_form line) (decimal (drop 1 line)) e))

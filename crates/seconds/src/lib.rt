@@ -2,47 +2,30 @@
 #![tactic(auto)]
 
 ghost use Rattle.std.specs.Prelude.{◌≡◌, ◌-◌, ◌≤◌, ◌<◌, length, drop};
-ghost use Rattle.format.specs.Bytes.{same};
 ghost use Rattle.format.specs.Times.{leap, month_length, month_days, year_days, day_number, real_date, decimal, at_form, text_marks, text_zone, text_form, text_seconds, seconds_of};
 ghost use Rattle.seconds.specs.Reading.{spelled, number_from, date_of, clock_of};
 
-use format::Spelled;
-
 // The zones of a clock that is Greenwich time all the year.
-const GMT: [u8; 3] = [b'G', b'M', b'T'];
+const GMT: [u8; 3] = *b"GMT";
 
-const UTC: [u8; 3] = [b'U', b'T', b'C'];
-
-// A byte as a number to compute with.
-fn wide(x: u8) -> u64
-    ensures { (result ≡ x) × (result < 256) }
-{
-    x as u64
-}
+const UTC: [u8; 3] = *b"UTC";
 
 // The number that the digits of s spell, of at most 4294967295. It only grows
 // with each digit, so the first value past that bound decides.
-fn number(s: &[u8]) -> Spelled
+fn number(s: &[u8]) -> Option<u64>
     ensures { result ≡ number_from 0 s.now }
 {
     let mut n: u64 = 0;
-    let mut i: usize = 0;
-    while i < s.len() {
-        let b = s[i];
-        if b < 48 {
-            return Spelled::Unreadable;
+    for b in s {
+        if *b < b'0' || b'9' < *b {
+            return None;
         }
-        if 57 < b {
-            return Spelled::Unreadable;
+        n = n * 10 + u64::from(*b - b'0');
+        if 4294967295 < n {
+            return None;
         }
-        let m = n * 10 + wide(b - 48);
-        if 4294967295 < m {
-            return Spelled::Unreadable;
-        }
-        n = m;
-        i += 1;
     }
-    Spelled::Number { value: n }
+    Some(n)
 }
 
 // The days that a leap year has more: from 1970 to 2099 every fourth year has one.
@@ -119,59 +102,37 @@ fn day_number(year: u64, month: u64, day: u64) -> u64
 }
 
 // The date of a time line in the text form, as days since 1970.
-fn date(line: &[u8]) -> Spelled
+fn date(line: &[u8]) -> Option<u64>
     requires { 25 ≤ length line.now }
     ensures { result ≡ date_of line.now }
 {
-    let years = number(&line[4..8]);
-    let Spelled::Number { value: year } = years else {
-        return Spelled::Unreadable;
-    };
-    let months = number(&line[9..11]);
-    let Spelled::Number { value: month } = months else {
-        return Spelled::Unreadable;
-    };
-    let days = number(&line[12..14]);
-    let Spelled::Number { value: day } = days else {
-        return Spelled::Unreadable;
-    };
+    let year = number(&line[4..8])?;
+    let month = number(&line[9..11])?;
+    let day = number(&line[12..14])?;
     if !real_date(year, month, day) {
-        return Spelled::Unreadable;
+        return None;
     }
-    Spelled::Number {
-        value: day_number(year, month, day),
-    }
+    Some(day_number(year, month, day))
 }
 
 // The clock of a time line in the text form, as seconds of its day.
-fn clock(line: &[u8]) -> Spelled
+fn clock(line: &[u8]) -> Option<u64>
     requires { 25 ≤ length line.now }
     ensures { result ≡ clock_of line.now }
 {
-    let hours = number(&line[15..17]);
-    let Spelled::Number { value: hour } = hours else {
-        return Spelled::Unreadable;
-    };
-    let minutes = number(&line[18..20]);
-    let Spelled::Number { value: minute } = minutes else {
-        return Spelled::Unreadable;
-    };
-    let seconds = number(&line[21..23]);
-    let Spelled::Number { value: second } = seconds else {
-        return Spelled::Unreadable;
-    };
+    let hour = number(&line[15..17])?;
+    let minute = number(&line[18..20])?;
+    let second = number(&line[21..23])?;
     if 23 < hour {
-        return Spelled::Unreadable;
+        return None;
     }
     if 59 < minute {
-        return Spelled::Unreadable;
+        return None;
     }
     if 59 < second {
-        return Spelled::Unreadable;
+        return None;
     }
-    Spelled::Number {
-        value: hour * 3600 + (minute * 60 + second),
-    }
+    Some(hour * 3600 + (minute * 60 + second))
 }
 
 // Whether the bytes between the numbers are those of the text form.
@@ -201,32 +162,19 @@ fn marks(line: &[u8]) -> bool
 }
 
 // The seconds of a time line `@` and digits.
-fn at_form(line: &[u8]) -> Spelled
+fn at_form(line: &[u8]) -> Option<u64>
     ensures { result ≡ spelled (at_form line.now) (decimal (drop 1 line.now)) }
 {
     if line.len() < 2 {
-        return Spelled::Unreadable;
+        return None;
     }
     if 11 < line.len() {
-        return Spelled::Unreadable;
+        return None;
     }
     if line[0] != 64 {
-        return Spelled::Unreadable;
+        return None;
     }
     number(&line[1..])
-}
-
-// Whether two zones of three bytes are the same.
-fn same_zone(a: [u8; 3], b: [u8; 3]) -> bool
-    ensures { result ≡ same a b }
-{
-    if a[0] != b[0] {
-        return false;
-    }
-    if a[1] != b[1] {
-        return false;
-    }
-    a[2] == b[2]
 }
 
 // Whether the zone, all that stands behind the last space, is `GMT` or `UTC`.
@@ -236,43 +184,31 @@ fn known_zone(line: &[u8]) -> bool
     if line.len() != 27 {
         return false;
     }
-    let zone = [line[24], line[25], line[26]];
-    if same_zone(zone, GMT) {
-        return true;
-    }
-    same_zone(zone, UTC)
+    let zone = &line[24..];
+    zone == GMT.as_slice() || zone == UTC.as_slice()
 }
 
 // The seconds of a time line `Www,YYYY.MM.DD hh:mm:ss Z`.
-fn text_form(line: &[u8]) -> Spelled
+fn text_form(line: &[u8]) -> Option<u64>
     ensures { result ≡ spelled (text_form line.now) (text_seconds line.now) }
 {
     if !known_zone(line) {
-        return Spelled::Unreadable;
+        return None;
     }
     if !marks(line) {
-        return Spelled::Unreadable;
+        return None;
     }
-    let dated = date(line);
-    let Spelled::Number { value: days } = dated else {
-        return Spelled::Unreadable;
-    };
-    let timed = clock(line);
-    let Spelled::Number { value: seconds } = timed else {
-        return Spelled::Unreadable;
-    };
-    Spelled::Number {
-        value: days * 86400 + seconds,
-    }
+    let days = date(line)?;
+    let seconds = clock(line)?;
+    Some(days * 86400 + seconds)
 }
 
 // The seconds since 1970 of a time line, in either form.
-pub fn seconds_of(line: &[u8]) -> Spelled
+pub fn seconds_of(line: &[u8]) -> Option<u64>
     ensures { result ≡ seconds_of line.now }
 {
-    let at = at_form(line);
-    match at {
-        Spelled::Number { value: _ } => at,
-        Spelled::Unreadable => text_form(line),
+    match at_form(line) {
+        Some(seconds) => Some(seconds),
+        None => text_form(line),
     }
 }

@@ -1,10 +1,10 @@
 // SHA-256 (FIPS 180-4): of bytes in one slice, and of bytes that come in parts.
-#![tactic(auto)]
+#![tactic(auto, unfolding(crate::specs::Words::plus, crate::specs::Words::rotate_right, crate::specs::Words::choose, crate::specs::Words::majority, crate::specs::Words::big_sigma0, crate::specs::Words::big_sigma1, crate::specs::Words::small_sigma0, crate::specs::Words::small_sigma1, crate::specs::Digest::next_word, crate::specs::Digest::constants, crate::specs::Digest::initial))]
 
 ghost use Rattle.std.specs.Prelude.{◌≡◌, ◌+◌, ◌-◌, ◌*◌, ◌/◌, ◌%◌, ◌^◌, ◌<◌, ◌≤◌, ◌∷◌, ◌++◌, length, take, replicate, slice_index, slice_set};
 ghost use Rattle.format.specs.Bytes.{to_be32};
 ghost use Rattle.wire.specs.Laid.{laid};
-ghost use Rattle.sha256.specs.Words.{plus, rotate_right, choose, majority, big_sigma0, big_sigma1, small_sigma0, small_sigma1};
+ghost use Rattle.sha256.specs.Words.{plus, choose, majority, big_sigma0, big_sigma1, small_sigma0, small_sigma1};
 ghost use Rattle.sha256.specs.Digest.{constants, initial, bit_length, schedule, next_word, round_of, rounds, sum_of, compressed, blocks, digest, half_digest, hashed, sha256_of};
 ghost use Rattle.sha256.specs.Streams.{TakenIn, updated, finished, stream_of, begun, running_of};
 
@@ -53,29 +53,10 @@ pub struct Running {
 
 // ---- the functions on words
 
-fn long(x: u32) -> u64
-    ensures { (result ≡ x) × (result < 4294967296) }
-{
-    x as u64
-}
-
 fn word(x: u64) -> u32
     ensures { result ≡ x % 4294967296 }
 {
     (x % WORD_RANGE) as u32
-}
-
-fn add(a: u32, b: u32) -> u32
-    ensures { result ≡ plus a b }
-{
-    word(long(a) + long(b))
-}
-
-fn rotr(x: u32, n: u32) -> u32
-    requires { (0 < n) × (n < 32) }
-    ensures { result ≡ rotate_right n x }
-{
-    (x >> n) | (x << (32 - n))
 }
 
 fn ch(x: u32, y: u32, z: u32) -> u32
@@ -93,25 +74,25 @@ fn maj(x: u32, y: u32, z: u32) -> u32
 fn big0(x: u32) -> u32
     ensures { result ≡ big_sigma0 x }
 {
-    rotr(x, 2) ^ rotr(x, 13) ^ rotr(x, 22)
+    x.rotate_right(2) ^ x.rotate_right(13) ^ x.rotate_right(22)
 }
 
 fn big1(x: u32) -> u32
     ensures { result ≡ big_sigma1 x }
 {
-    rotr(x, 6) ^ rotr(x, 11) ^ rotr(x, 25)
+    x.rotate_right(6) ^ x.rotate_right(11) ^ x.rotate_right(25)
 }
 
 fn small0(x: u32) -> u32
     ensures { result ≡ small_sigma0 x }
 {
-    rotr(x, 7) ^ rotr(x, 18) ^ (x >> 3)
+    x.rotate_right(7) ^ x.rotate_right(18) ^ (x >> 3)
 }
 
 fn small1(x: u32) -> u32
     ensures { result ≡ small_sigma1 x }
 {
-    rotr(x, 17) ^ rotr(x, 19) ^ (x >> 10)
+    x.rotate_right(17) ^ x.rotate_right(19) ^ (x >> 10)
 }
 
 // ---- the message schedule of a block
@@ -122,10 +103,8 @@ fn spread(b: &[u8]) -> [u32; 64]
     ensures { (length result ≡ 64) × (take 16 result ≡ schedule b.now 16) }
 {
     let mut w = [0u32; 64];
-    let mut t: usize = 0;
-    while t < 16 {
+    for t in 0..16 {
         w[t] = number::get_be32(&b[4 * t..]);
-        t += 1;
     }
     w
 }
@@ -133,7 +112,10 @@ fn spread(b: &[u8]) -> [u32; 64]
 fn mixed(w2: u32, w7: u32, w15: u32, w16: u32) -> u32
     ensures { result ≡ plus (plus (plus (small_sigma1 w2) w7) (small_sigma0 w15)) w16 }
 {
-    add(add(add(small1(w2), w7), small0(w15)), w16)
+    small1(w2)
+        .wrapping_add(w7)
+        .wrapping_add(small0(w15))
+        .wrapping_add(w16)
 }
 
 // The word t, of those before it.
@@ -157,22 +139,23 @@ fn table() -> [u32; 64]
 fn first_sum(s: Hash, k: u32, w: u32) -> u32
     ensures { result ≡ plus (plus (plus (plus s.h (big_sigma1 s.e)) (choose s.e s.f s.g)) k) w }
 {
-    add(add(add(add(s.h, big1(s.e)), ch(s.e, s.f, s.g)), k), w)
+    s.h.wrapping_add(big1(s.e))
+        .wrapping_add(ch(s.e, s.f, s.g))
+        .wrapping_add(k)
+        .wrapping_add(w)
 }
 
 fn round(s: Hash, k: u32, w: u32) -> Hash
     ensures { result ≡ round_of k w s }
 {
     let t1 = first_sum(s, k, w);
-    let t2 = add(big0(s.a), maj(s.a, s.b, s.c));
-    let a = add(t1, t2);
-    let e = add(s.d, t1);
+    let t2 = big0(s.a).wrapping_add(maj(s.a, s.b, s.c));
     Hash {
-        a: a,
+        a: t1.wrapping_add(t2),
         b: s.a,
         c: s.b,
         d: s.c,
-        e: e,
+        e: s.d.wrapping_add(t1),
         f: s.e,
         g: s.f,
         h: s.g,
@@ -187,19 +170,17 @@ fn early_round(k: &[u32; 64], w: &[u32; 64], t: usize, s: Hash) -> Hash
     round(s, k[t], w[t])
 }
 
-// The first 16 rounds, whose words are the block's.
+// The first 16 rounds, whose words are the block's, four a turn.
 fn early_rounds(k: &[u32; 64], w: &[u32; 64], h: Hash) -> Hash
-    requires { (length k.now ≡ 64) × (length w.now ≡ 64) }
     ensures { result ≡ rounds (take 16 k.now) (take 16 w.now) h }
 {
     let mut s = h;
-    let mut t: usize = 0;
-    while t < 16 {
+    for turn in 0..4 {
+        let t = 4 * turn;
         let s1 = early_round(k, w, t, s);
         let s2 = early_round(k, w, t + 1, s1);
         let s3 = early_round(k, w, t + 2, s2);
         s = early_round(k, w, t + 3, s3);
-        t += 4;
     }
     s
 }
@@ -219,14 +200,14 @@ fn sum(x: Hash, y: Hash) -> Hash
     ensures { result ≡ sum_of x y }
 {
     Hash {
-        a: add(x.a, y.a),
-        b: add(x.b, y.b),
-        c: add(x.c, y.c),
-        d: add(x.d, y.d),
-        e: add(x.e, y.e),
-        f: add(x.f, y.f),
-        g: add(x.g, y.g),
-        h: add(x.h, y.h),
+        a: x.a.wrapping_add(y.a),
+        b: x.b.wrapping_add(y.b),
+        c: x.c.wrapping_add(y.c),
+        d: x.d.wrapping_add(y.d),
+        e: x.e.wrapping_add(y.e),
+        f: x.f.wrapping_add(y.f),
+        g: x.g.wrapping_add(y.g),
+        h: x.h.wrapping_add(y.h),
     }
 }
 
@@ -239,6 +220,7 @@ fn compress(k: &[u32; 64], h: Hash, b: &[u8]) -> Hash
     let mut w = spread(b);
     let mut s = early_rounds(k, &w, h);
     let mut t: usize = 16;
+    // By hand: a `for` over the turns spills more, 35 instructions a turn.
     while t < 64 {
         let s1 = late_round(k, &mut w, t, s);
         let s2 = late_round(k, &mut w, t + 1, s1);
@@ -259,11 +241,9 @@ fn absorb(k: &[u32; 64], h: Hash, bytes: &[u8]) -> Hash
     ensures { result ≡ blocks (length bytes.now / 64) bytes.now h }
 {
     let mut s = h;
-    let mut at: usize = 0;
-    while BLOCK <= bytes.len() - at {
-        let end = at + BLOCK;
-        s = compress(k, s, &bytes[at..end]);
-        at = end;
+    for n in 0..bytes.len() / BLOCK {
+        let at = n * BLOCK;
+        s = compress(k, s, &bytes[at..at + BLOCK]);
     }
     s
 }
@@ -283,21 +263,13 @@ fn low_bits(n: u64) -> u32
     word(n % 536870912 * 8)
 }
 
-// A word's bytes from `at` on.
-fn lay_word(out: &mut [u8], at: usize, n: u32)
-    requires { at + 4 ≤ length out.old }
-    ensures { out.new ≡ laid out.old at (to_be32 n) }
-{
-    number::put_be32(&mut out[at..], n);
-}
-
 // The number of bits of n bytes in the last eight places of a block.
 fn lay_length(b: &mut [u8], n: u64)
     requires { length b.old ≡ 64 }
     ensures { b.new ≡ take 56 b.old ++ bit_length n }
 {
-    lay_word(b, 56, high_bits(n));
-    lay_word(b, 60, low_bits(n));
+    wire::lay_be32(high_bits(n), b, 56);
+    wire::lay_be32(low_bits(n), b, 60);
 }
 
 fn zeros() -> [u8; BLOCK]
@@ -339,10 +311,10 @@ fn lay_half(out: &mut [u8], at: usize, a: u32, b: u32, c: u32, d: u32)
     requires { at + 16 ≤ length out.old }
     ensures { out.new ≡ laid out.old at (half_digest a b c d) }
 {
-    lay_word(out, at, a);
-    lay_word(out, at + 4, b);
-    lay_word(out, at + 8, c);
-    lay_word(out, at + 12, d);
+    wire::lay_be32(a, out, at);
+    wire::lay_be32(b, out, at + 4);
+    wire::lay_be32(c, out, at + 8);
+    wire::lay_be32(d, out, at + 12);
 }
 
 fn lay_digest(out: &mut [u8], s: Hash)
@@ -355,14 +327,6 @@ fn lay_digest(out: &mut [u8], s: Hash)
 
 // ---- a message in parts
 
-// Lays bytes over those of the block from `held` on.
-fn fill(block: &mut [u8], held: usize, bytes: &[u8])
-    requires { held + length bytes.now ≤ length block.old }
-    ensures { block.new ≡ laid block.old held bytes.now }
-{
-    wire::copy(bytes, &mut block[held..]);
-}
-
 // Takes in the whole blocks of the bytes that wait in the block and those that come, and
 // leaves the rest at the front of the block.
 fn take_in(h: Hash, block: &mut [u8], held: usize, bytes: &[u8]) -> Hash
@@ -371,32 +335,17 @@ fn take_in(h: Hash, block: &mut [u8], held: usize, bytes: &[u8]) -> Hash
 {
     let room = BLOCK - held;
     if bytes.len() < room {
-        fill(block, held, bytes);
+        wire::lay(bytes, block, held);
         return h;
     }
     let k = table();
-    fill(block, held, &bytes[0..room]);
+    wire::lay(&bytes[0..room], block, held);
     let one = compress(&k, h, block);
     let behind = &bytes[room..];
     let next = absorb(&k, one, behind);
     let at = behind.len() / BLOCK * BLOCK;
-    fill(block, 0, &behind[at..]);
+    wire::lay(&behind[at..], block, 0);
     next
-}
-
-// The arrays' lengths, which their types say.
-fn full_block(block: &[u8; BLOCK]) -> usize
-    ensures { (result ≡ 64) × (length block.now ≡ 64) }
-{
-    let whole = &block[..];
-    whole.len()
-}
-
-fn full_digest(out: &[u8; DIGEST]) -> usize
-    ensures { (result ≡ 32) × (length out.now ≡ 32) }
-{
-    let whole = &out[..];
-    whole.len()
 }
 
 // How many bytes of a block wait after `length` bytes.
@@ -427,11 +376,10 @@ pub fn start() -> Running
 pub fn update(run: Running, block: &mut [u8; BLOCK], bytes: &[u8]) -> Running
     ensures { stream_of result block.new ≡ updated (stream_of run block.old) bytes.now }
 {
-    full_block(block);
     let held = waiting(run.length);
     let before = run.hash;
     let hash = take_in(before, &mut block[..], held, bytes);
-    let length = std::num::wrapping_add_u64(run.length, bytes.len() as u64);
+    let length = run.length.wrapping_add(bytes.len() as u64);
     Running { hash, length }
 }
 
@@ -439,8 +387,6 @@ pub fn update(run: Running, block: &mut [u8; BLOCK], bytes: &[u8]) -> Running
 pub fn finish(run: Running, block: &[u8; BLOCK], out: &mut [u8; DIGEST])
     ensures { out.new ≡ finished (stream_of run block.now) }
 {
-    full_block(block);
-    full_digest(out);
     let held = waiting(run.length);
     let before = run.hash;
     let whole = &block[..];
@@ -482,14 +428,14 @@ pub fn numbers_of(run: Running) -> [u64; RUNNING_NUMBERS]
 {
     let hash = run.hash;
     [
-        long(hash.a),
-        long(hash.b),
-        long(hash.c),
-        long(hash.d),
-        long(hash.e),
-        long(hash.f),
-        long(hash.g),
-        long(hash.h),
+        u64::from(hash.a),
+        u64::from(hash.b),
+        u64::from(hash.c),
+        u64::from(hash.d),
+        u64::from(hash.e),
+        u64::from(hash.f),
+        u64::from(hash.g),
+        u64::from(hash.h),
         run.length,
     ]
 }

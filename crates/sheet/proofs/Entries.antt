@@ -2,6 +2,7 @@
 use Prim.Native.Nat.{ℕ, ◌+◌, ◌-◌, ◌≤◌, ◌<◌}
 use mathlib.Core.Path.{◌≡◌, sym, ◌∙◌}
 use mathlib.Core.List.{List}
+use Rattle.std.specs.Prelude.{Option, Some, None}
 use mathlib.Core.Bool.{Bool, true, false, not, ◌&&◌}
 use native.Mathlib.Omega.{arith}
 use lib.ListN.{length, get_or, drop}
@@ -19,7 +20,6 @@ use Rattle.format.proofs.SheetLaws.{fits, entry_read}
 use Rattle.format.specs.declared.Fields.{Fields}
 use Rattle.format.specs.declared.Fields.TheVariants.{Station, Section}
 use Rattle.sheet.specs.declared.Entry.{Entry as Found}
-use Rattle.sheet.specs.declared.Entry.TheVariants.{Flawed, Whole}
 use Rattle.sheet.specs.Seen.{leg_of, Inside, Told, FormedOf, EntryTold}
 
 -- ---- a body with a label from its byte k on
@@ -48,7 +48,7 @@ fitted {n = n} {k = k} e h there =
 inside : {s : List ℕ} {n k : ℕ} → Fitting s n k → {f : _} → Inside s (2 + n) f (2 + k)
 inside z = record { from_within = omega arith; within = z.there; short = omega arith }
 
-flaw : {s : List ℕ} {x : Entry} → flawed ≡ x → Told Flawed s x
+flaw : {s : List ℕ} {x : Entry} → flawed ≡ x → Told None s x
 flaw e = record { same = e; inside = tt }
 
 -- the record x of a body of n bytes, by its kind's definition: whole with these fields where its label fits from byte k on and the rest is good
@@ -56,15 +56,15 @@ pub record Shaped (x : Entry) (s : List ℕ) (n k : ℕ) (good : Bool) (f : Fiel
   pub is : x ≡ pick (label_fits n k && good) (entry (2 + n) (record_of f (label_from n k (drop 2 s)))) flawed
 
 module _ {x : Entry} {s : List ℕ} {n k : ℕ} {good : Bool} {f : Fields} (x-is : Shaped x s n k good f) where
-  pub too_long_lem : label_fits n k ≡ false → Told Flawed s x
+  pub too_long_lem : label_fits n k ≡ false → Told None s x
   unfolding pick
   too_long_lem h = flaw (rw x-is.is (simp h))
 
-  pub spoilt : Fitting s n k → good ≡ false → Told Flawed s x
+  pub spoilt : Fitting s n k → good ≡ false → Told None s x
   unfolding pick
   spoilt z h = flaw (rw x-is.is (simp (z.fit, h)))
 
-  pub whole : Fitting s n k → good ≡ true → Told (Whole (2 + n) f (2 + k)) s x
+  pub whole : Fitting s n k → good ≡ true → Told (Some (record { size = 2 + n; fields = f; from = 2 + k })) s x
   unfolding pick
   whole z h =
       let e : 2 + n - (2 + k) ≡ n - k = omega arith in
@@ -79,22 +79,22 @@ module _ (s : List ℕ) (n : ℕ) where
   unfolding leg_entry
   leg_is = record { is = simp (get_or-drop, drop-drop) }
 
-  pub leg_long : label_fits n leg_size ≡ false → Told Flawed s (leg_entry n (drop 2 s))
+  pub leg_long : label_fits n leg_size ≡ false → Told None s (leg_entry n (drop 2 s))
   leg_long e = too_long_lem leg_is e
 
   module _ (z : Fitting s n leg_size) where
-    pub leg_flags : 0x07 < get_or s 3 0 → Told Flawed s (leg_entry n (drop 2 s))
+    pub leg_flags : 0x07 < get_or s 3 0 → Told None s (leg_entry n (drop 2 s))
     leg_flags h = spoilt leg_is z (simp (lt-leb _ _ h))
 
-    pub leg_style : get_or s 3 0 ≤ 0x07 → 5 < get_or s 4 0 → Told Flawed s (leg_entry n (drop 2 s))
+    pub leg_style : get_or s 3 0 ≤ 0x07 → 5 < get_or s 4 0 → Told None s (leg_entry n (drop 2 s))
     leg_style hf h = spoilt leg_is z (simp (le-leb _ _ hf, lt-leb _ _ h))
 
     module _ (hf : get_or s 3 0 ≤ 0x07) (hs : get_or s 4 0 ≤ 5) where
-      pub leg_date : good_date (get_or s 5 0) (be16 (drop 6 s)) (be16 (drop 8 s)) ≡ false → Told Flawed s (leg_entry n (drop 2 s))
+      pub leg_date : good_date (get_or s 5 0) (be16 (drop 6 s)) (be16 (drop 8 s)) ≡ false → Told None s (leg_entry n (drop 2 s))
       leg_date h = spoilt leg_is z (simp (le-leb _ _ hf, le-leb _ _ hs, h))
 
       pub leg_whole : good_date (get_or s 5 0) (be16 (drop 6 s)) (be16 (drop 8 s)) ≡ true
-          → Told (Whole (2 + n) (leg_of s (date_from (get_or s 5 0) (be16 (drop 6 s)) (be16 (drop 8 s)))) 34) s (leg_entry n (drop 2 s))
+          → Told (Some (record { size = 2 + n; fields = leg_of s (date_from (get_or s 5 0) (be16 (drop 6 s)) (be16 (drop 8 s))); from = 34 })) s (leg_entry n (drop 2 s))
       leg_whole h = whole leg_is z (simp (le-leb _ _ hf, le-leb _ _ hs, h))
 
   -- ---- stations
@@ -156,9 +156,9 @@ module _ (version : ℕ) (s : List ℕ) (e : framed s ≡ true) where
 
 -- ---- what is told of bytes is well-formed
 
-formed : (version : ℕ) (s : List ℕ) → Bytes s → (r : Found) → Told r s (entry_of version s) → FormedOf r s
-formed version s b Flawed t = tt
-formed version s b (Whole n f k) t = (entry_read version s b (sym t.same)).2
+formed : (version : ℕ) (s : List ℕ) → Bytes s → (r : Option Found) → Told r s (entry_of version s) → FormedOf r s
+formed version s b None t = tt
+formed version s b (Some e) t = (entry_read version s b (sym t.same)).2
 
-pub entry_told : (version : ℕ) (s : List ℕ) → Bytes s → (r : Found) → Told r s (entry_of version s) → EntryTold r version s
+pub entry_told : (version : ℕ) (s : List ℕ) → Bytes s → (r : Option Found) → Told r s (entry_of version s) → EntryTold r version s
 entry_told version s b r t = record { same = t.same; inside = t.inside; formed = formed version s b r t }

@@ -2,20 +2,19 @@
 use Prim.Native.Nat.{ℕ, ◌+◌, ◌-◌, ◌≤◌, ◌<◌}
 use mathlib.Core.Path.{◌≡◌, sym, ap, ◌∙◌}
 use mathlib.Core.List.{List}
+use Rattle.std.specs.Prelude.{Some, None}
 use native.Mathlib.Omega.{arith}
 use lib.ListN.{length, take, drop, length-take, length-drop, drop_of_length-le}
 use lib.Seq.{drop-drop}
 use borrow.Author.Rules.{part_to_end}
 use Rattle.format.specs.State.{Record}
 use Rattle.format.specs.Sheet.{entry_of, flawed, entry, entry_step, records_from}
-use Rattle.format.specs.Refusals.{stop, also}
-use Rattle.format.specs.declared.Verdict.TheVariants.{Good, Refusal}
+use Rattle.format.specs.Refusals.{stop, also, Good, Refusal}
 use Rattle.format.specs.WellFormed.{WellFormed}
 use Rattle.format.specs.Fields.{record_of}
 use Rattle.format.specs.declared.Fields.{Fields}
 use Rattle.format.proofs.SheetLaws.{entry_sized, records_more, records_none}
 use Rattle.sheet.specs.Seen.{label_of, EntryTold}
-use Rattle.sheet.specs.declared.Entry.TheVariants.{Flawed, Whole}
 
 abbrev pub part : List ℕ → ℕ → ℕ → List ℕ
 part s a b = take (b - a) (drop a s)
@@ -30,12 +29,12 @@ module _ (version : ℕ) (s : List ℕ) (at : ℕ) (h : at < length s) where
   more_at place number = records_more version place (drop at s) number (simp length-drop (omega arith))
 
   -- no well-formed record is there
-  pub flawed_at : EntryTold Flawed version (take (length s - at) (drop at s)) → (place number : ℕ)
+  pub flawed_at : EntryTold None version (take (length s - at) (drop at s)) → (place number : ℕ)
       → records_from version place (drop at s) number ≡ stop (Refusal 12 number)
   flawed_at T place number = let e : flawed ≡ entry_of version (drop at s) = simp part_to_end at T.same in more_at place number ∙ rw (← e)
 
   -- one of n bytes is, whose label starts at its byte k
-  module _ (n : ℕ) (f : Fields) (k : ℕ) (T : EntryTold (Whole n f k) version (take (length s - at) (drop at s))) where
+  module _ (n : ℕ) (f : Fields) (k : ℕ) (T : EntryTold (Some (record { size = n; fields = f; from = k })) version (take (length s - at) (drop at s))) where
     abbrev pub found : Record
     found = record_of f (part s (at + k) (at + n))
 

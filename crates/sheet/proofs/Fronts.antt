@@ -2,6 +2,7 @@
 use Prim.Native.Nat.{ℕ, ◌+◌, ◌-◌, ◌≤◌, ◌<◌}
 use mathlib.Core.Path.{◌≡◌, refl, ap, ◌∙◌}
 use mathlib.Core.List.{List}
+use Rattle.std.specs.Prelude.{Option, Some, None}
 use mathlib.Core.Bool.{true, false, and-false}
 use native.Mathlib.Omega.{arith}
 use lib.ListN.{length, get_or, take, drop, length-drop}
@@ -13,7 +14,6 @@ use Rattle.format.specs.Sheet.{framed, good_text, good_header, good_front, front
 use Rattle.format.proofs.SheetLaws.{text_good}
 use Rattle.sheet.specs.Seen.{Headed, HeaderTold, Fronted, FrontTold}
 use Rattle.sheet.specs.declared.Front.{Front}
-use Rattle.sheet.specs.declared.Front.TheVariants.{Flawed, Whole}
 
 -- ---- the header record of n bytes t
 
@@ -100,6 +100,6 @@ module _ (version : ℕ) (sheet : List ℕ) where
             time_short = h.time_short;
           }
 
-      pub front_told : 3 + be16 (drop 1 sheet) ≤ length sheet → (r : Front) → HeaderTold r (be16 (drop 1 sheet)) (drop 3 sheet) → FrontTold r version sheet
-      front_told hl Flawed h = front_header_lem h
-      front_told hl (Whole x k m) h = front_whole hl x k m h
+      pub front_told : 3 + be16 (drop 1 sheet) ≤ length sheet → (r : Option Front) → HeaderTold r (be16 (drop 1 sheet)) (drop 3 sheet) → FrontTold r version sheet
+      front_told hl None h = front_header_lem h
+      front_told hl (Some f) h = front_whole hl f.extended f.title f.time h

@@ -11,28 +11,22 @@ ghost use Rattle.sheet.specs.Seen.{leg_of, Told, EntryTold, HeaderTold, FrontTol
 
 use format::{LABEL_LIMIT, SHEET_VERSION, TIME_LIMIT, TITLE_LIMIT, UNDATED_VERSION};
 
-// The record at the front: none that is well-formed; or its size with the length
-// bytes, its fields, and where its label starts (it runs to the record's end).
+// A well-formed record at the front: its size with the length bytes, its fields, and
+// where its label starts (it runs to the record's end).
 #[derive(Clone, Copy)]
-pub enum Entry {
-    Flawed,
-    Whole {
-        size: usize,
-        fields: format::Fields,
-        from: usize,
-    },
+pub struct Entry {
+    pub size: usize,
+    pub fields: format::Fields,
+    pub from: usize,
 }
 
-// A sheet's version byte and header record: not good; or what the header says, with
-// the lengths of the title, which starts at 7, and of the time line behind it.
+// A sheet's good version byte and header record: what the header says, with the lengths
+// of the title, which starts at 7, and of the time line behind it.
 #[derive(Clone, Copy)]
-pub enum Front {
-    Flawed,
-    Whole {
-        extended: u8,
-        title: usize,
-        time: usize,
-    },
+pub struct Front {
+    pub extended: u8,
+    pub title: usize,
+    pub time: usize,
 }
 
 // A number of two bytes as a length.
@@ -99,6 +93,7 @@ pub fn label_fits(n: usize, k: usize) -> bool
 
 // Whether the days are those of a date of this kind: unused days are 0, and a range
 // has its first day before its last.
+#[tactic(auto, unfolding(format::specs::Sheet::good_date, format::specs::Bytes::pick))]
 pub fn good_date(kind: u8, first: u16, last: u16) -> bool
     ensures { result ≡ good_date kind first last }
 {
@@ -112,6 +107,7 @@ pub fn good_date(kind: u8, first: u16, last: u16) -> bool
 }
 
 // The date of this kind and these days.
+#[tactic(auto, unfolding(format::specs::Sheet::date_from, format::specs::Bytes::pick))]
 fn date_from(kind: u8, first: u16, last: u16) -> format::Dated
     ensures { result ≡ date_from kind first last }
 {
@@ -139,73 +135,73 @@ fn leg(s: &[u8], date: format::Dated) -> format::Fields
 }
 
 // The leg of the record s, whose body has n bytes.
-fn leg_entry(s: &[u8], n: usize) -> Entry
+fn leg_entry(s: &[u8], n: usize) -> Option<Entry>
     requires { 2 + n ≤ length s.now }
     ensures { Told result s.now (leg_entry n (drop 2 s.now)) }
 {
     if !label_fits(n, 32) {
-        return Entry::Flawed;
+        return None;
     }
     if 0x07 < s[3] {
-        return Entry::Flawed;
+        return None;
     }
     if 5 < s[4] {
-        return Entry::Flawed;
+        return None;
     }
     let first = day_of(number::get_be16(&s[6..]));
     let last = day_of(number::get_be16(&s[8..]));
     if !good_date(s[5], first, last) {
-        return Entry::Flawed;
+        return None;
     }
     let date = date_from(s[5], first, last);
-    Entry::Whole {
+    Some(Entry {
         size: 2 + n,
         fields: leg(s, date),
         from: 34,
-    }
+    })
 }
 
 // The station of the record s, whose body has n bytes.
-fn station_entry(s: &[u8], n: usize) -> Entry
+fn station_entry(s: &[u8], n: usize) -> Option<Entry>
     requires { 2 + n ≤ length s.now }
     ensures { Told result s.now (station_entry n (drop 2 s.now)) }
 {
     if !label_fits(n, 14) {
-        return Entry::Flawed;
+        return None;
     }
     let flags = s[3];
     if 0x7f < flags {
-        return Entry::Flawed;
+        return None;
     }
     let place = point(&s[4..]);
     let station = format::Station { flags, place };
-    Entry::Whole {
+    Some(Entry {
         size: 2 + n,
         fields: format::Fields::Station { station },
         from: 16,
-    }
+    })
 }
 
 // The cross-section of the record s of a version 2 sheet, whose body has n bytes.
-fn dated_entry(s: &[u8], n: usize) -> Entry
+fn dated_entry(s: &[u8], n: usize) -> Option<Entry>
     requires { 2 + n ≤ length s.now }
     ensures { Told result s.now (section_entry n (drop 2 s.now)) }
 {
     if !label_fits(n, 23) {
-        return Entry::Flawed;
+        return None;
     }
     let last = s[3];
     if 1 < last {
-        return Entry::Flawed;
+        return None;
     }
     let day = day_of(number::get_be16(&s[5..]));
     let end = day_of(number::get_be16(&s[7..]));
     if !good_date(s[4], day, end) {
-        return Entry::Flawed;
+        return None;
     }
     let date = date_from(s[4], day, end);
     let size = dimensions(&s[9..]);
-    Entry::Whole {
+    Some(Entry {
         size: 2 + n,
         fields: format::Fields::Section {
             last,
@@ -214,24 +210,24 @@ fn dated_entry(s: &[u8], n: usize) -> Entry
             size,
         },
         from: 25,
-    }
+    })
 }
 
 // The same of a version 1 sheet, where it has no date.
-fn undated_entry(s: &[u8], n: usize) -> Entry
+fn undated_entry(s: &[u8], n: usize) -> Option<Entry>
     requires { 2 + n ≤ length s.now }
     ensures { Told result s.now (undated_section_entry n (drop 2 s.now)) }
 {
     if !label_fits(n, 18) {
-        return Entry::Flawed;
+        return None;
     }
     let last = s[3];
     if 1 < last {
-        return Entry::Flawed;
+        return None;
     }
     let size = dimensions(&s[4..]);
     let date = format::Dated::Undated;
-    Entry::Whole {
+    Some(Entry {
         size: 2 + n,
         fields: format::Fields::Section {
             last,
@@ -240,11 +236,11 @@ fn undated_entry(s: &[u8], n: usize) -> Entry
             size,
         },
         from: 20,
-    }
+    })
 }
 
 // The cross-section of the record s, by the sheet's version.
-fn section_entry(s: &[u8], n: usize, version: u8) -> Entry
+fn section_entry(s: &[u8], n: usize, version: u8) -> Option<Entry>
     requires { 2 + n ≤ length s.now }
     ensures { Told result s.now (section_in version n (drop 2 s.now)) }
 {
@@ -255,23 +251,24 @@ fn section_entry(s: &[u8], n: usize, version: u8) -> Entry
 }
 
 // The traverse error of the record s, whose body has n bytes. It has no label.
-fn error_entry(s: &[u8], n: usize) -> Entry
+fn error_entry(s: &[u8], n: usize) -> Option<Entry>
     requires { 2 + n ≤ length s.now }
     ensures { Told result s.now (error_entry n (drop 2 s.now)) }
 {
     if n != 21 {
-        return Entry::Flawed;
+        return None;
     }
     let traverse = traverse(&s[3..]);
-    Entry::Whole {
+    Some(Entry {
         size: 2 + n,
         fields: format::Fields::Error { traverse },
         from: 2 + n,
-    }
+    })
 }
 
 // Whether length bytes and that many bytes more are at the front of s, and at least
 // a kind among them.
+#[tactic(auto, unfolding(format::specs::Sheet::framed))]
 pub fn is_framed(s: &[u8]) -> bool
     ensures { result ≡ framed s.now }
 {
@@ -283,11 +280,12 @@ pub fn is_framed(s: &[u8]) -> bool
 }
 
 // The record at the front of s, in a sheet of the version.
-pub fn read_entry(s: &[u8], version: u8) -> Entry
+#[tactic(auto, unfolding(format::specs::Sheet::framed))]
+pub fn read_entry(s: &[u8], version: u8) -> Option<Entry>
     ensures { EntryTold result version s.now }
 {
     if !is_framed(s) {
-        return Entry::Flawed;
+        return None;
     }
     let n = size_of(number::get_be16(s));
     let kind = s[2];
@@ -303,10 +301,11 @@ pub fn read_entry(s: &[u8], version: u8) -> Entry
     if kind == 4 {
         return error_entry(s, n);
     }
-    Entry::Flawed
+    None
 }
 
 // Whether a text's last byte is a carriage return.
+#[tactic(auto, unfolding(format::specs::Header::ends_in_return))]
 fn ends_in_return(l: &[u8]) -> bool
     ensures { result ≡ ends_in_return l.now }
 {
@@ -317,6 +316,7 @@ fn ends_in_return(l: &[u8]) -> bool
 }
 
 // Whether a title or a time line keeps the header's rules.
+#[tactic(auto, unfolding(format::specs::Sheet::good_text))]
 fn text_ok(l: &[u8], limit: usize) -> bool
     ensures { result ≡ good_text limit l.now }
 {
@@ -330,36 +330,37 @@ fn text_ok(l: &[u8], limit: usize) -> bool
 }
 
 // The header record of the n bytes at the front of t.
-fn header(t: &[u8], n: usize) -> Front
+fn header(t: &[u8], n: usize) -> Option<Front>
     requires { (4 ≤ n) × (n ≤ length t.now) }
     ensures { HeaderTold result n t.now }
 {
     if t[0] != 0 {
-        return Front::Flawed;
+        return None;
     }
     let extended = t[1];
     if 1 < extended {
-        return Front::Flawed;
+        return None;
     }
     let title = size_of(number::get_be16(&t[2..]));
     let behind = 4 + title;
     if n < behind {
-        return Front::Flawed;
+        return None;
     }
     if !text_ok(&t[4..behind], TITLE_LIMIT) {
-        return Front::Flawed;
+        return None;
     }
     if !text_ok(&t[behind..n], TIME_LIMIT) {
-        return Front::Flawed;
+        return None;
     }
-    Front::Whole {
+    Some(Front {
         extended,
         title,
         time: n - behind,
-    }
+    })
 }
 
 // The version by whose layout a sheet is judged: 1 where its first byte says so, else 2.
+#[tactic(auto, unfolding(format::specs::Sheet::version_of, format::specs::Bytes::pick))]
 pub fn version_of(sheet: &[u8]) -> u8
     ensures { result ≡ version_of sheet.now }
 {
@@ -373,22 +374,23 @@ pub fn version_of(sheet: &[u8]) -> u8
 }
 
 // The version byte and the header record of a sheet that is to be of the version.
-pub fn read_front(sheet: &[u8], version: u8) -> Front
+#[tactic(auto, unfolding(format::specs::Sheet::framed))]
+pub fn read_front(sheet: &[u8], version: u8) -> Option<Front>
     ensures { FrontTold result version sheet.now }
 {
     if sheet.len() == 0 {
-        return Front::Flawed;
+        return None;
     }
     if sheet[0] != version {
-        return Front::Flawed;
+        return None;
     }
     let s = &sheet[1..];
     if !is_framed(s) {
-        return Front::Flawed;
+        return None;
     }
     let n = size_of(number::get_be16(s));
     if n < 4 {
-        return Front::Flawed;
+        return None;
     }
     header(&sheet[3..], n)
 }

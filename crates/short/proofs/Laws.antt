@@ -1,5 +1,6 @@
 -- What a LINE, a LABEL and an XSECT with a label part of one byte, a LINE with the same label, a MOVE and a trim come to. The item is found by
 -- its code; what it comes to in a state is one law of the label step, once for all of them. Assumes nothing.
+use Rattle.std.specs.Prelude.{Some, Option, None}
 use Prim.Native.Nat.{ℕ, ◌+◌, ◌-◌, ◌/◌, ◌%◌, ◌≤◌, ◌<◌}
 use mathlib.Core.Path.{◌≡◌, ap, ◌∙◌}
 use mathlib.Core.List.{List, [], append-nil}
@@ -11,18 +12,16 @@ use lib.Dec.{ltb}
 use borrow.Author.Tests.{lt-ltb, le-ltb, ne_eqb}
 use Rattle.format.specs.Bytes.{pick, le16, le32, widened}
 use Rattle.format.specs.Label.{labelled, label_step, label_limit}
-use Rattle.format.specs.Items.{Item, Move as move_to, Xsect, whole, reserved, dimensions_of, old_part, new_part, sized, labelled_item, line_item, station_item, section_item, move_item, old_low_item, old_high_item, new_low_item, new_high_item, item_of}
+use Rattle.format.specs.Items.{Item, Move as move_to, Xsect, whole, reserved, dimensions_of, old_part, new_part, sized, labelled_item, line_item, station_item, section_item, move_item, old_low_item, old_high_item, new_low_item, new_high_item, item_of, numbers}
 use Rattle.format.specs.State.{State, on, made, leg, station, section, named, moved}
 use Rattle.format.specs.Outline.{drop_leaves}
 use Rattle.format.specs.Reading.{next}
 use Rattle.format.specs.declared.Cut.TheVariants.{Back}
 use Rattle.format.specs.declared.LabelPart.{LabelPart}
-use Rattle.format.specs.declared.LabelPart.TheVariants.{Numbers}
 use Rattle.format.specs.declared.Point.{Point}
-use Rattle.format.specs.declared.Position.TheVariants.{Stands}
 use Rattle.format.proofs.LabelLaws.{step_fits, back_keeps}
 use Rattle.short.specs.declared.Short.{Short}
-use Rattle.short.specs.declared.Short.TheVariants.{Other, Line, Again, Place, Section, Trim, Move}
+use Rattle.short.specs.declared.Short.TheVariants.{Line, Again, Place, Section, Trim, Move}
 use Rattle.short.specs.Brief.{NewBrief, OldBrief, Brief, Moves, Trimmed, TrimCode, RepeatCode, Trims, Repeats, Finds, make_line, make_station, make_section, sides_of, size_of, place_at, leg_at, station_at, section_at, name_at}
 
 taken_first : {X : Type 0} (b : Bool) (x y : X) → b ≡ true → pick b x y ≡ x
@@ -42,23 +41,23 @@ module _ (s : List ℕ) (t : 33 ≤ length s) where
   some_there : 1 ≤ length (drop 1 s)
   some_there = omega (arith, length-drop 1 s)
 
-  new_part_lem : (len keep add : ℕ) → NewBrief (get_or s 1 0) len keep add → new_part (drop 1 s) ≡ Numbers 1 (len - keep) add
+  new_part_lem : (len keep add : ℕ) → NewBrief (get_or s 1 0) len keep add → new_part (drop 1 s) ≡ numbers 1 (len - keep) add
   unfolding new_part pick
   new_part_lem len keep add L =
       let d : get_or s 1 0 / 16 ≡ len - keep = omega (arith, L.keep_is, L.back) in
       simp (le-ltb _ _ some_there, first, ne_eqb _ 0 L.some, d, ← L.add_is)
 
-  old_part_lem : (len keep add : ℕ) → OldBrief (get_or s 1 0) len keep add → old_part (drop 1 s) ≡ Numbers 1 (len - keep) add
+  old_part_lem : (len keep add : ℕ) → OldBrief (get_or s 1 0) len keep add → old_part (drop 1 s) ≡ numbers 1 (len - keep) add
   unfolding old_part pick
   old_part_lem len keep add L =
       let d : 0 ≡ len - keep = omega (arith, L.keep_is) in
       let h : add < 254 = omega (arith, L.add_few) in
-      let e : old_part (drop 1 s) ≡ Numbers 1 0 add = simp (le-ltb _ _ some_there, first, ← L.add_is, lt-ltb _ _ h) in
-      e ∙ ap (λ (n : ℕ). Numbers 1 n add) d
+      let e : old_part (drop 1 s) ≡ numbers 1 0 add = simp (le-ltb _ _ some_there, first, ← L.add_is, lt-ltb _ _ h) in
+      e ∙ ap (λ (n : ℕ). numbers 1 n add) d
 
   -- an item with such a part, of n more bytes behind it
   part_item : (d add n : ℕ) (make : ℕ → List ℕ → List ℕ → Item) → add < 16 → n ≤ 16
-      → labelled_item (Numbers 1 d add) (drop 1 s) n make ≡ whole (2 + add + n) (make d (take add (drop 2 s)) (drop (2 + add) s))
+      → labelled_item (numbers 1 d add) (drop 1 s) n make ≡ whole (2 + add + n) (make d (take add (drop 2 s)) (drop (2 + add) s))
   unfolding labelled_item sized pick
   part_item d add n make h k =
       let w : 1 + add + n ≤ length (drop 1 s) = omega (arith, length-drop 1 s) in
@@ -69,8 +68,8 @@ module _ (s : List ℕ) (t : 33 ≤ length s) where
   -- an XSECT, with its sides as i16 or as i32
   sides_item : (c : Bool) (last d add : ℕ) → add < 16
       → pick c
-      (labelled_item (Numbers 1 d add) (drop 1 s) 8 (λ d added rest. Xsect last (dimensions_of 2 (λ u. widened (le16 u)) rest) d added))
-      (labelled_item (Numbers 1 d add) (drop 1 s) 16 (λ d added rest. Xsect last (dimensions_of 4 le32 rest) d added))
+      (labelled_item (numbers 1 d add) (drop 1 s) 8 (λ d added rest. Xsect last (dimensions_of 2 (λ u. widened (le16 u)) rest) d added))
+      (labelled_item (numbers 1 d add) (drop 1 s) 16 (λ d added rest. Xsect last (dimensions_of 4 le32 rest) d added))
       ≡ whole (2 + add + pick c 8 16) (Xsect last (pick c (dimensions_of 2 (λ u. widened (le16 u)) (drop (2 + add) s)) (dimensions_of 4 le32 (drop (2 + add) s))) d (take add (drop 2 s)))
   unfolding pick
   sides_item true last d add h = part_item d add 8 (λ d added rest. Xsect last (dimensions_of 2 (λ u. widened (le16 u)) rest) d added) h (omega arith)
@@ -120,7 +119,7 @@ module _ (version : ℕ) (s : List ℕ) (len keep add : ℕ) (t : 33 ≤ length 
     unfolding new_high_item section_item sides_of size_of
     new_section_lem h k =
         let e1 : new_high_item code (drop 1 s) ≡ section_item code (new_part (drop 1 s)) (drop 1 s) = taken_first _ _ _ (lt-ltb _ _ k) in
-        let e2 = ap (λ (p : LabelPart). section_item code p (drop 1 s)) (new_part_lem s t len keep add L) in
+        let e2 = ap (λ (p : Option LabelPart). section_item code p (drop 1 s)) (new_part_lem s t len keep add L) in
         new_brief (2 + add + sides_of code) (make_section code) (new_high v h ∙ e1 ∙ e2 ∙ sides_item s t (ltb code 0x32) (code % 2) (len - keep) add L.add_few)
 
   module _ (v : version < 8) (L : OldBrief (get_or s 1 0) len keep add) where
@@ -139,7 +138,7 @@ module _ (version : ℕ) (s : List ℕ) (len keep add : ℕ) (t : 33 ≤ length 
     old_section v5 h k =
         let e1 : old_high_item version code (drop 1 s) ≡ pick (ltb version 5) reserved (section_item code (old_part (drop 1 s)) (drop 1 s)) = taken_first _ _ _ (lt-ltb _ _ k) in
         let e2 = taken_second (ltb version 5) reserved (section_item code (old_part (drop 1 s)) (drop 1 s)) (le-ltb _ _ v5) in
-        let e3 = ap (λ (p : LabelPart). section_item code p (drop 1 s)) (old_part_lem s t len keep add L) in
+        let e3 = ap (λ (p : Option LabelPart). section_item code p (drop 1 s)) (old_part_lem s t len keep add L) in
         old_brief (2 + add + sides_of code) (make_section code)
         (old_high h ∙ e1 ∙ e2 ∙ e3 ∙ sides_item s t (ltb code 0x32) (code % 2) (len - keep) add L.add_few)
 
@@ -167,7 +166,7 @@ module _ (version : ℕ) (s : List ℕ) (len keep add : ℕ) (t : 33 ≤ length 
 -- ---- a LINE with the same label, and a MOVE
 
 -- its numbers stand straight behind the code
-bare_item : (flags : ℕ) (s : List ℕ) → 33 ≤ length s → line_item flags (Numbers 0 0 0) (drop 1 s) ≡ whole 13 (make_line flags 0 [] (drop 1 s))
+bare_item : (flags : ℕ) (s : List ℕ) → 33 ≤ length s → line_item flags (numbers 0 0 0) (drop 1 s) ≡ whole 13 (make_line flags 0 [] (drop 1 s))
 unfolding line_item labelled_item sized pick
 bare_item flags s t = let h : 12 ≤ length (drop 1 s) = omega (arith, length-drop 1 s) in simp (le-ltb _ _ h)
 
@@ -192,15 +191,15 @@ new_again version s len flags t v low R =
     }
 
 -- the answer of `same_label` is that of the item
-pub repeats_found : (r : Short) (version : ℕ) (s : List ℕ) (len : ℕ) → 8 ≤ version → 33 ≤ length s → 0x60 ≤ get_or s 0 0 → Repeats r (get_or s 0 0) len
+pub repeats_found : (r : Option Short) (version : ℕ) (s : List ℕ) (len : ℕ) → 8 ≤ version → 33 ≤ length s → 0x60 ≤ get_or s 0 0 → Repeats r (get_or s 0 0) len
     → Finds r version s len
-repeats_found Other version s len v t l R = tt
-repeats_found (Line keep add flags) version s len v t l R = absurd R
-repeats_found (Again flags) version s len v t l R = new_again version s len flags t v l R
-repeats_found (Place keep add flags) version s len v t l R = absurd R
-repeats_found (Section keep add code) version s len v t l R = absurd R
-repeats_found (Trim m) version s len v t l R = absurd R
-repeats_found Move version s len v t l R = absurd R
+repeats_found None version s len v t l R = tt
+repeats_found (Some (Line keep add flags)) version s len v t l R = absurd R
+repeats_found (Some (Again flags)) version s len v t l R = new_again version s len flags t v l R
+repeats_found (Some (Place keep add flags)) version s len v t l R = absurd R
+repeats_found (Some (Section keep add c)) version s len v t l R = absurd R
+repeats_found (Some (Trim m)) version s len v t l R = absurd R
+repeats_found (Some Move) version s len v t l R = absurd R
 
 move_whole : (s : List ℕ) → 33 ≤ length s → move_item s ≡ whole 13 (move_to (place_at s 1))
 unfolding move_item sized pick
@@ -242,14 +241,14 @@ trim_item version s len keep v t w T =
     }
 
 -- the answer of `trim` is that of the item
-pub trims_found : (r : Short) (version : ℕ) (s : List ℕ) (len : ℕ) → version < 8 → 33 ≤ length s → len ≤ label_limit → Trims r (get_or s 0 0) len → Finds r version s len
-trims_found Other version s len v t w T = tt
-trims_found (Line keep add flags) version s len v t w T = absurd T
-trims_found (Again flags) version s len v t w T = absurd T
-trims_found (Place keep add flags) version s len v t w T = absurd T
-trims_found (Section keep add code) version s len v t w T = absurd T
-trims_found (Trim m) version s len v t w T = trim_item version s len m v t w T
-trims_found Move version s len v t w e = old_move version s v t e
+pub trims_found : (r : Option Short) (version : ℕ) (s : List ℕ) (len : ℕ) → version < 8 → 33 ≤ length s → len ≤ label_limit → Trims r (get_or s 0 0) len → Finds r version s len
+trims_found None version s len v t w T = tt
+trims_found (Some (Line keep add flags)) version s len v t w T = absurd T
+trims_found (Some (Again flags)) version s len v t w T = absurd T
+trims_found (Some (Place keep add flags)) version s len v t w T = absurd T
+trims_found (Some (Section keep add c)) version s len v t w T = absurd T
+trims_found (Some (Trim m)) version s len v t w T = trim_item version s len m v t w T
+trims_found (Some Move) version s len v t w e = old_move version s v t e
 
 -- ---- what it comes to
 
@@ -278,7 +277,7 @@ module _ {version : ℕ} {s : List ℕ} {len keep add k size : ℕ} {make : ℕ 
 
 module _ {version : ℕ} {s : List ℕ} {len keep add k size flags : ℕ} (B : Brief version s len keep add k size (make_line flags)) where
   -- in every state with a label of so many bytes and a position, the next item is exactly this leg, and this is the state after it
-  pub brief_leg_lem : (st : State) → length st.label ≡ len → (from : Point) → st.setting.position ≡ Stands from
+  pub brief_leg_lem : (st : State) → length st.label ≡ len → (from : Point) → st.setting.position ≡ Some from
       → next version s st ≡ made size (leg (leg_at s k flags st.setting from) (name_at s keep add st.label)) (moved (place_at s k) (named (name_at s keep add st.label) st))
   unfolding next
   brief_leg_lem st e from p = simp (B.item, brief_label B st.label e, p)

@@ -1,6 +1,6 @@
 -- A LINE, a LABEL or an XSECT with a label part of one byte, a LINE with the same label, a MOVE, and the code that drops some bytes of the
 -- label. Assumes nothing.
-use Rattle.std.specs.Prelude.{ℕ, ◌+◌, ◌-◌, ◌/◌, ◌%◌, ◌≤◌, ◌<◌, ◌≡◌, List, ◌++◌, length, take, drop, ltb}
+use Rattle.std.specs.Prelude.{ℕ, ◌+◌, ◌-◌, ◌/◌, ◌%◌, ◌≤◌, ◌<◌, ◌≡◌, List, ◌++◌, length, take, drop, ltb, Option, Some, None}
 use Rattle.format.specs.Bytes.{pick, le16, le32, widened}
 use Rattle.format.specs.Label.{label_limit}
 use Rattle.format.specs.Items.{Item, Shorten, Move as move_to, Label as label_item, Line as line_item, Xsect, whole, item_of, point_of, dimensions_of}
@@ -12,9 +12,8 @@ use Rattle.format.specs.declared.Station.{Station}
 use Rattle.format.specs.declared.Section.{Section as SectionFields}
 use Rattle.format.specs.declared.Setting.{Setting}
 use Rattle.short.specs.declared.Part.{Part}
-use Rattle.short.specs.declared.Part.TheVariants.{Long, Brief as BriefPart}
 use Rattle.short.specs.declared.Short.{Short}
-use Rattle.short.specs.declared.Short.TheVariants.{Other, Line, Again, Place, Section, Trim, Move}
+use Rattle.short.specs.declared.Short.TheVariants.{Line, Again, Place, Section, Trim, Move}
 
 -- ---- the label part
 
@@ -27,9 +26,9 @@ pub record NewBrief (b len keep add : ℕ) : Type 0 where
   pub few : keep + 16 ≤ label_limit
   pub add_few : add < 16
 
-abbrev pub NewPart : Part → ℕ → ℕ → Type 0
-NewPart Long b len = Unit
-NewPart (BriefPart keep add) b len = NewBrief b len keep add
+abbrev pub NewPart : Option Part → ℕ → ℕ → Type 0
+NewPart None b len = Unit
+NewPart (Some p) b len = NewBrief b len p.keep p.add
 
 -- v3 to v7: "a length and bytes to append: 00-fd itself"
 pub record OldBrief (b len keep add : ℕ) : Type 0 where
@@ -38,9 +37,9 @@ pub record OldBrief (b len keep add : ℕ) : Type 0 where
   pub few : keep + 16 ≤ label_limit
   pub add_few : add < 16
 
-abbrev pub OldPart : Part → ℕ → ℕ → Type 0
-OldPart Long b len = Unit
-OldPart (BriefPart keep add) b len = OldBrief b len keep add
+abbrev pub OldPart : Option Part → ℕ → ℕ → Type 0
+OldPart None b len = Unit
+OldPart (Some p) b len = OldBrief b len p.keep p.add
 
 -- ---- what stands behind it, as `kind` has it too: D, the bytes to append and the rest make the item
 
@@ -106,14 +105,14 @@ pub record TrimCode (code len keep : ℕ) : Type 0 where
   pub drops : code - 0x0f < len
   pub keep_is : keep ≡ len - (code - 0x0f)
 
-abbrev pub Trims : Short → ℕ → ℕ → Type 0
-Trims Other code len = Unit
-Trims (Line keep add flags) code len = ⊥
-Trims (Again flags) code len = ⊥
-Trims (Place keep add flags) code len = ⊥
-Trims (Section keep add c) code len = ⊥
-Trims (Trim m) code len = TrimCode code len m
-Trims Move code len = code ≡ 0x0f
+abbrev pub Trims : Option Short → ℕ → ℕ → Type 0
+Trims None code len = Unit
+Trims (Some (Line keep add flags)) code len = ⊥
+Trims (Some (Again flags)) code len = ⊥
+Trims (Some (Place keep add flags)) code len = ⊥
+Trims (Some (Section keep add c)) code len = ⊥
+Trims (Some (Trim m)) code len = TrimCode code len m
+Trims (Some Move) code len = code ≡ 0x0f
 
 -- `same_label`: of its code alone too
 pub record RepeatCode (code len flags : ℕ) : Type 0 where
@@ -121,28 +120,28 @@ pub record RepeatCode (code len flags : ℕ) : Type 0 where
   pub flags_are : flags ≡ code - 0x60
   pub few : len + 16 ≤ label_limit
 
-abbrev pub Repeats : Short → ℕ → ℕ → Type 0
-Repeats Other code len = Unit
-Repeats (Line keep add flags) code len = ⊥
-Repeats (Again flags) code len = RepeatCode code len flags
-Repeats (Place keep add flags) code len = ⊥
-Repeats (Section keep add c) code len = ⊥
-Repeats (Trim m) code len = ⊥
-Repeats Move code len = ⊥
+abbrev pub Repeats : Option Short → ℕ → ℕ → Type 0
+Repeats None code len = Unit
+Repeats (Some (Line keep add flags)) code len = ⊥
+Repeats (Some (Again flags)) code len = RepeatCode code len flags
+Repeats (Some (Place keep add flags)) code len = ⊥
+Repeats (Some (Section keep add c)) code len = ⊥
+Repeats (Some (Trim m)) code len = ⊥
+Repeats (Some Move) code len = ⊥
 
 -- ---- an answer tells the item
 
-abbrev pub Finds : Short → ℕ → List ℕ → ℕ → Type 0
-Finds Other version s len = Unit
-Finds (Line keep add flags) version s len = Brief version s len keep add (2 + add) (14 + add) (make_line flags)
-Finds (Again flags) version s len = Brief version s len len 0 1 13 (make_line flags)
-Finds (Place keep add flags) version s len = Brief version s len keep add (2 + add) (14 + add) (make_station flags)
-Finds (Section keep add code) version s len = Brief version s len keep add (2 + add) (2 + add + sides_of code) (make_section code)
-Finds (Trim m) version s len = Trimmed version s len m
-Finds Move version s len = Moves version s
+abbrev pub Finds : Option Short → ℕ → List ℕ → ℕ → Type 0
+Finds None version s len = Unit
+Finds (Some (Line keep add flags)) version s len = Brief version s len keep add (2 + add) (14 + add) (make_line flags)
+Finds (Some (Again flags)) version s len = Brief version s len len 0 1 13 (make_line flags)
+Finds (Some (Place keep add flags)) version s len = Brief version s len keep add (2 + add) (14 + add) (make_station flags)
+Finds (Some (Section keep add code)) version s len = Brief version s len keep add (2 + add) (2 + add + sides_of code) (make_section code)
+Finds (Some (Trim m)) version s len = Trimmed version s len m
+Finds (Some Move) version s len = Moves version s
 
-abbrev pub FindsNew : Short → List ℕ → ℕ → Type 0
+abbrev pub FindsNew : Option Short → List ℕ → ℕ → Type 0
 FindsNew r s len = (version : ℕ) → 8 ≤ version → Finds r version s len
 
-abbrev pub FindsOld : Short → ℕ → List ℕ → ℕ → Type 0
+abbrev pub FindsOld : Option Short → ℕ → List ℕ → ℕ → Type 0
 FindsOld r version s len = version < 8 → Finds r version s len

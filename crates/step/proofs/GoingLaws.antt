@@ -1,4 +1,7 @@
 -- Going on to the next record, a step at a time; and that it always comes to one, the end or a refusal. Assumes nothing.
+use Rattle.std.specs.Prelude.{Ok, Err}
+use Rattle.format.specs.declared.Refusal.{Refusal as Refusing}
+use Rattle.format.specs.Refusals.{Verdict, Good, Refusal}
 use Prim.Native.Nat.{ℕ, zero, suc, ◌+◌, ◌-◌, ◌≤◌}
 use native.Mathlib.Omega.{arith}
 use mathlib.Core.Path.{◌≡◌, refl, sym, ap, ◌∙◌}
@@ -10,12 +13,10 @@ use denote.Enum.Declared.{tag_of}
 use Rattle.format.specs.Bytes.{over}
 use Rattle.format.specs.State.{State, Record, Next, bad, end, on, made}
 use Rattle.format.specs.Reading.{next, ended}
-use Rattle.format.specs.declared.Verdict.{Verdict}
-use Rattle.format.specs.declared.Verdict.TheVariants.{Good, Refusal}
 use Rattle.format.specs.Stepping.{Stand, before, stopped, StepOutcome, wrote, nothing, ends, refuses, Step, stop_answer, recorded, step_next, step_of, step_buffer}
 use Rattle.format.specs.Answers.{stepped_of}
 use Rattle.format.specs.declared.Stepped.{Stepped}
-use Rattle.format.specs.declared.Stepped.TheVariants.{Record as RecordStep, Nothing, End as EndStep, Refused as StepRefused}
+use Rattle.format.specs.declared.Stepped.TheVariants.{Record as RecordStep, Nothing, End as EndStep}
 use Rattle.format.specs.contracts.Stepped.{the_type}
 use Rattle.format.proofs.Basics.{pick_case}
 use Rattle.format.proofs.ReadingLaws.{SizedNext, next_sized}
@@ -78,6 +79,9 @@ pub left_first : (h : Held) (label file old : List ℕ) → Left h label file ol
 unfolding next_record
 left_first h label file old = record { same = refl; unwritten = refl }
 
+pub left_from : (h : Held) (label file old : List ℕ) (n : ℕ) → n ≡ length file → Left h label file old n h label old
+left_from h label file old n e = rw e (left_first h label file old)
+
 module _ {h here : Held} {label file old label' now : List ℕ} {n : ℕ} (L : Left h label file old n here label' now) {t : Taken} {label'' new : List ℕ} (S : Steps here label' file now t label'' new) where
   left_is : go_on n (stand_seen here label') file (length now) ≡ step_of (stand_seen here label') file (length now) → Goes h label file old t label'' new
   unfolding step_buffer next_buffer
@@ -92,20 +96,22 @@ module _ {h here : Held} {label file old label' now : List ℕ} {n : ℕ} (L : L
   pub left_last : n ≡ 0 → Goes h label file old t label'' new
   left_last e = left_is (go_last file (length now) n (stand_seen here label') e)
 
-  not_nothing : (a : Stepped) → OneOf (0 ∷ 2 ∷ 3 ∷ []) (tag_of the_type a) → stepped_of a ≡ nothing → ⊥
-  not_nothing (RecordStep n kept) o e = let z : ◌≡◌ {A = ℕ} 0 1 = cc in omega arith
-  not_nothing Nothing o e = miss (0 ∷ 2 ∷ 3 ∷ []) 1 tt o
-  not_nothing EndStep o e = let z : ◌≡◌ {A = ℕ} 0 1 = cc in omega arith
-  not_nothing (StepRefused m p) o e = let z : ◌≡◌ {A = ℕ} 0 1 = cc in omega arith
+  other : (x : Stepped) → OneOf (0 ∷ 2 ∷ []) (tag_of the_type x) → stepped_of (Ok x) ≡ nothing → ⊥
+  other (RecordStep n kept) o e = let z : ◌≡◌ {A = ℕ} 0 1 = cc in omega arith
+  other Nothing o e = miss (0 ∷ 2 ∷ []) 1 tt o
+  other EndStep o e = let z : ◌≡◌ {A = ℕ} 0 1 = cc in omega arith
 
-  pub left_stops : OneOf (0 ∷ 2 ∷ 3 ∷ []) (tag_of the_type t.answer) → Goes h label file old t label'' new
-  left_stops o = left_is (go_stops file (length now) n (stand_seen here label') (λ e. not_nothing t.answer o (S.answer ∙ e)))
+  left_stops : (stepped_of t.answer ≡ nothing → ⊥) → Goes h label file old t label'' new
+  left_stops o = left_is (go_stops file (length now) n (stand_seen here label') (λ q. o (S.answer ∙ q)))
 
-  -- the same, as an arm knows it
-  pub left_among : Among (0 ∷ 2 ∷ 3 ∷ []) (tag_of the_type t.answer) → Goes h label file old t label'' new
-  left_among o = left_stops (opened_tag o)
+  -- an answer that is not `Nothing`, as an arm knows it
+  pub left_among : (x : Stepped) → t.answer ≡ Ok x → Among (0 ∷ 2 ∷ []) (tag_of the_type x) → Goes h label file old t label'' new
+  left_among x e o = left_stops (λ q. other x (opened_tag o) (ap stepped_of (sym e) ∙ q))
 
-  pub left_again : (n ≡ 0 → ⊥) → t.answer ≡ Nothing → Left h label file old (n - 1) t.stand label'' new
+  pub left_refused : (x : Refusing) → t.answer ≡ Err x → Goes h label file old t label'' new
+  left_refused x e = left_stops (λ q. let p = ap stepped_of (sym e) ∙ q in let z : ◌≡◌ {A = ℕ} 0 1 = cc in omega arith)
+
+  pub left_again : (n ≡ 0 → ⊥) → t.answer ≡ Ok Nothing → Left h label file old (n - 1) t.stand label'' new
   unfolding step_buffer over
   left_again i e =
       let a : nothing ≡ (step_of (stand_seen here label') file (length now)).answer = rw e at S.answer in
@@ -114,6 +120,12 @@ module _ {h here : Held} {label file old label' now : List ℕ} {n : ℕ} (L : L
         same = rw (b, S.stand) (sym (go_on_lem file (length now) n (stand_seen here label') i a) ∙ L.same);
         unwritten = b ∙ L.unwritten;
       }
+
+  -- the same with the count one less
+  pub left_next : (m : ℕ) → n ≡ m + 1 → t.answer ≡ Ok Nothing → Left h label file old m t.stand label'' new
+  left_next m i e =
+      let z : n - 1 ≡ m = omega arith in
+      rw z at (left_again (λ q. absurd (omega (arith, i, q))) e)
 
 -- ---- each item has a byte at least, so a file's bytes are steps enough
 

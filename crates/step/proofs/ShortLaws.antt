@@ -1,4 +1,5 @@
 -- The commonest items as steps: each is the item that the general step would take, and there is room for its record. Assumes nothing.
+use Rattle.std.specs.Prelude.{Option, Some, None, Ok}
 use Prim.Native.Nat.{ℕ, ◌+◌, ◌-◌, ◌≤◌}
 use mathlib.Core.Path.{◌≡◌, refl, sym, ap, ◌∙◌}
 use mathlib.Core.List.{List}
@@ -15,7 +16,7 @@ use Rattle.item.specs.Commonest.{moved_to}
 use Rattle.item.specs.declared.Step.TheVariants.{On, Made}
 use Rattle.laying.specs.Quickly.{laid_by, LaidAs, Quickly}
 use Rattle.laying.specs.declared.Quick.{Quick}
-use Rattle.laying.specs.declared.Quick.TheVariants.{Other, Leg as QuickLeg, Made as QuickMade, Trim, Move}
+use Rattle.laying.specs.declared.Quick.TheVariants.{Leg as QuickLeg, Made as QuickMade, Trim, Move}
 use Rattle.step.specs.Standing.{lesser}
 use Rattle.step.specs.Shortly.{Took, Shortly}
 use Rattle.step.specs.declared.Phase.TheVariants.{Going}
@@ -46,7 +47,7 @@ module _ (h : Held) (label file old : List ℕ) (g : h.phase ≡ Going) (full : 
       }
 
   -- no record: the label has m bytes then
-  took_on : (size m : ℕ) (after : Setting) (b new : List ℕ) → Tells (On size m after) b item → new ≡ old → Took h label file old size m after Nothing b new
+  took_on : (size m : ℕ) (after : Setting) (b new : List ℕ) → Tells (Ok (On size m after)) b item → new ≡ old → Took h label file old size m after Nothing b new
   took_on size m after b new T e =
       record {
         going = g;
@@ -56,9 +57,9 @@ module _ (h : Held) (label file old : List ℕ) (g : h.phase ≡ Going) (full : 
       }
 
   -- whatever the answer is
-  pub shortly : (r : Quick) (b new : List ℕ) → Quickly r item stays h.setting label b old new 0 → Shortly r h label file old b new
-  shortly Other b new Q = Q
-  shortly (QuickLeg size m to kept) b new Q = took_made size m (moved_to h.setting to) (34 + m) kept b new Q
-  shortly (QuickMade size m bytes kept) b new Q = took_made size m h.setting bytes kept b new Q
-  shortly (Trim m) b new Q = took_on 1 m h.setting b new Q.0 Q.1
-  shortly (Move m to) b new Q = took_on 13 m (moved_to h.setting to) b new Q.0 Q.1
+  pub shortly : (r : Option Quick) (b new : List ℕ) → Quickly r item stays h.setting label b old new 0 → Shortly r h label file old b new
+  shortly None b new Q = Q
+  shortly (Some (QuickLeg size m to kept)) b new Q = took_made size m (moved_to h.setting to) (34 + m) kept b new Q
+  shortly (Some (QuickMade size m bytes kept)) b new Q = took_made size m h.setting bytes kept b new Q
+  shortly (Some (Trim m)) b new Q = took_on 1 m h.setting b new Q.0 Q.1
+  shortly (Some (Move m to)) b new Q = took_on 13 m (moved_to h.setting to) b new Q.0 Q.1

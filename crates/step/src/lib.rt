@@ -1,8 +1,9 @@
 // Stepping through a file, an item at a time. Where a reader stands is a small value: the
 // label's bytes stand in a buffer beside it, which is lent to each step and never copied.
+// A label's bytes and its length stand apart: C lends the bytes and has the length in its stand.
 #![tactic(auto)]
 
-ghost use Rattle.std.specs.Prelude.{◌≡◌, ℕ, ◌+◌, ◌≤◌, length, take};
+ghost use Rattle.std.specs.Prelude.{◌≡◌, ℕ, ◌+◌, ◌≤◌, length, take, Err};
 ghost use Rattle.format.specs.Header.{opening_of};
 ghost use Rattle.format.specs.Stepping.{open_stand, step_of, step_buffer};
 ghost use Rattle.format.specs.Answers.{open_outcome, opened_of, stepped_of};
@@ -16,13 +17,12 @@ ghost use Rattle.laying.specs.Quickly.{Quickly};
 ghost use Rattle.format.specs.Items.{item_of};
 ghost use Rattle.short.specs.Brief.{Finds};
 ghost use Rattle.format.specs.Outline.{drop_leaves};
-ghost use Rattle.step.specs.declared.Phase.TheVariants.{Going};
+ghost use Rattle.step.specs.declared.Phase.TheVariants.{Going, Refused};
 
 use decode::{Item, get_point};
-use format::{Fields, Kept, LABEL_LIMIT, Opened, Setting, Stepped};
-use header::Head;
+use format::{Fault, Fields, LABEL_LIMIT, Opened, Refusal, Setting, Stepped};
 use item::{Step, section_at};
-use laying::{Quick, joint_of, lay_line, lay_place, lay_section};
+use laying::{Joint, Quick, lay_line, lay_place, lay_section};
 use short::{Short, new_item, old_item, sides};
 
 // Whether a reader goes on; or is at the end, or at a refusal, for good.
@@ -30,7 +30,7 @@ use short::{Short, new_item, old_item, sides};
 pub enum Phase {
     Going,
     Ended,
-    Refused { number: u8, place: usize },
+    Refused { refusal: Refusal },
 }
 
 // Where a reader stands: its phase, the version, the next item's place, the label's
@@ -47,45 +47,29 @@ pub struct Stand {
 // A step's answer, and where the reader then stands.
 #[derive(Clone, Copy)]
 pub struct Taken {
-    pub answer: Stepped,
+    pub answer: Result<Stepped, Refusal>,
     pub stand: Stand,
-}
-
-// Whether a buffer has room for the record of an item, and else how much it needs.
-#[derive(Clone, Copy)]
-enum Room {
-    Enough,
-    Lacks { bytes: usize },
 }
 
 // A buffer of this size has room for every record.
 const RECORD_LIMIT: usize = 34 + LABEL_LIMIT;
 
 // What opening answers: the version and the first item's place, or the refusal.
-pub fn opened(file: &[u8]) -> Opened
+pub fn opened(file: &[u8]) -> Result<Opened, Refusal>
     ensures { opened_of result ≡ open_outcome (opening_of file.now) }
 {
-    let head = header::opening(file);
-    match head {
-        Head::Shut { number, place } => Opened::Refused { number, place },
-        Head::Whole {
-            version,
-            place,
-            extended: _,
-            title: _,
-            time: _,
-        } => Opened::At { version, place },
-    }
+    let head = header::opening(file)?;
+    Ok(Opened {
+        version: head.version,
+        place: head.place,
+    })
 }
 
 // The lesser of two numbers.
 fn lesser(a: usize, b: usize) -> usize
     ensures { result ≡ lesser a b }
 {
-    if b < a {
-        return b;
-    }
-    a
+    a.min(b)
 }
 
 // The stand before an item, in the state at the start of a file.
@@ -107,38 +91,27 @@ fn fresh(phase: Phase, version: u8, place: usize) -> Stand
 pub fn open_at(file: &[u8]) -> Stand
     ensures { Opens result (open_stand file.now) }
 {
-    let o = opened(file);
-    match o {
-        Opened::Refused { number, place } => {
-            let phase = Phase::Refused { number, place };
-            fresh(phase, 0, 0)
-        }
-        Opened::At { version, place } => {
-            let phase = Phase::Going;
-            fresh(phase, version, place)
-        }
+    match opened(file) {
+        Err(refusal) => fresh(Phase::Refused { refusal }, 0, 0),
+        Ok(first) => fresh(Phase::Going, first.version, first.place),
     }
 }
 
 // A step after which the reader is halted: what it answers comes again.
-fn last_step(stand: Stand, answer: Stepped, phase: Phase) -> Taken
+fn last_step(stand: Stand, answer: Result<Stepped, Refusal>, phase: Phase) -> Taken
     ensures { (result.answer ≡ answer) × (result.stand.phase ≡ phase) }
 {
-    let version = stand.version;
-    let place = stand.place;
-    let len = stand.len;
-    let setting = stand.setting;
-    let halted = Stand {
-        phase,
-        version,
-        place,
-        len,
-        setting,
-    };
     Taken {
         answer,
-        stand: halted,
+        stand: Stand { phase, ..stand },
     }
+}
+
+// The step that refuses.
+fn refused_step(stand: Stand, refusal: Refusal) -> Taken
+    ensures { (result.answer ≡ Err refusal) × (result.stand.phase ≡ Refused refusal) }
+{
+    last_step(stand, Err(refusal), Phase::Refused { refusal })
 }
 
 // A step at the end item, from which `left` bytes are left: 10 where others follow it.
@@ -147,14 +120,9 @@ fn end_step(stand: Stand, left: usize) -> Taken
     ensures { EndStepped left stand result }
 {
     if 1 < left {
-        let place = stand.place + 1;
-        return last_step(
-            stand,
-            Stepped::Refused { number: 10, place },
-            Phase::Refused { number: 10, place },
-        );
+        return refused_step(stand, Fault::BytesAfterEnd.at(stand.place + 1));
     }
-    last_step(stand, Stepped::End, Phase::Ended)
+    last_step(stand, Ok(Stepped::End), Phase::Ended)
 }
 
 // The stand behind an item of so many bytes.
@@ -173,19 +141,25 @@ fn behind(stand: Stand, size: usize, len: usize, setting: Setting) -> Stand
 
 // What the item at the front of s comes to, before the label is touched, where it makes a
 // record or its label is refused. For any other the answer is one that makes no record.
-fn peek(version: u8, s: &[u8], bytes: &[u8; LABEL_LIMIT], len: usize, setting: Setting) -> Step
+fn peek(
+    version: u8,
+    s: &[u8],
+    bytes: &[u8; LABEL_LIMIT],
+    len: usize,
+    setting: Setting,
+) -> Result<Step, Fault>
     requires { (len ≤ label_limit) × (length bytes.now ≡ label_limit) }
     ensures { Peeks result (next version s.now (state_of setting (take len bytes.now))) }
 {
-    let it = decode::decode(version, s);
+    let it = decode::decode(version, s)?;
     match it {
-        Item::Error { traverse } => Step::Made {
+        Item::Error { traverse } => Ok(Step::Made {
             size: 21,
             len,
             setting,
             fields: Fields::Error { traverse },
             kept: 0,
-        },
+        }),
         Item::Relabel {
             size,
             cut,
@@ -194,20 +168,20 @@ fn peek(version: u8, s: &[u8], bytes: &[u8; LABEL_LIMIT], len: usize, setting: S
             body,
         } => {
             let kept = label::kept_of(bytes, len, cut);
-            let Kept::Keeps { bytes: keep } = kept else {
-                return Step::Bad { number: 6 };
+            let Some(keep) = kept else {
+                return Err(Fault::LabelTooShort);
             };
             if LABEL_LIMIT - keep < count {
-                return Step::Bad { number: 7 };
+                return Err(Fault::LabelTooLong);
             }
             item::made_step(size, keep + count, setting, body, keep)
         }
-        _ => Step::End,
+        _ => Ok(Step::End),
     }
 }
 
 // Whether a buffer of so many bytes has room for the record of the item at the front of
-// s, if it makes one.
+// s, if it makes one; and else how many bytes that takes.
 fn room_for(
     version: u8,
     s: &[u8],
@@ -215,14 +189,16 @@ fn room_for(
     len: usize,
     setting: Setting,
     room: usize,
-) -> Room
+) -> Result<(), usize>
     requires { (len ≤ label_limit) × (length bytes.now ≡ label_limit) }
     ensures { result ≡ room_for (next version s.now (state_of setting (take len bytes.now))) room }
 {
     if RECORD_LIMIT <= room {
-        return Room::Enough;
+        return Ok(());
     }
-    let seen = peek(version, s, bytes, len, setting);
+    let Ok(seen) = peek(version, s, bytes, len, setting) else {
+        return Ok(());
+    };
     let Step::Made {
         size: _,
         len: m,
@@ -231,13 +207,13 @@ fn room_for(
         kept: _,
     } = seen
     else {
-        return Room::Enough;
+        return Ok(());
     };
     let n = layout::record_size(fields, m);
     if room < n {
-        return Room::Lacks { bytes: n };
+        return Err(n);
     }
-    Room::Enough
+    Ok(())
 }
 
 // A step over an item for whose record there is room: the reader then stands at next.
@@ -254,9 +230,8 @@ fn record_step(
     let len = next.len;
     let size = layout::record_size(fields, len);
     layout::lay_record(out, 0, fields, bytes, len);
-    let answer = Stepped::Record { bytes: size, kept };
     Taken {
-        answer,
+        answer: Ok(Stepped::Record { bytes: size, kept }),
         stand: next,
     }
 }
@@ -272,19 +247,12 @@ fn after_item(
     requires { Within stand it × (length bytes.now ≡ label_limit) }
     ensures { After stand it left bytes.now out.old result out.new }
 {
-    let place = stand.place;
     match it {
-        Step::Bad { number } => last_step(
-            stand,
-            Stepped::Refused { number, place },
-            Phase::Refused { number, place },
-        ),
         Step::End => end_step(stand, left),
         Step::On { size, len, setting } => {
             let next = behind(stand, size, len, setting);
-            let answer = Stepped::Nothing;
             Taken {
-                answer,
+                answer: Ok(Stepped::Nothing),
                 stand: next,
             }
         }
@@ -312,15 +280,16 @@ fn step_item(file: &[u8], stand: Stand, bytes: &mut [u8; LABEL_LIMIT], out: &mut
     let old = lesser(stand.len, LABEL_LIMIT);
     let rest = &file[at..];
     let room = room_for(stand.version, rest, bytes, old, stand.setting, out.len());
-    if let Room::Lacks { bytes: needed } = room {
-        let answer = Stepped::Refused {
-            number: 11,
-            place: needed,
+    if let Err(needed) = room {
+        return Taken {
+            answer: Err(Fault::BufferTooSmall.at(needed)),
+            stand,
         };
-        return Taken { answer, stand };
     }
-    let it = item::take_item(stand.version, rest, bytes, old, stand.setting);
-    after_item(stand, it, rest.len(), bytes, out)
+    match item::take_item(stand.version, rest, bytes, old, stand.setting) {
+        Err(fault) => refused_step(stand, fault.at(stand.place)),
+        Ok(it) => after_item(stand, it, rest.len(), bytes, out),
+    }
 }
 
 // An array's length, which its type says.
@@ -333,7 +302,7 @@ fn full(bytes: &[u8; LABEL_LIMIT]) -> usize
 
 // The item at the front of s, after a label of len bytes, where it is one of the commonest.
 // (`short_item` has other callers, and so would not be joined to a step.)
-fn find_short(version: u8, s: &[u8], len: usize) -> Short
+fn find_short(version: u8, s: &[u8], len: usize) -> Option<Short>
     requires { len ≤ label_limit }
     ensures { Finds result version s.now len }
 {
@@ -352,34 +321,53 @@ fn lay_short(
     len: usize,
     setting: Setting,
     out: &mut [u8],
-) -> Quick
+) -> Option<Quick>
     requires { (len ≤ label_limit) × (length bytes.old ≡ label_limit) }
     ensures { Quickly result (next version s.now (state_of setting (take len bytes.old))) (drop_leaves (take len bytes.old) (item_of version s.now)) setting bytes.old bytes.new out.old out.new 0 }
 {
-    let it = find_short(version, s, len);
+    let it = find_short(version, s, len)?;
     match it {
-        Short::Other => Quick::Other,
         Short::Line { keep, add, flags } => {
-            let joint = joint_of(keep, add, 14 + add, 0);
+            let joint = Joint {
+                keep,
+                add,
+                size: 14 + add,
+                out: 0,
+            };
             lay_line(s, bytes, joint, flags, setting, out)
         }
         Short::Again { flags } => {
-            let joint = joint_of(len, 0, 13, 0);
+            let joint = Joint {
+                keep: len,
+                add: 0,
+                size: 13,
+                out: 0,
+            };
             lay_line(s, bytes, joint, flags, setting, out)
         }
         Short::Place { keep, add, flags } => {
-            let joint = joint_of(keep, add, 14 + add, 0);
-            lay_place(s, bytes, joint, flags, out)
+            let joint = Joint {
+                keep,
+                add,
+                size: 14 + add,
+                out: 0,
+            };
+            Some(lay_place(s, bytes, joint, flags, out))
         }
         Short::Section { keep, add, code } => {
-            let joint = joint_of(keep, add, 2 + add + sides(code), 0);
+            let joint = Joint {
+                keep,
+                add,
+                size: 2 + add + sides(code),
+                out: 0,
+            };
             let section = section_at(s, 2 + add, code, setting);
-            lay_section(s, bytes, joint, section, out)
+            Some(lay_section(s, bytes, joint, section, out))
         }
-        Short::Trim { len: m } => Quick::Trim { len: m },
+        Short::Trim { len: m } => Some(Quick::Trim { len: m }),
         Short::Move => {
             let to = get_point(&s[1..]);
-            Quick::Move { len, to }
+            Some(Quick::Move { len, to })
         }
     }
 }
@@ -387,15 +375,20 @@ fn lay_short(
 // One step over one of the commonest items, where there is room for every record: what it
 // comes to, and how far the stand moves. For any other item, and where the reader is halted,
 // nothing is touched.
-pub fn short_at(file: &[u8], stand: Stand, bytes: &mut [u8; LABEL_LIMIT], out: &mut [u8]) -> Quick
+pub fn short_at(
+    file: &[u8],
+    stand: Stand,
+    bytes: &mut [u8; LABEL_LIMIT],
+    out: &mut [u8],
+) -> Option<Quick>
     ensures { Shortly result stand bytes.old file.now out.old bytes.new out.new }
 {
     let phase = stand.phase;
     let Phase::Going = phase else {
-        return Quick::Other;
+        return None;
     };
     if out.len() < RECORD_LIMIT {
-        return Quick::Other;
+        return None;
     }
     full(bytes);
     let at = lesser(stand.place, file.len());
@@ -415,11 +408,11 @@ pub fn step_at(file: &[u8], stand: Stand, bytes: &mut [u8; LABEL_LIMIT], out: &m
             step_item(file, stand, bytes, out)
         }
         Phase::Ended => Taken {
-            answer: Stepped::End,
+            answer: Ok(Stepped::End),
             stand,
         },
-        Phase::Refused { number, place } => Taken {
-            answer: Stepped::Refused { number, place },
+        Phase::Refused { refusal } => Taken {
+            answer: Err(refusal),
             stand,
         },
     }
@@ -431,19 +424,14 @@ pub fn next_at(file: &[u8], stand: Stand, bytes: &mut [u8; LABEL_LIMIT], out: &m
     ensures { Goes stand bytes.old file.now out.old result bytes.new out.new }
 {
     let mut here = stand;
-    let mut left = file.len();
-    loop {
+    for taken in 0..file.len() {
         let t = step_at(file, here, bytes, out);
-        let answer = t.answer;
-        let Stepped::Nothing = answer else {
+        let Ok(Stepped::Nothing) = t.answer else {
             return t;
         };
-        if left == 0 {
-            return t;
-        }
         here = t.stand;
-        left -= 1;
     }
+    step_at(file, here, bytes, out)
 }
 
 // A step reader: the file that it was given, and where it stands in it.
@@ -466,7 +454,7 @@ pub fn step<'s, 'a>(
     reader: &'s mut Reader<'a>,
     bytes: &mut [u8; LABEL_LIMIT],
     out: &mut [u8],
-) -> Stepped
+) -> Result<Stepped, Refusal>
     ensures { Steps reader.old.stand bytes.old reader.old.file.now out.old (record { answer = result; stand = reader.new.stand }) bytes.new out.new × (reader.new.file ≡ reader.old.file) }
 {
     let t = step_at(reader.file, reader.stand, bytes, out);

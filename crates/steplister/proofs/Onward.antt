@@ -11,11 +11,9 @@ use borrow.Author.Tests.{le-ltb, ltb-true, ltb-false}
 use Rattle.format.specs.Bytes.{pick}
 use Rattle.format.specs.State.{State, Record, Next, bad, end, on, made}
 use Rattle.format.specs.Sheet.{sheet_version, layout, record_limit}
-use Rattle.format.specs.Refusals.{stop, also}
+use Rattle.format.specs.Refusals.{stop, also, Verdict, Good, Refusal}
 use Rattle.format.specs.Reading.{next, ended}
 use Rattle.format.specs.Stepping.{Stand, before, stopped, StepOutcome, wrote, nothing, ends, refuses, Step, stop_answer, recorded, step_next, step_of}
-use Rattle.format.specs.declared.Verdict.{Verdict}
-use Rattle.format.specs.declared.Verdict.TheVariants.{Good, Refusal}
 use Rattle.format.proofs.ReadingLaws.{SizedNext, next_sized, run_eq, run_bad, run_on, run_made}
 use Rattle.step.specs.Going.{or_on, go_on, next_record}
 use Rattle.step.proofs.Laws.{ample_room, room_lacks}

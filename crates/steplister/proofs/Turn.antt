@@ -1,4 +1,5 @@
 -- A turn of the loop that gathers the records, on plain values. Assumes nothing.
+use Rattle.std.specs.Prelude.{Result as Answer, Ok, Err}
 use Prim.Native.Nat.{ℕ, ◌+◌, ◌*◌, ◌≤◌, ◌<◌}
 use native.Mathlib.Omega.{arith}
 use mathlib.Core.Path.{◌≡◌, refl, sym, ap, ◌∙◌, subst}
@@ -10,13 +11,12 @@ use denote.Enum.Declared.{tag_of}
 use borrow.Author.Tests.{ltb-false}
 use Rattle.format.specs.Bytes.{over}
 use Rattle.format.specs.Sheet.{sheet_version, layout, layout_all, record_limit}
-use Rattle.format.specs.Refusals.{Result, stop}
-use Rattle.format.specs.declared.Verdict.{Verdict}
-use Rattle.format.specs.declared.Verdict.TheVariants.{Good, Refusal}
-use Rattle.format.specs.Stepping.{Stand, before, stopped, StepOutcome, Step, open_stand, stop_answer}
+use Rattle.format.specs.Refusals.{Result, stop, Verdict, Good, Refusal}
+use Rattle.format.specs.Stepping.{Stand, before, stopped, StepOutcome, Step, open_stand}
 use Rattle.format.specs.Answers.{stepped_of}
+use Rattle.format.specs.declared.Refusal.{Refusal as Refused}
 use Rattle.format.specs.declared.Stepped.{Stepped}
-use Rattle.format.specs.declared.Stepped.TheVariants.{Record as RecordStep, Nothing, End as EndStep, Refused as StepRefused}
+use Rattle.format.specs.declared.Stepped.TheVariants.{Record as RecordStep, Nothing, End as EndStep}
 use Rattle.format.specs.contracts.Stepped.{the_type}
 use Rattle.format.proofs.Basics.{pick_case}
 use Rattle.wire.specs.Laid.{laid, laid_if}
@@ -26,7 +26,7 @@ use Rattle.step.specs.Going.{next_record, next_buffer, Goes}
 use Rattle.step.specs.declared.Stand.{Stand as Held}
 use Rattle.step.specs.declared.Taken.{Taken}
 use Rattle.step.proofs.GoingLaws.{next_answers}
-use Rattle.steplister.specs.Steps.{left_of, Gathers}
+use Rattle.steplister.specs.Steps.{left_of, Gathered}
 use Rattle.steplister.proofs.Onward.{bytes_left, Makes, Says, on_says}
 
 -- ---- the loop: the bytes laid in and those still to come are all
@@ -67,15 +67,15 @@ module _ {file old : List ℕ} {front : ℕ} {h : Held} {label : List ℕ} {byte
   s = next_record (stand_seen h label) file (length held)
 
   -- what was answered
-  says : (a : Stepped) → t.answer ≡ a → Says (stepped_of a) s (stand_seen h label) file
+  says : (a : Answer Stepped Refused) → t.answer ≡ a → Says (stepped_of a) s (stand_seen h label) file
   says a e =
       subst (λ (b : StepOutcome). Says b s (stand_seen h label) file) (sym S.answer ∙ ap stepped_of e) (on_says file (length held) ample (stand_seen h label))
 
   -- ---- a record
 
-  module _ (n k : ℕ) (e : t.answer ≡ RecordStep n k) where
+  module _ (n k : ℕ) (e : t.answer ≡ Ok (RecordStep n k)) where
     makes : Makes s n (stand_seen h label) file
-    makes = says (RecordStep n k) e
+    makes = says (Ok (RecordStep n k)) e
 
     pub record_few : n ≤ record_limit
     record_few = makes.few
@@ -117,23 +117,24 @@ module _ {file old : List ℕ} {front : ℕ} {h : Held} {label : List ℕ} {byte
 
   -- ---- the end, or a refusal
 
-  ended : (v : Verdict) → stepped_of t.answer ≡ stop_answer v → left_of (stand_seen h label) file ≡ stop v
-      → Gathers file old front (record { last = t.answer; bytes = bytes }) sheet
+  ended : (v : Verdict) → left_of (stand_seen h label) file ≡ stop v → Gathered file old front bytes v sheet
   unfolding layout_all
-  ended v e L =
+  ended v L =
       let w : G.past ≡ layout_all sheet_version (left_of (open_stand file) file).records =
       sym (append-nil G.past) ∙ ap (λ (x : Result). G.past ++ layout_all sheet_version x.records) (sym L) ∙ G.whole in
       record {
-        last_is = e ∙ ap (λ (x : Result). stop_answer x.verdict) (sym L) ∙ ap stop_answer G.verdict_is;
+        verdict_is = sym G.verdict_is ∙ ap (λ (x : Result). x.verdict) L;
         bytes_are = G.bytes_are ∙ ap (λ (x : List ℕ). front + length x) w;
         laid_in = λ l. G.laid_in l ∙ ap (laid old front) w;
       }
 
-  pub gathered_all : OneOf (1 ∷ 2 ∷ 3 ∷ []) (tag_of the_type t.answer) → Gathers file old front (record { last = t.answer; bytes = bytes }) sheet
-  gathered_all o = go t.answer refl o
-    where
-      go : (a : Stepped) → t.answer ≡ a → OneOf (1 ∷ 2 ∷ 3 ∷ []) (tag_of the_type a) → Gathers file old front (record { last = t.answer; bytes = bytes }) sheet
-      go (RecordStep n k) e o = absurd (miss (1 ∷ 2 ∷ 3 ∷ []) 0 tt o)
-      go Nothing e o = absurd (next_answers (stand_seen h label) file (length held) (sym (ap stepped_of e) ∙ S.answer))
-      go EndStep e o = ended Good (ap stepped_of e) (says EndStep e)
-      go (StepRefused n p) e o = ended (Refusal n p) (ap stepped_of e) (says (StepRefused n p) e)
+  pub gathered_all : (a : Stepped) → t.answer ≡ Ok a → OneOf (1 ∷ 2 ∷ []) (tag_of the_type a) → Gathered file old front bytes Good sheet
+  gathered_all (RecordStep n k) e o = absurd (miss (1 ∷ 2 ∷ []) 0 tt o)
+  gathered_all Nothing e o = absurd (next_answers (stand_seen h label) file (length held) (sym (ap stepped_of e) ∙ S.answer))
+  gathered_all EndStep e o = ended Good (says (Ok EndStep) e)
+
+  pub gathered_none : (r : Refused) → t.answer ≡ Err r
+      → Gathered file old front (front + length (layout_all sheet_version (left_of (open_stand file) file).records)) (Refusal r.number r.place) sheet
+  gathered_none r e =
+      let E = ended (Refusal r.number r.place) (says (Err r) e) in
+      subst (λ (b : ℕ). Gathered file old front b (Refusal r.number r.place) sheet) E.bytes_are E

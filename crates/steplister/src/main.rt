@@ -11,19 +11,11 @@ ghost use Rattle.header.specs.Head.{saying};
 ghost use Rattle.listing.specs.Lines.{input_limit, lister_sheet_limit, lister_text_limit, lister_text};
 ghost use Rattle.steplister.specs.Steps.{Gathers, stop_text};
 
-use format::Stepped;
-use header::Head;
+use format::{Fault, Refusal, Stepped};
 use listing::Printed;
 
 // "at most 16,384 bytes, else prints `too long`"
 const INPUT_LIMIT: usize = 16384;
-
-// What stepping came to: the answer that ended it, and the sheet's bytes up to there.
-#[derive(Clone, Copy)]
-struct Gathered {
-    last: Stepped,
-    bytes: usize,
-}
 
 // Lays the version byte and the header record over the front of the sheet: how many bytes
 // they take.
@@ -52,28 +44,26 @@ fn lay_in(sheet: &mut [u8], at: usize, part: &[u8])
     wire::copy(part, &mut sheet[at..]);
 }
 
-// Steps through the file and lays the records into the sheet, the first at `front`. A
-// refusal and the end are passed straight on. Each record is first in `held`, so that one
-// for which the sheet has no room still counts.
-fn gather(file: &[u8], sheet: &mut [u8], front: usize, held: &mut [u8]) -> Gathered
+// Steps through the file and lays the records into the sheet, the first at `front`: the
+// sheet's bytes at the end, or the refusal. Each record is first in `held`, so that one for
+// which the sheet has no room still counts.
+fn gather(file: &[u8], sheet: &mut [u8], front: usize, held: &mut [u8]) -> Result<usize, Refusal>
     requires { (length file.now ≤ input_limit) × (front ≤ front_limit) × (record_limit ≤ length held.old) }
     ensures { Gathers file.now sheet.old front result sheet.new }
 {
     let mut label = label::blank();
     let mut stand = step::open_at(file);
     let mut bytes = front;
+    // The steps say when they end.
     loop {
         let taken = step::next_at(file, stand, &mut label.bytes, held);
-        let answer = taken.answer;
+        let answer = taken.answer?;
         let Stepped::Record {
             bytes: size,
             kept: _,
         } = answer
         else {
-            return Gathered {
-                last: answer,
-                bytes,
-            };
+            return Ok(bytes);
         };
         lay_in(sheet, bytes, &held[..size]);
         bytes += size;
@@ -83,21 +73,17 @@ fn gather(file: &[u8], sheet: &mut [u8], front: usize, held: &mut [u8]) -> Gathe
 
 // The text for what stepping came to: a refusal; 11 where the sheet has no room; the
 // listing of the sheet.
-fn stop_text(gathered: Gathered, version: u8, sheet: &[u8], out: &mut [u8]) -> usize
+fn stop_text(gathered: Result<usize, Refusal>, version: u8, sheet: &[u8], out: &mut [u8]) -> usize
     requires { (length sheet.now ≡ lister_sheet_limit) × (length out.old ≡ lister_text_limit) }
     ensures { (result ≤ lister_text_limit) × (take result out.new ≡ stop_text gathered version sheet.now) }
 {
-    let last = gathered.last;
-    let bytes = gathered.bytes;
-    if let Stepped::Refused { number, place } = last {
-        return listing::list(Printed::Refused { number, place }, b"", out);
-    }
+    let bytes = match gathered {
+        Ok(bytes) => bytes,
+        Err(refusal) => return listing::list(Printed::Refused { refusal }, b"", out),
+    };
     if sheet.len() < bytes {
-        let printed = Printed::Refused {
-            number: 11,
-            place: bytes,
-        };
-        return listing::list(printed, b"", out);
+        let refusal = Fault::BufferTooSmall.at(bytes);
+        return listing::list(Printed::Refused { refusal }, b"", out);
     }
     listing::list(Printed::Sheet { version }, &sheet[..bytes], out)
 }
@@ -112,20 +98,13 @@ fn text_of(input: &[u8], n: usize, sheet: &mut [u8], out: &mut [u8]) -> usize
     if INPUT_LIMIT < n {
         return listing::list(Printed::TooLong, b"", out);
     }
-    let head = header::opening(file);
-    match head {
-        Head::Shut { number, place } => listing::list(Printed::Refused { number, place }, b"", out),
-        Head::Whole {
-            version,
-            place: _,
-            extended,
-            title,
-            time,
-        } => {
-            let front = lay_front(file, extended, title, time, sheet);
+    match header::opening(file) {
+        Err(refusal) => listing::list(Printed::Refused { refusal }, b"", out),
+        Ok(head) => {
+            let front = lay_front(file, head.extended, head.title, head.time, sheet);
             // there is no text yet, so out is free for the records
             let gathered = gather(file, sheet, front, out);
-            stop_text(gathered, version, sheet, out)
+            stop_text(gathered, head.version, sheet, out)
         }
     }
 }

@@ -4,12 +4,16 @@ use Prim.Native.Nat.{ℕ, ◌+◌, ◌≤◌, ◌<◌}
 use mathlib.Core.Path.{◌≡◌, refl, sym, ap, ◌∙◌}
 use mathlib.Core.List.{List, [], ◌∷◌, ◌++◌}
 use mathlib.Core.Bool.{Bool, true, false, ◌&&◌}
+use mathlib.Core.Logic.{inl, inr}
+use Rattle.std.specs.Prelude.{Result, Ok, Err}
 use native.Mathlib.Omega.{arith}
 use lib.ListN.{length}
 use lib.Dec.{eqb}
 use borrow.Author.Tests.{lt-ltb, le-ltb, eq-eqb, eqb-true}
 use Rattle.format.specs.Bytes.{pick, same}
 use Rattle.format.specs.State.{Record, leg, station, section, error}
+use Rattle.format.specs.declared.Fault.{Fault}
+use Rattle.format.specs.declared.Fault.TheVariants.{UnknownStation, StationMoved, NoRoomForNames}
 use Rattle.format.specs.declared.Point.{Point}
 use Rattle.format.specs.declared.Leg.{Leg}
 use Rattle.format.specs.declared.Station.{Station}
@@ -17,14 +21,11 @@ use Rattle.format.specs.declared.Section.{Section}
 use Rattle.format.specs.declared.Traverse.{Traverse}
 use Rattle.format.proofs.Basics.{both, and_true, same_true}
 use Rattle.table.specs.Entries.{Entry, Answer, somewhere, nowhere, lookup, room_of, entries_of}
-use Rattle.table.specs.Told.{Holds, FindTold, KnownTold, MovedTold, FullTold, KeptTold}
+use Rattle.table.specs.Told.{Holds, FindTold, KeptTold, StationTold}
 use Rattle.table.specs.declared.Index.{Index}
-use Rattle.table.specs.declared.Found.{Found}
-use Rattle.table.specs.declared.Found.TheVariants.{At, Missing}
 use Rattle.table.proofs.Lookups.{lookup_front, lookup_last, room_last}
 use Rattle.strict.specs.Strict.{found, unknown, searched, taken, Judgement, same_place, judged}
 use Rattle.strict.specs.Indexed.{as_searched, Knows, JudgedTo}
-use Rattle.strict.specs.declared.Judged.TheVariants.{Faulty, Fine}
 
 -- ---- the same place
 
@@ -118,34 +119,26 @@ module _ (room : List ℕ) (i : Index) (earlier : List Record) (K : Knows room i
     abbrev due : Judgement
     due = judged (length room) earlier (station g l)
 
-    pub station_known : (room' : List ℕ) → KnownTold room room' i.count l g.place → JudgedTo (Fine i) room' earlier (station g l) due
+    pub station_judged : (a : Result Index Fault) (room' : List ℕ) → StationTold a room room' i l g.place → JudgedTo a room' earlier (station g l) due
     unfolding pick
-    station_known room' t = (simp (search_found l t.there, same_place_lem g.place), rw t.kept (knows_known t.there))
-
-    pub station_moved : (room' : List ℕ) → MovedTold room room' i.count l g.place → JudgedTo (Faulty 19) room' earlier (station g l) due
-    unfolding pick
-    station_moved room' t = simp (search_found l t.there, other_place t.other g.place t.differs)
-
-    pub station_full : (room' : List ℕ) → FullTold room room' i.count l → JudgedTo (Faulty 22) room' earlier (station g l) due
-    unfolding pick
-    station_full room' t =
-        let z : length room < taken earlier + (length l + 32) = rw (← K.takes) t.stuck.no_room in
-        simp (search_unknown l t.new, lt-ltb _ _ z)
-
-    pub station_kept : (room' : List ℕ) (j : Index) → KeptTold room room' i.count l g.place j → JudgedTo (Fine j) room' earlier (station g l) due
-    unfolding pick
-    station_kept room' j t =
+    station_judged (Ok j) room' (inl t) = rw t.1 (simp (search_found l t.0.there, same_place_lem g.place), rw t.0.kept (knows_known t.0.there))
+    station_judged (Ok j) room' (inr t) =
         let z : taken earlier + (length l + 32) ≤ length room = rw (← K.takes) t.grew.room in
         (simp (search_unknown l t.new, le-ltb _ _ z), knows_kept room' j t)
+    station_judged (Err StationMoved) room' t = simp (search_found l t.there, other_place t.other g.place t.differs)
+    station_judged (Err NoRoomForNames) room' t =
+        let z : length room < taken earlier + (length l + 32) = rw (← K.takes) t.stuck.no_room in
+        simp (search_unknown l t.new, lt-ltb _ _ z)
+    station_judged (Err _) room' t = absurd t
 
   -- ---- the judgement of a cross-section
 
-  module _ (g : Section) (l : List ℕ) (a : Found) (seed : ℕ) (t : FindTold a seed room i.count l) where
-    pub section_known : (p : Point) → a ≡ At p → JudgedTo (Fine i) room earlier (section g l) (judged (length room) earlier (section g l))
-    section_known p e = let x = rw e at t in (rw (search_found l (sym x.same)), knows_section g l)
+  module _ (g : Section) (l : List ℕ) (seed : ℕ) where
+    pub section_known : (p : Point) → FindTold (Ok p) seed room i.count l → JudgedTo (Ok i) room earlier (section g l) (judged (length room) earlier (section g l))
+    section_known p t = (rw (search_found l (sym t.same)), knows_section g l)
 
-    pub section_unknown : (h : ℕ) → a ≡ Missing h → JudgedTo (Faulty 18) room earlier (section g l) (judged (length room) earlier (section g l))
-    section_unknown h e = let x = rw e at t in rw (search_unknown l (sym x.same))
+    pub section_unknown : (h : ℕ) → FindTold (Err h) seed room i.count l → JudgedTo (Err UnknownStation) room earlier (section g l) (judged (length room) earlier (section g l))
+    section_unknown h t = rw (search_unknown l (sym t.same))
 
 -- ---- the index of no names
 

@@ -13,11 +13,9 @@ use Rattle.format.specs.Bytes.{pick}
 use Rattle.format.specs.Header.{Header, Opening, shut, opened, opening_of}
 use Rattle.format.specs.State.{State, Record, leg, station, section, error, Next, bad, end, on, made}
 use Rattle.format.specs.Sheet.{sheet_version, sheet_of}
-use Rattle.format.specs.Refusals.{reader_number, Result, also, Outcome, accepted, refused, outcome_of}
+use Rattle.format.specs.Refusals.{reader_number, Result, also, Outcome, accepted, refused, outcome_of, Verdict, Good, Refusal}
 use Rattle.format.specs.Reading.{next, ended, after_item, run, items_of, read_outcome, read_buffer}
 use Rattle.format.specs.declared.Point.{Point}
-use Rattle.format.specs.declared.Verdict.{Verdict}
-use Rattle.format.specs.declared.Verdict.TheVariants.{Good, Refusal}
 use Rattle.format.proofs.Basics.{pick_case}
 use Rattle.format.proofs.ConversionLaws.{read_numbers}
 use Rattle.format.proofs.ReadingLaws.{SizedNext, next_sized, run_eq}

@@ -7,9 +7,8 @@ use native.Mathlib.Omega.{arith}
 use lib.ListN.{length, take, drop, length-drop}
 use lib.Seq.{drop-drop}
 use Rattle.format.specs.State.{State, Record, Next, bad, end, on, made}
-use Rattle.format.specs.Refusals.{Result, stop, also}
+use Rattle.format.specs.Refusals.{Result, stop, also, Good, Refusal}
 use Rattle.format.specs.Reading.{next, after_item, run, items_of}
-use Rattle.format.specs.declared.Verdict.TheVariants.{Good, Refusal}
 use Rattle.format.proofs.IterateLaws.{iter_eq}
 use Rattle.format.proofs.ReadingLaws.{SizedNext, next_sized, next_there_lem, run_eq}
 use Rattle.strict.specs.Strict.{Judgement, fine, faulty, judged, Stand, unless, after_strictly, strict_step, strict_run, strict_items}

@@ -1,14 +1,14 @@
 -- What an index in lent room knows of the records made so far, and what the code's answers say. Assumes nothing.
-use Rattle.std.specs.Prelude.{ℕ, ◌≤◌, ◌≡◌, List, ◌∷◌, length}
+use Rattle.std.specs.Prelude.{ℕ, ◌≤◌, ◌≡◌, List, ◌∷◌, length, Result, Ok, Err}
 use Rattle.format.specs.State.{Record, station, section, Next, bad, end, on, made}
+use Rattle.format.specs.Faults.{fault_number}
+use Rattle.format.specs.declared.Fault.{Fault}
 use Rattle.format.specs.declared.Point.{Point}
 use Rattle.format.specs.declared.Section.{Section}
 use Rattle.table.specs.Entries.{Answer as Looked, somewhere, nowhere, lookup, room_of, entries_of}
 use Rattle.table.specs.Told.{Holds}
 use Rattle.table.specs.declared.Index.{Index}
 use Rattle.strict.specs.Strict.{Searched, found, unknown, searched, taken, Judgement, fine, faulty, judged}
-use Rattle.strict.specs.declared.Judged.{Judged}
-use Rattle.strict.specs.declared.Judged.TheVariants.{Faulty, Fine}
 
 abbrev pub as_searched : Looked → Searched
 as_searched (somewhere p) = found p
@@ -22,19 +22,19 @@ pub record Knows (room : List ℕ) (i : Index) (earlier : List Record) : Type 0 
   pub few : i.count ≤ length earlier
 
 -- the judgement of a record after the earlier ones, and the index after it
-abbrev pub JudgedTo : Judged → List ℕ → List Record → Record → Judgement → Type 0
-JudgedTo (Faulty k) room earlier r j = j ≡ faulty k
-JudgedTo (Fine i) room earlier r j = (j ≡ fine) × Knows room i (r ∷ earlier)
+abbrev pub JudgedTo : Result Index Fault → List ℕ → List Record → Record → Judgement → Type 0
+JudgedTo (Err f) room earlier r j = j ≡ faulty (fault_number f)
+JudgedTo (Ok i) room earlier r j = (j ≡ fine) × Knows room i (r ∷ earlier)
 
 -- whatever came earlier, where the index knows it
-abbrev pub JudgesIn : Judged → List ℕ → List ℕ → Index → Record → Type 0
+abbrev pub JudgesIn : Result Index Fault → List ℕ → List ℕ → Index → Record → Type 0
 JudgesIn a before after i r = (earlier : List Record) → Knows before i earlier → JudgedTo a after earlier r (judged (length before) earlier r)
 
 -- a station and a cross-section of this name, whatever else they say
-abbrev pub JudgesStation : Judged → List ℕ → List ℕ → Index → List ℕ → Point → Type 0
+abbrev pub JudgesStation : Result Index Fault → List ℕ → List ℕ → Index → List ℕ → Point → Type 0
 JudgesStation a before after i name p = (flags : ℕ) → JudgesIn a before after i (station (record { flags = flags; place = p }) name)
 
-abbrev pub JudgesSection : Judged → List ℕ → Index → List ℕ → Type 0
+abbrev pub JudgesSection : Result Index Fault → List ℕ → Index → List ℕ → Type 0
 JudgesSection a room i name = (g : Section) → JudgesIn a room room i (section g name)
 
 -- ---- an item

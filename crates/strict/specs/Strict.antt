@@ -6,10 +6,9 @@ use Rattle.format.specs.Header.{Opening, shut, opened, opening_of}
 use Rattle.format.specs.Iterate.{iter}
 use Rattle.format.specs.State.{State, start, Record, leg, station, section, error, Next, bad, end, on, made}
 use Rattle.format.specs.Sheet.{sheet_version, sheet_of}
-use Rattle.format.specs.Refusals.{Result, stop, also, Outcome, refused, outcome_of, buffer_of}
+use Rattle.format.specs.Refusals.{Result, stop, also, Outcome, refused, outcome_of, buffer_of, Refusal}
 use Rattle.format.specs.Reading.{next, ended, items_of}
 use Rattle.format.specs.declared.Point.{Point}
-use Rattle.format.specs.declared.Verdict.TheVariants.{Refusal}
 
 -- ---- "a search through all earlier station records"
 

@@ -1,5 +1,6 @@
 // What strict reading adds to reading, request #108: each station and cross-section is judged
 // by an index of names in lent room.
+// A label's bytes and its length stand apart: C lends the bytes and has the length in its stand.
 #![tactic(auto)]
 
 ghost use Rattle.std.specs.Prelude.{◌≡◌, ◌≤◌, ◌<◌, length, take};
@@ -10,53 +11,39 @@ ghost use Rattle.format.specs.Label.{label_limit};
 ghost use Rattle.table.specs.Told.{Holds};
 ghost use Rattle.strict.specs.Indexed.{JudgesIn, JudgesStation, JudgesSection};
 
-use format::{Fields, LABEL_LIMIT, Point, Setting};
+use format::{Fault, Fields, LABEL_LIMIT, Point, Setting};
 use item::{Step, station_at};
 use short::{Short, short_item};
-use table::{Found, Index, Station};
-
-// What judging a record comes to: a refusal; or the index after it.
-#[derive(Clone, Copy)]
-pub enum Judged {
-    Faulty { number: u8 },
-    Fine { index: Index },
-}
+use table::Index;
 
 // A station: 19 where its name came earlier with another place, 22 where the name is new
-// and there is no room for it.
-fn judge_station(room: &mut [u8], index: Index, name: &[u8], place: Point) -> Judged
+// and there is no room for it; else the index after it.
+fn judge_station(room: &mut [u8], index: Index, name: &[u8], place: Point) -> Result<Index, Fault>
     requires { Holds room.old index × (length name.now ≤ label_limit) × (index.count < 16777215) }
     ensures { JudgesStation result room.old room.new index name.now place }
 {
-    let s = table::take(room, index, name, place);
-    match s {
-        Station::Known => Judged::Fine { index },
-        Station::Moved => Judged::Faulty { number: 19 },
-        Station::Full => Judged::Faulty { number: 22 },
-        Station::Kept { index: next } => Judged::Fine { index: next },
-    }
+    table::take(room, index, name, place)
 }
 
 // A cross-section: 18 where no earlier station has its name.
-fn judge_section(room: &[u8], index: Index, name: &[u8]) -> Judged
+fn judge_section(room: &[u8], index: Index, name: &[u8]) -> Result<Index, Fault>
     requires { Holds room.now index }
     ensures { JudgesSection result room.now index name.now }
 {
-    let f = table::find(room, index, name);
-    match f {
-        Found::At { place: _ } => Judged::Fine { index },
-        Found::Missing { hash: _ } => Judged::Faulty { number: 18 },
+    match table::find(room, index, name) {
+        Ok(_) => Ok(index),
+        Err(_) => Err(Fault::UnknownStation),
     }
 }
 
-// A record, whose label is in the first len bytes of a buffer.
+// The index after a record, whose label is in the first len bytes of a buffer.
 pub fn judge(
     room: &mut [u8],
     index: Index,
     fields: Fields,
     bytes: &[u8; LABEL_LIMIT],
     len: usize,
-) -> Judged
+) -> Result<Index, Fault>
     requires { Holds room.old index × (len ≤ label_limit) × (length bytes.now ≡ label_limit) × (index.count < 16777215) }
     ensures { JudgesIn result room.old room.new index (record_of fields (take len bytes.now)) }
 {
@@ -69,7 +56,7 @@ pub fn judge(
             date: _,
             from: _,
             to: _,
-        } => Judged::Fine { index },
+        } => Ok(index),
         Fields::Station { station } => judge_station(room, index, name, station.place),
         Fields::Section {
             last: _,
@@ -77,7 +64,7 @@ pub fn judge(
             date: _,
             size: _,
         } => judge_section(room, index, name),
-        Fields::Error { traverse: _ } => Judged::Fine { index },
+        Fields::Error { traverse: _ } => Ok(index),
     }
 }
 
@@ -89,21 +76,20 @@ pub fn take_next(
     bytes: &mut [u8; LABEL_LIMIT],
     len: usize,
     setting: Setting,
-) -> Step
+) -> Result<Step, Fault>
     requires { (len ≤ label_limit) × (length bytes.old ≡ label_limit) }
     ensures { Tells result bytes.new (next version s.now (state_of setting (take len bytes.old))) }
 {
-    let it = short_item(version, s, len);
-    let Short::Place { keep, add, flags } = it else {
+    let Some(Short::Place { keep, add, flags }) = short_item(version, s, len) else {
         return item::take_item(version, s, bytes, len, setting);
     };
     let station = station_at(s, 2 + add, flags);
     label::extend(bytes, keep, &s[2..]);
-    Step::Made {
+    Ok(Step::Made {
         size: 14 + add,
         len: keep + add,
         setting,
         fields: Fields::Station { station },
         kept: keep,
-    }
+    })
 }

@@ -1,11 +1,10 @@
 -- Questions: the rank from totals, and the least marked record. Assumes nothing.
+use Rattle.std.specs.Prelude.{Option, Some, None}
 use Rattle.std.proofs.Common.{◌≡◌, ℕ, zero, suc, ◌+◌, ◌-◌, ◌*◌, ◌/◌, ◌%◌, ◌^◌, ◌<◌, ◌≤◌, Bool, true, false, ◌||◌, T, ltb, List, [], ◌∷◌, length, get_or, drop, sym, refl, ap, ◌∙◌, subst, ap₂, suc-le-suc, zero-le, le_of_suc-le-suc, not-suc-le-zero, add-zero, add-suc, suc-add, add-one, one-add, arith, lit<, length-drop, get_or-drop, shr_lt, le-ltb, lt-ltb, eq-eqb, ne_eqb}
 use lib.Bits.{bit_and}
 use lib.Count.{ones, count_trailing_zeros, under}
 use Rattle.format.specs.Bytes.{pick}
 use Rattle.format.specs.Summary.{one, count_of, words_for, needed, bit, bit_at, marks_of, rank_in, count_in, first_from, next_of, holds, unheld, entrances_outcome}
-use Rattle.format.specs.declared.NextEntrance.{NextEntrance}
-use Rattle.format.specs.declared.NextEntrance.TheVariants.{At, Nowhere}
 use Rattle.format.proofs.Basics.{less_or_not, pick_true, pick_false}
 use Rattle.format.proofs.SummaryWords.{bit_past, bit_shr, bit_first, at_word_lem, mark_of_bit, length_marks_of}
 use Rattle.summary.specs.Bits.{sum_to, Least}
@@ -67,15 +66,15 @@ least (suc d) w p h =
 
 -- ---- the least marked record
 
-first_at : (l : List Bool) (i t : ℕ) → get_or l t false ≡ true → ((k : ℕ) → k < t → get_or l k false ≡ false) → first_from i l ≡ At (i + t)
+first_at : (l : List Bool) (i t : ℕ) → get_or l t false ≡ true → ((k : ℕ) → k < t → get_or l k false ≡ false) → first_from i l ≡ Some (i + t)
 unfolding first_from
 first_at [] i t e f = absurd (subst T (sym e) tt)
-first_at (true ∷ l) i zero e f = ap At (sym (add-zero i))
+first_at (true ∷ l) i zero e f = ap Some (sym (add-zero i))
 first_at (true ∷ l) i (suc t) e f = absurd (subst T (f 0 (suc-le-suc zero-le)) tt)
 first_at (false ∷ l) i zero e f = absurd (subst T (sym e) tt)
-first_at (false ∷ l) i (suc t) e f = first_at l (suc i) t e (λ k h. f (suc k) (suc-le-suc h)) ∙ ap At (suc-add i t ∙ sym (add-suc i t))
+first_at (false ∷ l) i (suc t) e f = first_at l (suc i) t e (λ k h. f (suc k) (suc-le-suc h)) ∙ ap Some (suc-add i t ∙ sym (add-suc i t))
 
-first_none : (l : List Bool) (i : ℕ) → ((k : ℕ) → k < length l → get_or l k false ≡ false) → first_from i l ≡ Nowhere
+first_none : (l : List Bool) (i : ℕ) → ((k : ℕ) → k < length l → get_or l k false ≡ false) → first_from i l ≡ None
 unfolding first_from
 first_none [] i f = refl
 first_none (true ∷ l) i f = absurd (subst T (f 0 (suc-le-suc zero-le)) tt)
@@ -96,7 +95,7 @@ Clear ws a b = (i : ℕ) → a ≤ i → i < b → bit_at ws i ≡ 0
 clear_mark : (ws : List ℕ) (n a b : ℕ) → Clear ws a b → (i : ℕ) → a ≤ i → i < b → i < n → get_or (marks_of n ws) i false ≡ false
 clear_mark ws n a b f i h g p = is_clear (get_or (marks_of n ws) i false) (mark_of_bit n ws i p ∙ f i h g)
 
-pub next_at_lem : (ws : List ℕ) (n a r : ℕ) → a ≤ r → r < n → Clear ws a r → bit_at ws r ≡ 1 → next_of (marks_of n ws) a ≡ At r
+pub next_at_lem : (ws : List ℕ) (n a r : ℕ) → a ≤ r → r < n → Clear ws a r → bit_at ws r ≡ 1 → next_of (marks_of n ws) a ≡ Some r
 unfolding next_of
 next_at_lem ws n a r h p f e =
     let q : a + (r - a) ≡ r = omega arith in
@@ -105,9 +104,9 @@ next_at_lem ws n a r h p f e =
     ∙ ap (λ (k : ℕ). get_or (marks_of n ws) k false) q
     ∙ is_marked (get_or (marks_of n ws) r false) (mark_of_bit n ws r p ∙ e))
     (λ k g. get_or-drop a (marks_of n ws) k false ∙ clear_mark ws n a r f (a + k) (omega arith) (omega arith) (omega arith))
-    ∙ ap At q
+    ∙ ap Some q
 
-pub next_none : (ws : List ℕ) (n a b : ℕ) → n ≤ b → Clear ws a b → next_of (marks_of n ws) a ≡ Nowhere
+pub next_none : (ws : List ℕ) (n a b : ℕ) → n ≤ b → Clear ws a b → next_of (marks_of n ws) a ≡ None
 unfolding next_of
 next_none ws n a b h f =
     first_none (drop a (marks_of n ws)) a
@@ -177,6 +176,6 @@ module _ (ws : List ℕ) (n a b w : ℕ) (e : w ≡ words_for n) where
     unfolding entrances_outcome
     past g h = sym (pick_false _ _ enough ∙ pick_true _ _ (outside_past (ltb b a) (ltb n a) (ltb n b) (lt-ltb n b h)))
 
-    pub held : (c : ℕ) (x : NextEntrance) → a ≤ b → b ≤ n → c ≡ count_in ws n a b → x ≡ next_of (marks_of n ws) a → holds c x ≡ entrances_outcome ws n a b
+    pub held : (c : ℕ) (x : Option ℕ) → a ≤ b → b ≤ n → c ≡ count_in ws n a b → x ≡ next_of (marks_of n ws) a → holds c x ≡ entrances_outcome ws n a b
     unfolding entrances_outcome pick
     held c x g h p q = ap₂ holds p q ∙ sym (simp (enough, le-ltb b a g, le-ltb n a (omega arith), le-ltb n b h))

@@ -4,10 +4,9 @@
 use Rattle.std.proofs.Common.{◌≡◌, ℕ, ◌+◌, ◌-◌, ◌*◌, ◌<◌, ◌≤◌, max, Bool, false, List, ◌++◌, length, get_or, take, drop, sym, refl, ap, ◌∙◌, subst, ap₂, zero-add, arith, length-take-le, get_or-drop, get_or-take, get_or-append-add, le-ltb, lt-ltb}
 use lib.ListN.{get_or-append}
 use Rattle.format.specs.Bytes.{pick, over}
-use Rattle.format.specs.Refusals.{Result}
+use Rattle.format.specs.Refusals.{Result, Good, Refusal}
 use Rattle.format.specs.Sheet.{good_front, version_of, version_result, sheet_version, sheet_result, records_of}
 use Rattle.format.specs.Summary.{one, marks_in, words_for, needed, summary, bit_at, marks_of, takes, untaken, made_outcome, made_words, summary_outcome, summary_words, edited_marks, count_verdict, updated_outcome, update_outcome, update_words}
-use Rattle.format.specs.declared.Verdict.TheVariants.{Good, Refusal}
 use Rattle.format.proofs.Basics.{less_or_not, pick_true, pick_false}
 use Rattle.format.proofs.SummaryWords.{marks_ext, mark_of_bit, length_marks_of, length_summary}
 use Rattle.format.proofs.SummaryLaws.{length_edited}
@@ -26,8 +25,8 @@ made ws ws₁ ws₂ ms n l e P q =
     ∙ over_agree (summary ms) ws ws₁ e (λ j h. P.beyond j (let d = length_summary ms ∙ ap needed l in omega arith))
 
 module _ (x : Result) (ws : List ℕ) where
-  pub make_flawed : (n : ℕ) → x.verdict ≡ Refusal 12 n → (untaken 12 n ≡ made_outcome x (length ws)) × (ws ≡ made_words x ws)
-  make_flawed n e = rw e (refl, refl)
+  pub make_flawed : (k n : ℕ) → x.verdict ≡ Refusal k n → (untaken k n ≡ made_outcome x (length ws)) × (ws ≡ made_words x ws)
+  make_flawed k n e = rw e (refl, refl)
 
   module _ (n w : ℕ) (good : x.verdict ≡ Good) (many : length x.records ≡ n) (e : w ≡ words_for n) where
     pub make_short : length ws < 2 * w → (untaken 11 (2 * w) ≡ made_outcome x (length ws)) × (ws ≡ made_words x ws)
@@ -158,27 +157,27 @@ module _ (ws new : List ℕ) (n first count : ℕ) where
     unfolding count_verdict
     run_good = pick_false (Refusal 15 n) Good (le-ltb n (first + count) h)
 
-    pub update_flawed : (k : ℕ) → (records_of sheet_version new).verdict ≡ Refusal 12 k
-        → (untaken 12 k ≡ update_outcome n first count new (length ws)) × (ws ≡ update_words n first count new ws)
+    pub update_flawed : (j k : ℕ) → (records_of sheet_version new).verdict ≡ Refusal j k
+        → (untaken j k ≡ update_outcome n first count new (length ws)) × (ws ≡ update_words n first count new ws)
     unfolding update_outcome
-    update_flawed k e = refused 12 k (rw (run_good, e) refl)
+    update_flawed j k e = refused j k (rw (run_good, e) refl)
 
-    module _ (added w v m : ℕ) (good : (records_of sheet_version new).verdict ≡ Good) (many : length (records_of sheet_version new).records ≡ added)
-        (ew : w ≡ words_for (n - count + added)) (ev : v ≡ words_for n) (em : m ≡ max (2 * v) (2 * w)) where
-      most : max (needed n) (needed (n - count + length x.records)) ≡ m
-      most = rw many (sym (em ∙ ap₂ (λ (a b : ℕ). max (2 * a) (2 * b)) ev ew))
+    module _ (added w v : ℕ) (good : (records_of sheet_version new).verdict ≡ Good) (many : length (records_of sheet_version new).records ≡ added)
+        (ew : w ≡ words_for (n - count + added)) (ev : v ≡ words_for n) where
+      most : (m : ℕ) → m ≡ max (2 * v) (2 * w) → max (needed n) (needed (n - count + length x.records)) ≡ m
+      most m em = rw many (sym (em ∙ ap₂ (λ (a b : ℕ). max (2 * a) (2 * b)) ev ew))
 
-      pub update_short : length ws < m → (untaken 11 m ≡ updated_outcome n first count (records_of sheet_version new) (length ws)) × (ws ≡ update_words n first count new ws)
+      pub update_short : (m : ℕ) → length ws < m → m ≡ max (2 * v) (2 * w) → (untaken 11 m ≡ updated_outcome n first count (records_of sheet_version new) (length ws)) × (ws ≡ update_words n first count new ws)
       unfolding pick
-      update_short g = refused 11 m (rw (run_good, good, most, lt-ltb (length ws) m g) refl)
+      update_short m g em = refused 11 m (rw (run_good, good, most m em, lt-ltb (length ws) m g) refl)
 
       -- the words that `replace` leaves
-      pub update_done : (ws₃ : List ℕ) → m ≤ length ws
+      pub update_done : (ws₃ : List ℕ) (m : ℕ) → m ≤ length ws → m ≡ max (2 * v) (2 * w)
           → ws₃ ≡ over (summary (edited_marks (marks_of (first + count + (n - (first + count))) ws) first (first + count - first) (marks_in (records_of sheet_version new).records))) ws
           → (takes (2 * w) ≡ updated_outcome n first count (records_of sheet_version new) (length ws)) × (ws₃ ≡ update_words n first count new ws)
       unfolding update_outcome update_words pick
-      update_done ws₃ g q =
-          let e : updated_outcome n first count x (length ws) ≡ takes (2 * w) = rw (run_good, good, most, le-ltb (length ws) m g, many) (ap (λ (a : ℕ). takes (2 * a)) (sym ew)) in
+      update_done ws₃ m g em q =
+          let e : updated_outcome n first count x (length ws) ≡ takes (2 * w) = rw (run_good, good, most m em, le-ltb (length ws) m g, many) (ap (λ (a : ℕ). takes (2 * a)) (sym ew)) in
           let l : first + count + (n - (first + count)) ≡ n = omega (arith, h) in
           let d : first + count - first ≡ count = omega arith in
           (sym e, rw (l, d) at q ∙ rw e refl)

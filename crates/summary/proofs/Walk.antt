@@ -1,13 +1,13 @@
 -- The walk over the records of a sheet, for both passes of making a summary: the records that are left, from where the walk stands, are all
 -- records but so many. The first pass judges 12 and counts; in the second, where all records are known to be well-formed, the size of the next one is
 -- what its length bytes say and its mark is read from its kind and its flags. Assumes nothing.
+use Rattle.std.specs.Prelude.{None}
 use Rattle.std.proofs.Common.{◌≡◌, ℕ, zero, suc, ◌+◌, ◌<◌, ◌≤◌, Bool, true, false, ◌&&◌, eqb, List, [], ◌∷◌, map, length, get_or, drop, sym, refl, ap, ◌∙◌, arith, length-drop, drop_of_length-le, get_or-take, drop-drop}
 use Rattle.format.specs.Bytes.{pick, be16, to_be16, Bytes}
 use Rattle.format.specs.State.{Record, leg, station, section, error}
-use Rattle.format.specs.Refusals.{Result, stop, also}
+use Rattle.format.specs.Refusals.{Result, stop, also, Good, Refusal}
 use Rattle.format.specs.Sheet.{layout, undated_section_body, section_body, undated_version, prefixed, Entry, flawed, entry, entry_of, records_from, records_of}
 use Rattle.format.specs.Summary.{entrance, marks_in, one, bit}
-use Rattle.format.specs.declared.Verdict.TheVariants.{Good, Refusal}
 use Rattle.format.proofs.Basics.{pick_case}
 use Rattle.format.proofs.SheetLaws.{entry_sized, entry_read, records_none, records_more, layout_station}
 use Rattle.reach.specs.Reaching.{size_of}
@@ -58,11 +58,11 @@ module _ {v : ℕ} {s : List ℕ} {begin at number : ℕ} (W : Walked v s begin 
         few = omega (arith, W.early, W.inside);
       }
 
-  pub walked_flawed : at < length s → (n : ℕ) → n ≡ size_of (entry_of v (drop at s)) → n ≡ 0 → (records_of v (drop begin s)).verdict ≡ Refusal 12 number
-  walked_flawed h n e z =
+  pub walked_flawed : at < length s → None ≡ size_of (entry_of v (drop at s)) → (records_of v (drop begin s)).verdict ≡ Refusal 12 number
+  walked_flawed h e =
       let l = length-drop at s in
       let m = records_more v W.place (drop at s) number (omega arith) in
-      let f : records_from v W.place (drop at s) number ≡ stop (Refusal 12 number) = rw (none_there v (drop at s) n e z) at m in
+      let f : records_from v W.place (drop at s) number ≡ stop (Refusal 12 number) = rw (none_there v (drop at s) e) at m in
       sym W.ends ∙ ap (λ (x : Result). x.verdict) f
 
   module _ (n : ℕ) (T : There v (drop at s) n) where

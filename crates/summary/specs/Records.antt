@@ -1,12 +1,10 @@
 -- The records of a sheet as the code meets them: counted, and marked. Assumes nothing.
-use Rattle.std.specs.Prelude.{◌≡◌, ℕ, ◌+◌, ◌*◌, ◌/◌, ◌%◌, ◌^◌, ◌<◌, ◌≤◌, Bool, false, ◌&&◌, List, length, ◌==◌, slice_index, slice_index_or}
-use Rattle.format.specs.Refusals.{Result}
+use Rattle.std.specs.Prelude.{◌≡◌, ℕ, ◌+◌, ◌*◌, ◌/◌, ◌%◌, ◌^◌, ◌<◌, ◌≤◌, Bool, false, ◌&&◌, List, length, ◌==◌, slice_index, slice_index_or, Result as Answer, Ok, Err}
+use Rattle.format.specs.Refusals.{Result, Good, Refusal}
 use Rattle.format.specs.Sheet.{records_of}
 use Rattle.format.specs.Summary.{one, marks_in}
-use Rattle.format.specs.declared.Verdict.TheVariants.{Good, Refusal}
 use Rattle.summary.specs.Bits.{Put}
-use Rattle.summary.specs.declared.Counted.{Counted}
-use Rattle.summary.specs.declared.Counted.TheVariants.{Whole, Flawed}
+use Rattle.format.specs.declared.Refusal.{Refusal as Refused}
 
 -- whether the well-formed record at the front of s is an entrance: kind 2, flag 0x04
 abbrev pub mark_at : List ℕ → Bool
@@ -18,10 +16,10 @@ pub record RecordsIn (n size : ℕ) (x : Result) : Type 0 where
   pub many : length x.records ≡ n
   pub few : n ≤ size
 
--- that; or 12 at the first that is not well-formed
-abbrev pub CountedAs : Counted → ℕ → Result → Type 0
-CountedAs (Whole n) size x = RecordsIn n size x
-CountedAs (Flawed n) size x = x.verdict ≡ Refusal 12 n
+-- that; or the refusal at the first that is not well-formed
+abbrev pub CountedAs : Answer ℕ Refused → ℕ → Result → Type 0
+CountedAs (Ok n) size x = RecordsIn n size x
+CountedAs (Err r) size x = x.verdict ≡ Refusal r.number r.place
 
 -- s holds well-formed records of some version, and their marks from bit `first` on fit into so many words
 pub record RecordsFit (s : List ℕ) (first words : ℕ) : Type 0 where

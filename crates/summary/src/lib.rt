@@ -3,7 +3,7 @@
 // made of a sheet, asked, and brought up to date in its place after an edit.
 #![tactic(auto)]
 
-ghost use Rattle.std.specs.Prelude.{◌≡◌, ℕ, ◌+◌, ◌-◌, ◌*◌, ◌^◌, ◌<◌, ◌≤◌, max, length, drop, slice_index};
+ghost use Rattle.std.specs.Prelude.{◌≡◌, ℕ, ◌+◌, ◌-◌, ◌*◌, ◌^◌, ◌<◌, ◌≤◌, length, drop, slice_index};
 ghost use Rattle.format.specs.Bytes.{over};
 ghost use Rattle.format.specs.Sheet.{sheet_version, records_of};
 ghost use Rattle.format.specs.Summary.{one, words_for, needed, marks_in, marks_of, summary, bit, bit_at, rank_in, count_in, next_of, made_outcome, made_words, summary_outcome, summary_words, entrances_outcome, edited_marks, updated_outcome, update_outcome, update_words};
@@ -11,14 +11,7 @@ ghost use Rattle.format.specs.Answers.{entrances_of, summed_of};
 ghost use Rattle.summary.specs.Bits.{sum_to, Field, Wrote, Put, Cleared, Totalled, Least};
 ghost use Rattle.summary.specs.Records.{mark_at, RecordsIn, RecordsFit, Marked, CountedAs};
 
-use format::{Entrances, NextEntrance, SHEET_VERSION, Summed};
-
-// How many records follow one another; or the number of the first that is not well-formed.
-#[derive(Clone, Copy)]
-enum Counted {
-    Whole { records: usize },
-    Flawed { number: usize },
-}
+use format::{Entrances, Fault, Refusal, SHEET_VERSION};
 
 // ---- numbers and words
 
@@ -94,7 +87,7 @@ fn part_of(left: usize) -> usize
     requires { 0 < left }
     ensures { (0 < result) × (result ≤ 64) × (result ≤ left) }
 {
-    if left < 64 { left } else { 64 }
+    left.min(64)
 }
 
 // Moves bits up, the last ones first.
@@ -103,6 +96,7 @@ fn move_up(words: &mut [u64], from: usize, to: usize, size: usize)
     ensures { Put words.old words.new to 0 size (λ i. bit_at words.old (from + i)) }
 {
     let mut left = size;
+    // a while, since a turn moves up to 64 bits
     while 0 < left {
         let part = part_of(left);
         left -= part;
@@ -117,6 +111,7 @@ fn move_down(words: &mut [u64], from: usize, to: usize, size: usize)
     ensures { Put words.old words.new to 0 size (λ i. bit_at words.old (from + i)) }
 {
     let mut done = 0;
+    // a while, since a turn moves up to 64 bits
     while done < size {
         let part = part_of(size - done);
         let v = read_bits(words, from + done, part);
@@ -140,22 +135,23 @@ fn move_bits(words: &mut [u64], from: usize, to: usize, size: usize)
 
 // ---- the records of a sheet
 
-// How many records of the version's layout s holds from `begin` on.
-fn count_records(s: &[u8], version: u8, begin: usize) -> Counted
+// How many records of the version's layout s holds from `begin` on, if all of them are
+// well-formed.
+fn count_records(s: &[u8], version: u8, begin: usize) -> Result<usize, Refusal>
     requires { begin ≤ length s.now }
     ensures { CountedAs result (length s.now) (records_of version (drop begin s.now)) }
 {
     let mut at = begin;
     let mut number: usize = 0;
+    // a while, since each record has a size of its own
     while at < s.len() {
-        let size = reach::other_size(&s[at..], version);
-        if size == 0 {
-            return Counted::Flawed { number };
-        }
+        let Some(size) = reach::other_size(&s[at..], version) else {
+            return Err(Fault::BrokenLayout.at(number));
+        };
         number += 1;
         at += size;
     }
-    Counted::Whole { records: number }
+    Ok(number)
 }
 
 // The mark of the well-formed record at the front of s.
@@ -166,7 +162,7 @@ fn mark_of(s: &[u8]) -> u64
     if s[2] != 2 {
         return 0;
     }
-    (s[3] / 0x04 % 2) as u64
+    u64::from(s[3] / 0x04 % 2)
 }
 
 // The marks of well-formed records, which s holds from `begin` on, from bit `first` on.
@@ -176,6 +172,7 @@ fn put_marks(words: &mut [u64], first: usize, s: &[u8], begin: usize)
 {
     let mut at = begin;
     let mut number: usize = 0;
+    // a while, since each record has a size of its own
     while at < s.len() {
         let rest = &s[at..];
         let mark = mark_of(rest);
@@ -209,11 +206,9 @@ fn put_totals(words: &mut [u64], w: usize)
     ensures { Totalled words.old words.new w w }
 {
     let mut sum: u64 = 0;
-    let mut j = 0;
-    while j < w {
+    for j in 0..w {
         words[w + j] = sum;
         sum += ones_of(words[j]);
-        j += 1;
     }
 }
 
@@ -229,50 +224,36 @@ fn finish(words: &mut [u64], n: usize)
 // ---- making the summary
 
 // The summary of the records that a sheet of the version holds from `begin` on.
-fn summarize_records(sheet: &[u8], version: u8, begin: usize, words: &mut [u64]) -> Summed
+fn summarize_records(
+    sheet: &[u8],
+    version: u8,
+    begin: usize,
+    words: &mut [u64],
+) -> Result<usize, Refusal>
     requires { begin ≤ length sheet.now }
     ensures answer { summed_of result ≡ made_outcome (records_of version (drop begin sheet.now)) (length words.old) }
     ensures words { words.new ≡ made_words (records_of version (drop begin sheet.now)) words.old }
 {
-    let counted = count_records(sheet, version, begin);
-    match counted {
-        Counted::Flawed { number } => Summed::Refused {
-            number: 12,
-            place: number,
-        },
-        Counted::Whole { records } => {
-            let least = 2 * words_for(records);
-            if words.len() < least {
-                return Summed::Refused {
-                    number: 11,
-                    place: least,
-                };
-            }
-            put_marks(words, 0, sheet, begin);
-            finish(words, records);
-            Summed::Takes { words: least }
-        }
+    let records = count_records(sheet, version, begin)?;
+    let least = 2 * words_for(records);
+    if words.len() < least {
+        return Err(Fault::BufferTooSmall.at(least));
     }
+    put_marks(words, 0, sheet, begin);
+    finish(words, records);
+    Ok(least)
 }
 
 // The summary of a sheet, to the front of the words.
-pub fn summarize(sheet: &[u8], words: &mut [u64]) -> Summed
+pub fn summarize(sheet: &[u8], words: &mut [u64]) -> Result<usize, Refusal>
     ensures answer { summed_of result ≡ summary_outcome sheet.now (length words.old) }
     ensures words { words.new ≡ summary_words sheet.now words.old }
 {
     let version = sheet::version_of(sheet);
-    let front = sheet::read_front(sheet, version);
-    match front {
-        sheet::Front::Flawed => Summed::Refused {
-            number: 12,
-            place: 0,
-        },
-        sheet::Front::Whole {
-            extended: _,
-            title,
-            time,
-        } => summarize_records(sheet, version, 7 + title + time, words),
-    }
+    let Some(front) = sheet::read_front(sheet, version) else {
+        return Err(Fault::BrokenLayout.at(0));
+    };
+    summarize_records(sheet, version, 7 + front.title + front.time, words)
 }
 
 // ---- questions
@@ -312,65 +293,48 @@ fn least_bit(w: u64) -> usize
 }
 
 // The least marked record at or after a.
-fn next_mark(words: &[u64], n: usize, a: usize) -> NextEntrance
+fn next_mark(words: &[u64], n: usize, a: usize) -> Option<usize>
     requires { needed n ≤ length words.now }
     ensures { result ≡ next_of (marks_of n words.now) a }
 {
     let w = words_for(n);
-    let mut j = a / 64;
     let mut s = a % 64;
-    while j < w {
+    for j in a / 64..w {
         let rest = words[j] >> s;
         if 0 < rest {
             let at = j * 64 + (s + least_bit(rest));
             if at < n {
-                return NextEntrance::At { record: at };
+                return Some(at);
             }
-            return NextEntrance::Nowhere;
+            return None;
         }
-        j += 1;
         s = 0;
     }
-    NextEntrance::Nowhere
+    None
 }
 
 // How many entrances the records hold from `from` up to but not including `to`, and where
 // the next one is at or after `from`.
-pub fn entrances(words: &[u64], records: u32, from: usize, to: usize) -> Entrances
+pub fn entrances(words: &[u64], records: u32, from: usize, to: usize) -> Result<Entrances, Refusal>
     ensures { entrances_of result ≡ entrances_outcome words.now records from to }
 {
     let n = records as usize;
     let least = 2 * words_for(n);
     if words.len() < least {
-        return Entrances::Refused {
-            number: 11,
-            place: least,
-        };
+        return Err(Fault::BufferTooSmall.at(least));
     }
     if to < from {
-        return Entrances::Refused {
-            number: 15,
-            place: n,
-        };
+        return Err(Fault::PastRecords.at(n));
     }
     if n < to {
-        return Entrances::Refused {
-            number: 15,
-            place: n,
-        };
+        return Err(Fault::PastRecords.at(n));
     }
     let count = count_marks(words, n, from, to);
     let next = next_mark(words, n, from);
-    Entrances::Hold { count, next }
+    Ok(Entrances { count, next })
 }
 
 // ---- bringing it up to date
-
-fn larger(a: usize, b: usize) -> usize
-    ensures { result ≡ max a b }
-{
-    if a < b { b } else { a }
-}
 
 // The marks of a run, up to `from`, become those of `added` records; `rest` records follow it.
 fn replace(words: &mut [u64], first: usize, from: usize, rest: usize, new: &[u8], added: usize)
@@ -391,7 +355,7 @@ fn update_marks(
     count: usize,
     new: &[u8],
     added: usize,
-) -> Summed
+) -> Result<usize, Refusal>
     requires { (n < 2 ^ 32) × (first + count ≤ n) × RecordsIn added (length new.now) (records_of sheet_version new.now) }
     ensures answer { summed_of result ≡ updated_outcome n first count (records_of sheet_version new.now) (length words.old) }
     ensures words { words.new ≡ update_words n first count new.now words.old }
@@ -399,41 +363,32 @@ fn update_marks(
     let from = first + count;
     let after = n - count + added;
     let taken = 2 * words_for(after);
-    let most = larger(2 * words_for(n), taken);
+    let most = (2 * words_for(n)).max(taken);
     if words.len() < most {
-        return Summed::Refused {
-            number: 11,
-            place: most,
-        };
+        return Err(Fault::BufferTooSmall.at(most));
     }
     replace(words, first, from, n - from, new, added);
-    Summed::Takes { words: taken }
+    Ok(taken)
 }
 
 // After an edit: of the old records, the run of `count` from `first` on is now those of `new`.
-pub fn update(words: &mut [u64], records: u32, first: usize, count: usize, new: &[u8]) -> Summed
+pub fn update(
+    words: &mut [u64],
+    records: u32,
+    first: usize,
+    count: usize,
+    new: &[u8],
+) -> Result<usize, Refusal>
     ensures answer { summed_of result ≡ update_outcome records first count new.now (length words.old) }
     ensures words { words.new ≡ update_words records first count new.now words.old }
 {
     let n = records as usize;
     if n < first {
-        return Summed::Refused {
-            number: 15,
-            place: n,
-        };
+        return Err(Fault::PastRecords.at(n));
     }
     if n - first < count {
-        return Summed::Refused {
-            number: 15,
-            place: n,
-        };
+        return Err(Fault::PastRecords.at(n));
     }
-    let counted = count_records(new, SHEET_VERSION, 0);
-    match counted {
-        Counted::Flawed { number } => Summed::Refused {
-            number: 12,
-            place: number,
-        },
-        Counted::Whole { records: added } => update_marks(words, n, first, count, new, added),
-    }
+    let added = count_records(new, SHEET_VERSION, 0)?;
+    update_marks(words, n, first, count, new, added)
 }

@@ -3,6 +3,7 @@ use Prim.Native.Nat.{ℕ, ◌+◌, ◌*◌, ◌%◌, ◌≤◌, ◌<◌}
 use mathlib.Core.Path.{◌≡◌, sym, ap, subst, ◌∙◌}
 use mathlib.Core.List.{List}
 use mathlib.Core.Bool.{Bool, true, false}
+use Rattle.std.specs.Prelude.{Ok, Err}
 use native.Mathlib.Omega.{arith}
 use Rattle.table.specs.Hash.{hash_of}
 use Rattle.table.specs.Room.{hash_at, next_at, head_at, name_at, point_at}
@@ -10,7 +11,6 @@ use Rattle.table.specs.Entries.{somewhere}
 use Rattle.table.specs.Good.{Hit, In, Good}
 use Rattle.table.specs.Told.{Says, FindTold}
 use Rattle.format.specs.declared.Point.{Point}
-use Rattle.table.specs.declared.Found.TheVariants.{At, Missing}
 use Rattle.table.proofs.Lookups.{none, one}
 use Rattle.table.proofs.Chains.{in_none, in_past}
 
@@ -25,10 +25,10 @@ abbrev pub Ahead : List ℕ → ℕ → List ℕ → ℕ → Type 0
 Ahead r n name c = (j : ℕ) → j < n → name_at r j ≡ name → In r c j
 
 module _ (seed : ℕ) (r : List ℕ) (n : ℕ) (name : List ℕ) where
-  pub empty_told : n ≡ 0 → (h : ℕ) → h ≡ hash_of seed name → FindTold (Missing h) seed r n name
+  pub empty_told : n ≡ 0 → (h : ℕ) → h ≡ hash_of seed name → FindTold (Err h) seed r n name
   empty_told e h t = record { same = sym (none r n name (λ j l q. omega arith)); hash = t }
 
-  pub missing_told : (c : ℕ) → c ≡ 0 → Ahead r n name c → (h : ℕ) → h ≡ hash_of seed name → FindTold (Missing h) seed r n name
+  pub missing_told : (c : ℕ) → c ≡ 0 → Ahead r n name c → (h : ℕ) → h ≡ hash_of seed name → FindTold (Err h) seed r n name
   missing_told c z a h t = record { same = sym (none r n name (λ j l q. in_none c z (a j l q))); hash = t }
 
   module _ (back p : ℕ) (g : Good seed r n back p) where
@@ -41,7 +41,7 @@ module _ (seed : ℕ) (r : List ℕ) (n : ℕ) (name : List ℕ) where
     first_within h b c l q = let x = g.chained.heads b l in omega arith
 
     module _ (h : ℕ) (eh : h ≡ hash_of seed name) (c i : ℕ) (q : c ≡ i + 1) (l : c ≤ n) where
-      pub found_told : Hit r i h name → (place : Point) → place ≡ point_at r i → FindTold (At place) seed r n name
+      pub found_told : Hit r i h name → (place : Point) → place ≡ point_at r i → FindTold (Ok place) seed r n name
       found_told x place e =
           let li : i < n = omega arith in
           record { same = ap somewhere e ∙ sym (one r n name i li x.name_same (λ j m d. g.body.distinct j i m li (d ∙ sym x.name_same))); hash = tt }

@@ -5,4 +5,4 @@ pub mod Chains
 pub mod Reading
 pub mod Finding
 pub mod Growing
-pub mod Taking
+pub mod NoNames

@@ -1,18 +1,14 @@
 -- What the answers of `find`, `add` and `take` say. Assumes nothing.
-use Rattle.std.specs.Prelude.{ℕ, ◌+◌, ◌≤◌, ◌<◌, ◌≡◌, List, [], ◌∷◌, ◌++◌, Bool, true, false, length}
+use Rattle.std.specs.Prelude.{ℕ, ◌+◌, ◌≤◌, ◌<◌, ◌≡◌, List, [], ◌∷◌, ◌++◌, ◌⊎◌, Bool, true, false, Option, Some, None, Result, Ok, Err, length}
 use Rattle.format.specs.Bytes.{to_le32}
 use Rattle.table.specs.Hash.{hash_of}
 use Rattle.table.specs.Room.{front_of, node_of}
 use Rattle.table.specs.Entries.{Answer, somewhere, nowhere, lookup, room_of, entries_of}
 use Rattle.table.specs.Good.{Good}
+use Rattle.format.specs.declared.Fault.{Fault}
+use Rattle.format.specs.declared.Fault.TheVariants.{StationMoved, NoRoomForNames}
 use Rattle.format.specs.declared.Point.{Point}
 use Rattle.table.specs.declared.Index.{Index}
-use Rattle.table.specs.declared.Found.{Found}
-use Rattle.table.specs.declared.Found.TheVariants.{At, Missing}
-use Rattle.table.specs.declared.Station.{Station}
-use Rattle.table.specs.declared.Station.TheVariants.{Known, Moved, Full as NoRoom, Kept as More}
-use Rattle.table.specs.declared.Added.{Added}
-use Rattle.table.specs.declared.Added.TheVariants.{Full, Kept}
 
 -- a test's answer
 abbrev pub Says : Bool → Type 0 → Type 0
@@ -30,15 +26,16 @@ pub record NodeTold (b : List ℕ) (start size hash : ℕ) (p : Point) : Type 0 
   pub y_fits : p.y < 4294967296
   pub z_fits : p.z < 4294967296
 
-abbrev pub seen : Found → Answer
-seen (At p) = somewhere p
-seen (Missing h) = nowhere
+-- a search: the place, or the hash of a name that is not there
+abbrev pub seen : Result Point ℕ → Answer
+seen (Ok p) = somewhere p
+seen (Err h) = nowhere
 
-abbrev pub HashOf : Found → ℕ → List ℕ → Type 0
-HashOf (At p) seed name = Unit
-HashOf (Missing h) seed name = h ≡ hash_of seed name
+abbrev pub HashOf : Result Point ℕ → ℕ → List ℕ → Type 0
+HashOf (Ok p) seed name = Unit
+HashOf (Err h) seed name = h ≡ hash_of seed name
 
-pub record FindTold (a : Found) (seed : ℕ) (r : List ℕ) (n : ℕ) (name : List ℕ) : Type 0 where
+pub record FindTold (a : Result Point ℕ) (seed : ℕ) (r : List ℕ) (n : ℕ) (name : List ℕ) : Type 0 where
   pub same : seen a ≡ lookup (entries_of r n) name
   pub hash : HashOf a seed name
 
@@ -53,9 +50,9 @@ pub record Stuck (r r' : List ℕ) (n : ℕ) (name : List ℕ) : Type 0 where
   pub no_room : length r < room_of (entries_of r n) + (length name + 32)
   pub kept : r' ≡ r
 
-abbrev pub AddTold : Added → List ℕ → List ℕ → ℕ → List ℕ → Point → Type 0
-AddTold Full r r' n name p = Stuck r r' n name
-AddTold (Kept i) r r' n name p = Grew r r' n name p i
+abbrev pub AddTold : Option Index → List ℕ → List ℕ → ℕ → List ℕ → Point → Type 0
+AddTold None r r' n name p = Stuck r r' n name
+AddTold (Some i) r r' n name p = Grew r r' n name p i
 
 -- ---- a station of a strict reading: "A section whose full name no earlier station has is refused (18), a station whose name came earlier
 -- with other coordinates too (19). Same name with the same coordinates is fine."
@@ -78,8 +75,9 @@ pub record KeptTold (r r' : List ℕ) (n : ℕ) (name : List ℕ) (p : Point) (i
   pub new : lookup (entries_of r n) name ≡ nowhere
   pub grew : Grew r r' n name p i
 
-abbrev pub StationTold : Station → List ℕ → List ℕ → ℕ → List ℕ → Point → Type 0
-StationTold Known r r' n name p = KnownTold r r' n name p
-StationTold Moved r r' n name p = MovedTold r r' n name p
-StationTold NoRoom r r' n name p = FullTold r r' n name
-StationTold (More i) r r' n name p = KeptTold r r' n name p i
+-- the index after it is the old one where the name was there, and has one more entry where it is new
+abbrev pub StationTold : Result Index Fault → List ℕ → List ℕ → Index → List ℕ → Point → Type 0
+StationTold (Ok i) r r' x name p = (KnownTold r r' x.count name p × (i ≡ x)) ⊎ KeptTold r r' x.count name p i
+StationTold (Err StationMoved) r r' x name p = MovedTold r r' x.count name p
+StationTold (Err NoRoomForNames) r r' x name p = FullTold r r' x.count name
+StationTold (Err f) r r' x name p = ⊥

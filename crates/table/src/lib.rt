@@ -12,7 +12,7 @@ ghost use Rattle.table.specs.Entries.{entries_of, lookup, nowhere};
 ghost use Rattle.table.specs.Good.{Hit, Inside, Good, Chained, Rehung, Blank};
 ghost use Rattle.table.specs.Told.{Says, Holds, NodeTold, FindTold, AddTold, StationTold};
 
-use format::Point;
+use format::{Fault, Point};
 use number::{get_le16, get_le32, le32_bytes, wide};
 use piece::{get_le24, get_le40, lay, lay_words, le24_bytes, same_name};
 
@@ -24,28 +24,6 @@ pub struct Index {
     pub back: usize,
     pub spread: usize,
     pub seed: u64,
-}
-
-#[derive(Clone, Copy)]
-pub enum Found {
-    At { place: Point },
-    Missing { hash: u32 },
-}
-
-#[derive(Clone, Copy)]
-pub enum Added {
-    Full,
-    Kept { index: Index },
-}
-
-// What a station does: its name is there with the same place, or with another; there
-// is no room for it; or it is added.
-#[derive(Clone, Copy)]
-pub enum Station {
-    Known,
-    Moved,
-    Full,
-    Kept { index: Index },
 }
 
 // The factor that a seed gives, an odd number.
@@ -67,15 +45,13 @@ fn mix(k: u32, h: u32, w: u32) -> u32
 fn hash_from(k: u32, from: u32, name: &[u8]) -> u32
     ensures { result ≡ hash_from k from name.now }
 {
+    let (words, rest) = name.as_chunks::<4>();
     let mut h = from;
-    let mut i = 0;
-    while 4 <= name.len() - i {
-        h = mix(k, h, get_le32(&name[i..]));
-        i += 4;
+    for word in words {
+        h = mix(k, h, get_le32(word));
     }
-    while i < name.len() {
-        h = mix(k, h, wide(name[i]));
-        i += 1;
+    for b in rest {
+        h = mix(k, h, wide(*b));
     }
     h
 }
@@ -165,8 +141,8 @@ fn has_name(room: &[u8], back: usize, i: usize, h: u32, name: &[u8]) -> bool
     same_name(&room[from..to], name)
 }
 
-// Searches for a name.
-pub fn find(room: &[u8], index: Index, name: &[u8]) -> Found
+// Searches for a name: its place, or the hash of a name that is not there.
+pub fn find(room: &[u8], index: Index, name: &[u8]) -> Result<Point, u32>
     requires { Holds room.now index }
     ensures { FindTold result index.seed room.now index.count name.now }
 {
@@ -175,20 +151,19 @@ pub fn find(room: &[u8], index: Index, name: &[u8]) -> Found
     let spread = index.spread;
     let h = hash(index.seed, name);
     if count == 0 {
-        return Found::Missing { hash: h };
+        return Err(h);
     }
     let b = chain(h, spread);
     let mut c = head_of(room, b);
+    // (A chain goes where its links lead, so there is no range to go over.)
     while 0 < c {
         let i = c - 1;
         if has_name(room, back, i, h, name) {
-            return Found::At {
-                place: place_at(room, i),
-            };
+            return Ok(place_at(room, i));
         }
         c = next_of(room, i);
     }
-    Found::Missing { hash: h }
+    Err(h)
 }
 
 // Puts node i at the front of the chain of its hash.
@@ -222,10 +197,8 @@ fn wipe_all(room: &mut [u8], n: usize)
     requires { 32 * n ≤ length room.old }
     ensures { Blank room.old room.new n n }
 {
-    let mut i = 0;
-    while i < n {
+    for i in 0..n {
         wipe(room, i);
-        i += 1;
     }
 }
 
@@ -235,10 +208,8 @@ fn hang_all(room: &mut [u8], n: usize)
     ensures { Rehung room.old room.new n n }
 {
     wipe_all(room, n);
-    let mut i = 0;
-    while i < n {
+    for i in 0..n {
         hang(room, n, i);
-        i += 1;
     }
 }
 
@@ -286,8 +257,8 @@ fn node_for(start: usize, size: usize, hash: u32, place: Point) -> [u8; 32]
     node(f, four(place.x), four(place.y), four(place.z))
 }
 
-// Adds a name that no node has, with its hash.
-pub fn add(room: &mut [u8], index: Index, hash: u32, name: &[u8], place: Point) -> Added
+// Adds a name that no node has, with its hash; where there is no room for it, None.
+pub fn add(room: &mut [u8], index: Index, hash: u32, name: &[u8], place: Point) -> Option<Index>
     requires { Holds room.old index × (lookup (entries_of room.old index.count) name.now ≡ nowhere) × (hash ≡ hash_of index.seed name.now) × (length name.now ≤ 4096) × (index.count < 16777215) }
     ensures { AddTold result room.old room.new index.count name.now place }
 {
@@ -298,7 +269,7 @@ pub fn add(room: &mut [u8], index: Index, hash: u32, name: &[u8], place: Point) 
     let top = 32 * count;
     let n = count + 1;
     if room.len() < top + 32 + back {
-        return Added::Full;
+        return None;
     }
     let from = room.len() - back;
     lay_words(name, room, from);
@@ -306,66 +277,32 @@ pub fn add(room: &mut [u8], index: Index, hash: u32, name: &[u8], place: Point) 
     lay(&bytes, room, top);
     if 2 * spread < n {
         hang_all(room, n);
-        return Added::Kept {
-            index: Index {
-                count: n,
-                back,
-                spread: n,
-                seed,
-            },
-        };
-    }
-    hang(room, spread, count);
-    Added::Kept {
-        index: Index {
+        return Some(Index {
             count: n,
             back,
-            spread,
+            spread: n,
             seed,
-        },
+        });
     }
-}
-
-// Whether two places are the same.
-fn same_place(a: Point, b: Point) -> bool
-    ensures { Says result (a ≡ b) }
-{
-    if a.x != b.x {
-        return false;
-    }
-    if a.y != b.y {
-        return false;
-    }
-    if a.z != b.z {
-        return false;
-    }
-    true
+    hang(room, spread, count);
+    Some(Index {
+        count: n,
+        back,
+        spread,
+        seed,
+    })
 }
 
 // Takes a station of a strict reading: the search and, where its name is new, the addition.
-pub fn take(room: &mut [u8], index: Index, name: &[u8], place: Point) -> Station
+// The index after it; or why it is refused, by its place or by the room.
+pub fn take(room: &mut [u8], index: Index, name: &[u8], place: Point) -> Result<Index, Fault>
     requires { Holds room.old index × (length name.now ≤ 4096) × (index.count < 16777215) }
-    ensures { StationTold result room.old room.new index.count name.now place }
+    ensures { StationTold result room.old room.new index name.now place }
 {
-    let f = find(room, index, name);
-    match f {
-        Found::At { place: p } => {
-            if same_place(p, place) {
-                return Station::Known;
-            }
-            return Station::Moved;
-        }
-        Found::Missing { hash } => {
-            let a = add(room, index, hash, name, place);
-            match a {
-                Added::Full => {
-                    return Station::Full;
-                }
-                Added::Kept { index: next } => {
-                    return Station::Kept { index: next };
-                }
-            }
-        }
+    match find(room, index, name) {
+        Ok(known) if known == place => Ok(index),
+        Ok(_) => Err(Fault::StationMoved),
+        Err(hash) => add(room, index, hash, name, place).ok_or(Fault::NoRoomForNames),
     }
 }
 

@@ -1,29 +1,28 @@
 -- What a file's time says in document 01's terms, and the part of a file that is handed back. Assumes nothing.
-use Rattle.std.specs.Prelude.{ℕ, zero, suc, ◌+◌, ◌≤◌, ◌≡◌, List, [], length, take, drop}
+use Rattle.std.specs.Prelude.{ℕ, zero, suc, ◌+◌, ◌≤◌, ◌≡◌, List, [], length, take, drop, Option, Result, Ok, Err}
 use Rattle.format.specs.Times.{stamp_from}
 use Rattle.format.specs.declared.Handed.{Handed}
+use Rattle.format.specs.declared.Refusal.{Refusal}
 use Rattle.format.specs.declared.Stamp.{Stamp}
-use Rattle.format.specs.declared.Stamp.TheVariants.{Unstamped, Stamped}
-use Rattle.format.specs.declared.Spelled.{Spelled}
 
 -- the time line stands in the file
-abbrev pub Stands : Stamp → List ℕ → Type 0
-Stands (Unstamped n p) file = Unit
-Stands (Stamped t p n) file = p + n ≤ length file
+abbrev pub Stands : Result Stamp Refusal → List ℕ → Type 0
+Stands (Err r) file = Unit
+Stands (Ok s) file = s.place + s.size ≤ length file
 
 -- an answer that stands for what is due of the n bytes at p
-pub record Stamping (r : Stamp) (file : List ℕ) (due : Spelled) (p n : ℕ) : Type 0 where
+pub record Stamping (r : Result Stamp Refusal) (file : List ℕ) (due : Option ℕ) (p n : ℕ) : Type 0 where
   pub same : r ≡ stamp_from due p n
   pub room : Stands r file
 
 -- a file's time line, and where it stands in memory: a pointer is the block and the place in it
-abbrev pub line_in : Stamp → List ℕ → List ℕ
-line_in (Unstamped n p) file = []
-line_in (Stamped t p n) file = take n (drop p file)
+abbrev pub line_in : Result Stamp Refusal → List ℕ → List ℕ
+line_in (Err r) file = []
+line_in (Ok s) file = take s.size (drop s.place file)
 
-abbrev pub place_in : Stamp → ℕ × ℕ → ℕ × ℕ
-place_in (Unstamped n p) f = (f.0, 0 + f.1)
-place_in (Stamped t p n) f = (f.0, p + f.1)
+abbrev pub place_in : Result Stamp Refusal → ℕ × ℕ → ℕ × ℕ
+place_in (Err r) f = (f.0, 0 + f.1)
+place_in (Ok s) f = (f.0, s.place + f.1)
 
 -- the file that a part is of: 1 the first, 2 the second; 0 for the empty part
 abbrev pub file_named : ℕ → List ℕ → List ℕ → List ℕ

@@ -27,11 +27,8 @@ fn put_sixteens(out: &mut [u8], at: usize, n: usize) -> usize
     ensures { Lays out.old out.new at (sixteens n) 256 result }
 {
     let mut next = at;
-    let mut left = n;
-    while 0 < left {
-        let code = [0x1f];
-        next = put(out, next, &code);
-        left -= 1;
+    for _code in 0..n {
+        next = put(out, next, &[0x1f]);
     }
     next
 }
@@ -46,8 +43,7 @@ fn put_trims(out: &mut [u8], at: usize, d: usize) -> usize
     if rest == 0 {
         return next;
     }
-    let code = [(0x0f + rest) as u8];
-    put(out, next, &code)
+    put(out, next, &[(0x0f + rest) as u8])
 }
 
 // From a label of n bytes to its first k.
@@ -61,8 +57,7 @@ pub fn put_shorten(out: &mut [u8], at: usize, n: usize, k: usize) -> usize
     if n == 0 {
         return at;
     }
-    let code = [0x00];
-    put(out, at, &code)
+    put(out, at, &[0x00])
 }
 
 // A length: one byte below fe, or fe and 16 bits.
@@ -71,12 +66,10 @@ fn put_length(out: &mut [u8], at: usize, n: usize) -> usize
     ensures { Lays out.old out.new at (old_length_codes n) 3 result }
 {
     if n < 0xfe {
-        let code = [n as u8];
-        return put(out, at, &code);
+        return put(out, at, &[n as u8]);
     }
     let b = number::le16_bytes((n - 254) as u32);
-    let code = [0xfe, b[0], b[1]];
-    put(out, at, &code)
+    put(out, at, &[0xfe, b[0], b[1]])
 }
 
 // What an item appends: the label's bytes after its first k.
@@ -102,8 +95,7 @@ fn put_labelled(
 {
     let kept = wire::common_start(last, name);
     let a = put_shorten(out, at, last.len(), kept);
-    let first = [code];
-    let b = put(out, a, &first);
+    let b = put(out, a, &[code]);
     let c = put_added(out, b, name, kept);
     put(out, c, fields)
 }
@@ -111,29 +103,24 @@ fn put_labelled(
 // ---- the codes of a record, from the front of out on
 
 // v7's codes of dates.
-fn v7_dates() -> DateCodes
-    ensures { result ≡ v7_dates }
-{
-    DateCodes {
-        none: 0x24,
-        day: 0x20,
-        span: 0x21,
-        days: 0x23,
-    }
-}
+const DATES: DateCodes = DateCodes {
+    none: 0x24,
+    day: 0x20,
+    span: 0x21,
+    days: 0x23,
+};
 
 fn put_leg(out: &mut [u8], setting: Setting, last: &[u8], name: &[u8], leg: format::Leg) -> usize
     requires { (length last.now ≤ label_limit) × GoodLeg leg name.now }
     ensures { Lays out.old out.new 0 (v7_codes (state_of setting last.now) (legRecord leg name.now)) v7_codes_limit result }
 {
-    let dates = v7_dates();
     let date = leg.date;
     let from = leg.from;
     let to = leg.to;
     let old = setting.date;
     let position = setting.position;
     let bytes = point_bytes(to);
-    let a = put_date_if(out, 0, dates, old, date);
+    let a = put_date_if(out, 0, DATES, old, date);
     let b = put_move_if(out, a, position, from);
     put_labelled(out, b, last, name, 0x80 + leg.flags, &bytes)
 }
@@ -172,18 +159,16 @@ fn put_section(
     requires { (length last.now ≤ label_limit) × GoodSection section name.now }
     ensures { Lays out.old out.new 0 (v7_codes (state_of setting last.now) (sectionRecord section name.now)) v7_codes_limit result }
 {
-    let dates = v7_dates();
     let old = setting.date;
     let date = section.date;
-    let at = put_date_if(out, 0, dates, old, date);
+    let at = put_date_if(out, 0, DATES, old, date);
     put_xsect(out, at, last, name, section)
 }
 
 fn put_error(out: &mut [u8], traverse: format::Traverse) -> usize
     ensures { Lays out.old out.new 0 (0x22 ∷ traverse_bytes to_le32 traverse) v7_codes_limit result }
 {
-    let code = [0x22];
-    let a = put(out, 0, &code);
+    let a = put(out, 0, &[0x22]);
     let bytes = traverse_bytes(traverse);
     put(out, a, &bytes)
 }
@@ -241,12 +226,7 @@ pub fn unable(fields: Fields) -> bool
             date: _,
             from: _,
             to: _,
-        } => {
-            if 0 < style {
-                return style < format::NOT_SAID;
-            }
-            false
-        }
+        } => 0 < style && style < format::NOT_SAID,
         Fields::Station { station } => 0x1f < station.flags,
         Fields::Section {
             last: _,
@@ -266,10 +246,9 @@ pub fn put_header(out: &mut [u8], title: &[u8], time: &[u8]) -> usize
 {
     let a = put(out, 0, b"Survex 3D Image File\nv7\n");
     let b = put(out, a, title);
-    let linefeed = [10];
-    let c = put(out, b, &linefeed);
+    let c = put(out, b, &[10]);
     let d = put(out, c, time);
-    put(out, d, &linefeed)
+    put(out, d, &[10])
 }
 
 // 00 if the label is not empty, then 00.
@@ -277,9 +256,7 @@ pub fn put_closing(out: &mut [u8], label: &[u8]) -> usize
     ensures { Puts out.old out.new (v7_closing label.now) 2 result }
 {
     if label.len() == 0 {
-        let code = [0x00];
-        return put(out, 0, &code);
+        return put(out, 0, &[0x00]);
     }
-    let code = [0x00, 0x00];
-    put(out, 0, &code)
+    put(out, 0, &[0x00, 0x00])
 }

@@ -15,13 +15,11 @@ use borrow.Author.Tests.{eqb-true, eqb-false, eq-eqb}
 use Rattle.format.specs.Bytes.{pick, be16, be32, Bytes}
 use Rattle.format.specs.Items.{point_of}
 use Rattle.format.specs.State.{Record, leg, station, section, error}
-use Rattle.format.specs.Refusals.{Result, stop}
+use Rattle.format.specs.Refusals.{Result, stop, Verdict, Good, Refusal}
 use Rattle.format.specs.Sheet.{leg_fields, good_header, good_front, behind_front, version_of, version_result, sheet_result, Entry, flawed, entry, entry_of, framed, records_from, records_of}
 use Rattle.format.specs.Reach.{legs_of}
 use Rattle.format.specs.Viewer.{place_of, less_origin, six_of, differences, all_legs, too_far, far_verdict, numbers_over, view_differences}
 use Rattle.format.specs.declared.Origin.{Origin}
-use Rattle.format.specs.declared.Verdict.{Verdict}
-use Rattle.format.specs.declared.Verdict.TheVariants.{Good, Refusal}
 use Rattle.format.proofs.Basics.{pick_case, pick_true, pick_false, both, neither}
 use Rattle.format.proofs.SheetLaws.{frame, entry_sized, records_none, records_more}
 use Rattle.format.proofs.ViewerLaws.{far_append, legs_leg, near_all}

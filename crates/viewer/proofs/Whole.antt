@@ -1,5 +1,6 @@
 -- A sheet whole: its box says whether a leg is too far, its legs are counted, and each arm of the code answers and leaves what is due.
 -- Assumes nothing.
+use Rattle.format.specs.Refusals.{Good, Refusal}
 use Prim.Native.Nat.{ℕ, ◌*◌, ◌≤◌, ◌<◌}
 use mathlib.Core.Path.{◌≡◌, refl, sym, ap, ◌∙◌, subst}
 use mathlib.Core.List.{List, []}
@@ -14,7 +15,6 @@ use Rattle.format.specs.Reach.{unspanned, reach_of}
 use Rattle.format.specs.Viewer.{less_origin, all_legs, too_far, far_verdict, ViewOutcome, viewed, unviewed, view_of, numbers_over, view_differences, view_buffer, ViewExact}
 use Rattle.format.specs.declared.Corner.{Corner}
 use Rattle.format.specs.declared.Origin.{Origin}
-use Rattle.format.specs.declared.Verdict.TheVariants.{Good, Refusal}
 use Rattle.format.proofs.Basics.{pick_false}
 use Rattle.format.proofs.ReachLaws.{reach_spans}
 use Rattle.format.proofs.ViewerLaws.{differences_length, legs_few, all_near, box_near, view_none, view_refused, view_far, view_short, view_exact}

@@ -1,4 +1,5 @@
 -- Legs as the code finds them in a sheet, and what is known of a sheet when its numbers are written. Assumes nothing.
+use Rattle.format.specs.Refusals.{Good}
 use Rattle.std.specs.Prelude.{ℕ, ◌≤◌, ◌≡◌, List, [], ◌∷◌, ◌++◌, Bool, ◌&&◌, length, get_or, drop, eqb, ℤ}
 use Rattle.format.specs.Bytes.{be32}
 use Rattle.format.specs.Items.{point_of}
@@ -8,7 +9,6 @@ use Rattle.format.specs.Viewer.{place_of, less_origin, all_legs, too_far, far_ve
 use Rattle.format.specs.Answers.{row_of}
 use Rattle.format.specs.declared.Corner.{Corner}
 use Rattle.format.specs.declared.Origin.{Origin}
-use Rattle.format.specs.declared.Verdict.TheVariants.{Good}
 
 -- the six differences of the leg's record s
 abbrev pub six_at : Origin → List ℕ → List ℤ

@@ -2,16 +2,16 @@
 // of them is too far; the numbers are written in a second pass over the sheet.
 #![tactic(auto)]
 
+ghost use Rattle.format.specs.Refusals.{Good};
 ghost use Rattle.std.specs.Prelude.{◌≡◌, ◌++◌, false, ◌+◌, ◌≤◌, length, get_or, drop, ltb, ◌-ℤ◌, nat_abs};
 ghost use Rattle.format.specs.Bytes.{be16, be32};
 ghost use Rattle.format.specs.Items.{point_of};
 ghost use Rattle.format.specs.Sheet.{sheet_result};
 ghost use Rattle.format.specs.Viewer.{place_of, less_origin, farthest, too_far, far_verdict, view_of, number_of, numbers_over, view_differences, view_buffer, ViewExact};
-ghost use Rattle.format.specs.Answers.{viewed_of};
-ghost use Rattle.format.specs.declared.Verdict.TheVariants.{Good};
+ghost use Rattle.format.specs.Answers.{viewed_of, verdict_of};
 ghost use Rattle.viewer.specs.Viewing.{six_at, far_at, Boxed, Counted, Fits};
 
-use format::{Corner, Origin, Reached, Verdict, Viewed};
+use format::{Corner, Fault, Origin, Refusal};
 
 // Up to here an f32 holds every whole number, and down to there.
 const FARTHEST: i64 = 16777216;
@@ -137,30 +137,28 @@ fn first_place(sheet: &[u8]) -> usize
 }
 
 // The refusal of the first leg that is too far.
-fn first_far(sheet: &[u8], origin: Origin) -> Verdict
+fn first_far(sheet: &[u8], origin: Origin) -> Result<(), Refusal>
     requires { (sheet_result sheet.now).verdict ≡ Good }
-    ensures { result ≡ far_verdict origin 0 (sheet_result sheet.now).records }
+    ensures { verdict_of result ≡ far_verdict origin 0 (sheet_result sheet.now).records }
 {
     let mut at = first_place(sheet);
     let mut number: usize = 0;
+    // a while, since each record has a size of its own
     while at < sheet.len() {
         let rest = &sheet[at..];
         if far_record(rest, origin) {
-            return Verdict::Refusal {
-                number: 20,
-                place: number,
-            };
+            return Err(Fault::TooFar.at(number));
         }
         number += 1;
         at += size_at(rest);
     }
-    Verdict::Good
+    Ok(())
 }
 
 // The same, where the box of all legs may say that there is none.
-fn judge(sheet: &[u8], origin: Origin, least: Corner, greatest: Corner) -> Verdict
+fn judge(sheet: &[u8], origin: Origin, least: Corner, greatest: Corner) -> Result<(), Refusal>
     requires { Boxed sheet.now least greatest }
-    ensures { result ≡ far_verdict origin 0 (sheet_result sheet.now).records }
+    ensures { verdict_of result ≡ far_verdict origin 0 (sheet_result sheet.now).records }
 {
     if far_place(least, origin) {
         return first_far(sheet, origin);
@@ -168,7 +166,7 @@ fn judge(sheet: &[u8], origin: Origin, least: Corner, greatest: Corner) -> Verdi
     if far_place(greatest, origin) {
         return first_far(sheet, origin);
     }
-    Verdict::Good
+    Ok(())
 }
 
 // Writes the numbers of all legs to the front of out.
@@ -178,6 +176,7 @@ fn fill(sheet: &[u8], origin: Origin, out: &mut [f32])
 {
     let mut at = first_place(sheet);
     let mut k: usize = 0;
+    // a while, since each record has a size of its own
     while at < sheet.len() {
         let rest = &sheet[at..];
         let size = size_at(rest);
@@ -192,46 +191,34 @@ fn fill(sheet: &[u8], origin: Origin, out: &mut [f32])
 }
 
 // So many legs, none of which is too far: 11, or their numbers.
-fn show(sheet: &[u8], origin: Origin, legs: usize, out: &mut [f32]) -> Viewed
+fn show(sheet: &[u8], origin: Origin, legs: usize, out: &mut [f32]) -> Result<usize, Refusal>
     requires { Counted sheet.now origin legs }
     ensures answer { viewed_of result ≡ view_of sheet.now origin (length out.old) }
     ensures numbers { out.new ≡ view_buffer sheet.now origin out.old }
 {
     let needed = 6 * legs;
     if out.len() < needed {
-        return Viewed::Refused {
-            number: 11,
-            place: needed,
-        };
+        return Err(Fault::BufferTooSmall.at(needed));
     }
     fill(sheet, origin, out);
-    Viewed::Legs { legs }
+    Ok(legs)
 }
 
 // The legs of a sheet for the viewer, less the origin, written to the front of out.
-pub fn viewer_legs(sheet: &[u8], origin: Origin, out: &mut [f32]) -> Viewed
+pub fn viewer_legs(sheet: &[u8], origin: Origin, out: &mut [f32]) -> Result<usize, Refusal>
     ensures answer { viewed_of result ≡ view_of sheet.now origin (length out.old) }
     ensures numbers { out.new ≡ view_buffer sheet.now origin out.old }
     ensures exact { ViewExact sheet.now origin (length out.old) out.new }
 {
-    let all = reach::reach(sheet, &sheet[0..0]);
-    match all {
-        Reached::Refused { number, place } => {
-            if number == 21 {
-                return Viewed::Legs { legs: 0 };
+    let all = match reach::reach(sheet, &sheet[0..0]) {
+        Ok(all) => all,
+        Err(refusal) => {
+            if refusal.number == Fault::NoLegs.number() {
+                return Ok(0);
             }
-            Viewed::Refused { number, place }
+            return Err(refusal);
         }
-        Reached::Box {
-            legs,
-            least,
-            greatest,
-        } => {
-            let verdict = judge(sheet, origin, least, greatest);
-            if let Verdict::Refusal { number, place } = verdict {
-                return Viewed::Refused { number, place };
-            }
-            show(sheet, origin, legs, out)
-        }
-    }
+    };
+    judge(sheet, origin, all.least, all.greatest)?;
+    show(sheet, origin, all.legs, out)
 }

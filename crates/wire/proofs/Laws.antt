@@ -1,15 +1,17 @@
--- Laws of lists that code over slices shares: a turn of `copy`, what is laid over the front of a list, what is laid in from an index on,
+-- Laws of lists that code over slices shares: what is laid over the front of a list, what is laid in from an index on,
 -- and a turn of a comparison and of a search for a linefeed. Assumes nothing.
 use mathlib.Core.Path.{◌≡◌, refl, sym, ap, ap₂, ◌∙◌}
 use mathlib.Core.List.{List, [], ◌∷◌, ◌++◌, append_assoc, append-nil}
-use mathlib.Core.Bool.{Bool, true, false}
+use mathlib.Core.Bool.{Bool, true, false, ◌&&◌}
+use lib.Dec.{eqb}
+use Rattle.std.specs.Cmp.Lexicographic.{pointwise}
 use Prim.Native.Nat.{ℕ, suc, ◌+◌, ◌-◌, ◌≤◌, ◌<◌, min}
 use native.Mathlib.Nat.{le_of_lt, add-zero, zero-add, add_assoc}
 use native.Mathlib.Numerals.{add-one}
 use native.Mathlib.Omega.{arith}
 use borrow.Author.Rules.{part_to_end}
 use borrow.Author.Tests.{eq-eqb, ne_eqb, lt-ltb, le-ltb}
-use lib.ListN.{length, take, drop, get_or, set, length-append, length-take, length-drop, take-append-drop}
+use lib.ListN.{set, length, take, drop, get_or, length-append, length-take, length-drop, take-append-drop}
 use lib.Seq.{drop-drop, drop-append-le, drop-append-add, take-take, take-add, take-append-le, take-length, take_at, drop_at, drop-length, drop-cons}
 use lib.Seq.{take-suc, append_snoc, set_at, length-take-le}
 use Rattle.format.specs.Bytes.{pick, over, same}
@@ -135,19 +137,13 @@ pub laps_ends : (s d Y Z : List ℕ) (m : ℕ) → Y ≡ over (take m s) d
     s d
 laps_ends s d Y Z m eY eZ h1 h2 h3 = laps_all s d Y Z m (length s - m) m eY eZ (omega arith) h1 (omega arith) h3
 
--- one store after another copies a list of as many bytes
-pub stored_0 : (s d : List ℕ) → length s ≡ 0 → length s ≤ length d → d ≡ over s d
+-- no bytes
+pub nothing_over : (s d : List ℕ) → length s ≡ 0 → d ≡ over s d
 unfolding over
-stored_0 [] d e h = refl
-stored_0 (x0 ∷ s) d e h = absurd (omega arith)
+nothing_over [] d e = refl
+nothing_over (x ∷ s) d e = absurd (omega arith)
 
-pub stored_1 : (s d : List ℕ) → length s ≡ 1 → length s ≤ length d → set d 0 (get_or s 0 0) ≡ over s d
-unfolding over
-stored_1 [] d e h = absurd (omega arith)
-stored_1 (x0 ∷ []) [] e h = absurd (omega arith)
-stored_1 (x0 ∷ []) (y0 ∷ d) e h = refl
-stored_1 (x0 ∷ x1 ∷ s) d e h = absurd (omega arith)
-
+-- two stores one after the other
 pub stored_2 : (s d : List ℕ) → length s ≡ 2 → length s ≤ length d → set (set d 0 (get_or s 0 0)) 1 (get_or s 1 0) ≡ over s d
 unfolding over
 stored_2 [] d e h = absurd (omega arith)
@@ -156,17 +152,6 @@ stored_2 (x0 ∷ x1 ∷ []) [] e h = absurd (omega arith)
 stored_2 (x0 ∷ x1 ∷ []) (y0 ∷ []) e h = absurd (omega arith)
 stored_2 (x0 ∷ x1 ∷ []) (y0 ∷ y1 ∷ d) e h = refl
 stored_2 (x0 ∷ x1 ∷ x2 ∷ s) d e h = absurd (omega arith)
-
-pub stored_3 : (s d : List ℕ) → length s ≡ 3 → length s ≤ length d → set (set (set d 0 (get_or s 0 0)) 1 (get_or s 1 0)) 2 (get_or s 2 0) ≡ over s d
-unfolding over
-stored_3 [] d e h = absurd (omega arith)
-stored_3 (x0 ∷ []) d e h = absurd (omega arith)
-stored_3 (x0 ∷ x1 ∷ []) d e h = absurd (omega arith)
-stored_3 (x0 ∷ x1 ∷ x2 ∷ []) [] e h = absurd (omega arith)
-stored_3 (x0 ∷ x1 ∷ x2 ∷ []) (y0 ∷ []) e h = absurd (omega arith)
-stored_3 (x0 ∷ x1 ∷ x2 ∷ []) (y0 ∷ y1 ∷ []) e h = absurd (omega arith)
-stored_3 (x0 ∷ x1 ∷ x2 ∷ []) (y0 ∷ y1 ∷ y2 ∷ d) e h = refl
-stored_3 (x0 ∷ x1 ∷ x2 ∷ x3 ∷ s) d e h = absurd (omega arith)
 
 -- ---- `laid_if`
 
@@ -180,6 +165,19 @@ module _ (d s : List ℕ) (k : ℕ) where
   laid_some h = simp (le-ltb _ _ h)
 
 -- ---- `same`
+
+and_pick : (b c : Bool) → (b && c) ≡ pick b c false
+unfolding pick
+and_pick true c = refl
+and_pick false c = refl
+
+-- what `==` on slices says
+pub same_pointwise : (s t : List ℕ) → pointwise eqb s t ≡ same s t
+unfolding same
+same_pointwise [] [] = refl
+same_pointwise [] (y ∷ t) = refl
+same_pointwise (x ∷ s) [] = refl
+same_pointwise (x ∷ s) (y ∷ t) = ap (λ (b : Bool). eqb x y && b) (same_pointwise s t) ∙ and_pick (eqb x y) (same s t)
 
 pub same_false : (s t : List ℕ) → (s ≡ t → ⊥) → same s t ≡ false
 same_false s t h = go (same s t) refl

@@ -1,30 +1,31 @@
 // Slices of bytes: copied, compared and searched.
 #![tactic(auto)]
 
-ghost use Rattle.std.specs.Prelude.{◌≡◌, ◌≤◌, ◌<◌, min, length, take};
-ghost use Rattle.format.specs.Bytes.{same, over};
+ghost use Rattle.std.specs.Prelude.{◌≡◌, ◌+◌, ◌≤◌, ◌<◌, length, take};
+ghost use Rattle.format.specs.Bytes.{same, over, to_be32};
 ghost use Rattle.format.specs.Header.{line_end};
 ghost use Rattle.format.specs.Codes.{common};
 ghost use Rattle.wire.specs.Begun.{Begun};
+ghost use Rattle.wire.specs.Laid.{laid};
 
-use number::{get_le32, get_le64, put_le32, put_le64};
+use number::get_le64;
 
-// Copies four bytes, as one number.
-fn copy_four(src: &[u8], dst: &mut [u8])
-    requires { (4 ≤ length src.now) × (4 ≤ length dst.old) }
-    ensures { dst.new ≡ over (take 4 src.now) dst.old }
+// Copies N bytes. Of a constant size it is a load and a store.
+pub fn copy_exactly<const N: usize>(src: &[u8], dst: &mut [u8])
+    requires { (N ≤ length src.now) × (N ≤ length dst.old) }
+    ensures { dst.new ≡ over (take N src.now) dst.old }
 {
-    let n = get_le32(src);
-    put_le32(dst, n);
+    dst[..N].copy_from_slice(&src[..N]);
 }
 
-// Copies eight bytes, as one number.
-fn copy_eight(src: &[u8], dst: &mut [u8])
-    requires { (8 ≤ length src.now) × (8 ≤ length dst.old) }
-    ensures { dst.new ≡ over (take 8 src.now) dst.old }
+// Copies from N to 2 N bytes, as the first N and the last N, which may overlap.
+fn copy_ends<const N: usize>(src: &[u8], dst: &mut [u8])
+    requires { (length src.now ≤ length dst.old) × (N ≤ length src.now) × (length src.now ≤ N + N) }
+    ensures { dst.new ≡ over src.now dst.old }
 {
-    let n = get_le64(src);
-    put_le64(dst, n);
+    let last = src.len() - N;
+    copy_exactly::<N>(src, dst);
+    copy_exactly::<N>(&src[last..], &mut dst[last..]);
 }
 
 // Copies sixteen bytes.
@@ -32,43 +33,7 @@ pub fn copy_sixteen(src: &[u8], dst: &mut [u8])
     requires { (16 ≤ length src.now) × (16 ≤ length dst.old) }
     ensures { dst.new ≡ over (take 16 src.now) dst.old }
 {
-    copy_eight(src, dst);
-    copy_eight(&src[8..], &mut dst[8..]);
-}
-
-// Copies at most three bytes.
-fn copy_bytes(src: &[u8], dst: &mut [u8])
-    requires { (length src.now ≤ length dst.old) × (length src.now < 4) }
-    ensures { dst.new ≡ over src.now dst.old }
-{
-    let n = src.len();
-    if n == 0 {
-        return;
-    }
-    dst[0] = src[0];
-    if n == 1 {
-        return;
-    }
-    dst[1] = src[1];
-    if n == 2 {
-        return;
-    }
-    dst[2] = src[2];
-}
-
-// Copies at most seven bytes: from four on, as two numbers that overlap.
-fn copy_few(src: &[u8], dst: &mut [u8])
-    requires { (length src.now ≤ length dst.old) × (length src.now < 8) }
-    ensures { dst.new ≡ over src.now dst.old }
-{
-    let n = src.len();
-    if n < 4 {
-        copy_bytes(src, dst);
-        return;
-    }
-    let last = n - 4;
-    copy_four(src, dst);
-    copy_four(&src[last..], &mut dst[last..]);
+    copy_exactly::<16>(src, dst);
 }
 
 // Copies at most fifteen bytes, without a loop.
@@ -77,13 +42,15 @@ pub fn copy_short(src: &[u8], dst: &mut [u8])
     ensures { dst.new ≡ over src.now dst.old }
 {
     let n = src.len();
-    if n < 8 {
-        copy_few(src, dst);
-        return;
+    if 8 <= n {
+        copy_ends::<8>(src, dst);
+    } else if 4 <= n {
+        copy_ends::<4>(src, dst);
+    } else if 2 <= n {
+        copy_ends::<2>(src, dst);
+    } else if n == 1 {
+        copy_exactly::<1>(src, dst);
     }
-    let last = n - 8;
-    copy_eight(src, dst);
-    copy_eight(&src[last..], &mut dst[last..]);
 }
 
 // Copies sixteen bytes and more.
@@ -92,28 +59,25 @@ fn copy_long(src: &[u8], dst: &mut [u8])
     ensures { dst.new ≡ over src.now dst.old }
 {
     let last = src.len() - 16;
-    let mut i = 0;
-    while i < last {
+    for turn in 0..last.div_ceil(16) {
+        let i = 16 * turn;
         copy_sixteen(&src[i..], &mut dst[i..]);
-        i += 16;
     }
     copy_sixteen(&src[last..], &mut dst[last..]);
 }
 
-// Copies src to the front of dst, a byte at a time.
+// Copies src to the front of dst, byte by byte: `copy_from_slice` would ask the C library for
+// memmove, which the static library does without.
 pub fn copy(src: &[u8], dst: &mut [u8])
     requires { length src.now ≤ length dst.old }
     ensures { dst.new ≡ over src.now dst.old }
 {
-    let mut i = 0;
-    while i < src.len() {
+    for i in 0..src.len() {
         dst[i] = src[i];
-        i += 1;
     }
 }
 
 // Copies src to the front of dst, by words that overlap; up to 32 bytes it takes no loop.
-// Bytes that were just stored one by one are better copied by `copy`.
 pub fn copy_words(src: &[u8], dst: &mut [u8])
     requires { length src.now ≤ length dst.old }
     ensures { dst.new ≡ over src.now dst.old }
@@ -121,32 +85,42 @@ pub fn copy_words(src: &[u8], dst: &mut [u8])
     let n = src.len();
     if n < 16 {
         copy_short(src, dst);
-        return;
-    }
-    if 32 < n {
+    } else if n <= 32 {
+        copy_ends::<16>(src, dst);
+    } else {
         copy_long(src, dst);
-        return;
     }
-    let last = n - 16;
-    copy_sixteen(src, dst);
-    copy_sixteen(&src[last..], &mut dst[last..]);
+}
+
+// Copies src into dst from index at on.
+pub fn lay(src: &[u8], dst: &mut [u8], at: usize)
+    requires { at + length src.now ≤ length dst.old }
+    ensures { dst.new ≡ laid dst.old at src.now }
+{
+    copy(src, &mut dst[at..]);
+}
+
+// The same by words.
+pub fn lay_words(src: &[u8], dst: &mut [u8], at: usize)
+    requires { at + length src.now ≤ length dst.old }
+    ensures { dst.new ≡ laid dst.old at src.now }
+{
+    copy_words(src, &mut dst[at..]);
+}
+
+// Writes the bytes of n into dst from index at on, the highest first.
+pub fn lay_be32(n: u32, dst: &mut [u8], at: usize)
+    requires { at + 4 ≤ length dst.old }
+    ensures { dst.new ≡ laid dst.old at (to_be32 n) }
+{
+    number::put_be32(&mut dst[at..], n);
 }
 
 // Whether a and b hold the same bytes.
 pub fn same_bytes(a: &[u8], b: &[u8]) -> bool
     ensures { result ≡ same a.now b.now }
 {
-    if a.len() != b.len() {
-        return false;
-    }
-    let mut i = 0;
-    while i < a.len() {
-        if a[i] != b[i] {
-            return false;
-        }
-        i += 1;
-    }
-    true
+    a == b
 }
 
 // How many bytes at the front of a and b are the same, of the first eight, which are
@@ -160,58 +134,43 @@ fn same_eight(a: &[u8], b: &[u8]) -> usize
     u64::trailing_zeros(x ^ y) as usize / 8
 }
 
-// The lesser of two lengths.
-fn least(a: usize, b: usize) -> usize
-    ensures { result ≡ min a b }
-{
-    if a < b {
-        return a;
-    }
-    b
-}
-
 // How many of the first n bytes are the same, but for a part at their end: whole eights,
 // and those of the eight in which the first differs.
 fn same_eights(l: &[u8], m: &[u8], n: usize) -> usize
     requires { (n ≤ length l.now) × (n ≤ length m.now) }
     ensures { Begun l.now m.now result × (result ≤ n) }
 {
-    let mut i = 0;
-    while 8 <= n - i {
+    for turn in 0..n / 8 {
+        let i = 8 * turn;
         let k = same_eight(&l[i..], &m[i..]);
         if k < 8 {
             return i + k;
         }
-        i += 8;
     }
-    i
+    n / 8 * 8
 }
 
 // How many bytes l and m have in common at their start.
 pub fn common_start(l: &[u8], m: &[u8]) -> usize
     ensures { result ≡ common l.now m.now }
 {
-    let n = least(l.len(), m.len());
-    let mut i = same_eights(l, m, n);
-    while i < n {
+    let n = l.len().min(m.len());
+    for i in same_eights(l, m, n)..n {
         if l[i] != m[i] {
             return i;
         }
-        i += 1;
     }
-    i
+    n
 }
 
 // How many bytes stand before the first linefeed of s; all of them where it has none.
 pub fn line_end(s: &[u8]) -> usize
     ensures { result ≡ line_end s.now }
 {
-    let mut i = 0;
-    while i < s.len() {
-        if s[i] == 10 {
+    for (i, b) in s.iter().enumerate() {
+        if *b == b'\n' {
             return i;
         }
-        i += 1;
     }
-    i
+    s.len()
 }

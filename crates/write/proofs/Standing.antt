@@ -4,19 +4,18 @@ use Prim.Native.Nat.{ℕ, ◌+◌, ◌-◌, ◌≤◌, ◌<◌}
 use mathlib.Core.Path.{◌≡◌, refl, ◌∙◌}
 use mathlib.Core.Bool.{Bool, true, false}
 use mathlib.Core.List.{List}
+use Rattle.std.specs.Prelude.{Some, None, Result as Answered, Ok}
+use Rattle.format.specs.declared.Refusal.{Refusal as Refused}
 use native.Mathlib.Omega.{arith}
 use lib.ListN.{length, take, drop}
 use Rattle.format.specs.State.{State, start, Record}
 use Rattle.format.specs.Sheet.{records_from, records_of}
-use Rattle.format.specs.Refusals.{Result, stop, also, refused}
-use Rattle.format.specs.declared.Verdict.{Verdict}
-use Rattle.format.specs.declared.Verdict.TheVariants.{Good, Refusal}
+use Rattle.format.specs.Refusals.{Result, stop, also, refused, Good, Refusal}
 use Rattle.format.specs.Writing.{Writer, headed_by}
 use Rattle.format.specs.Header.{file_limit}
 use Rattle.format.specs.Fields.{record_of}
 use Rattle.format.specs.declared.Fields.{Fields}
 use Rattle.sheet.specs.Seen.{EntryTold}
-use Rattle.sheet.specs.declared.Entry.TheVariants.{Flawed, Whole}
 use Rattle.sheet.proofs.EntryAt.{part, none_at, flawed_at, found_at, found_size}
 use Rattle.counts.specs.Tallies.{bounded, Adds, rest_outcome}
 use Rattle.counts.specs.declared.Tally.{Tally}
@@ -39,10 +38,10 @@ headed_records false k x = refl
 -- ---- where in the sheet the loop stands
 
 -- the loop counts by loose values: a struct that goes in and out of a call for each record costs time
-abbrev pub counted : ℕ → ℕ → Verdict → Tally
+abbrev pub counted : ℕ → ℕ → Answered Unit Refused → Tally
 counted total number fault = record { bytes = total; records = number; fault = fault }
 
-pub record Standing (w : Writer) (barred : Bool) (version : ℕ) (sheet : List ℕ) (begin head : ℕ) (d₀ d : List ℕ) (at total number : ℕ) (fault : Verdict)
+pub record Standing (w : Writer) (barred : Bool) (version : ℕ) (sheet : List ℕ) (begin head : ℕ) (d₀ d : List ℕ) (at total number : ℕ) (fault : Answered Unit Refused)
     (st : State) : Type 0 where
   pub place : ℕ
   pub inside : at ≤ length sheet
@@ -53,7 +52,7 @@ pub record Standing (w : Writer) (barred : Bool) (version : ℕ) (sheet : List �
       (headed_by barred w.number (records_from version place (drop at sheet) number))
 
 pub standing_none : (w : Writer) (barred : Bool) (version : ℕ) (sheet : List ℕ) (begin head : ℕ) (d : List ℕ) → begin ≤ length sheet → head ≤ 8192
-    → Standing w barred version sheet begin head d d begin head 0 Good start
+    → Standing w barred version sheet begin head d d begin head 0 (Ok tt) start
 unfolding records_of
 standing_none w barred version sheet begin head d hb hh =
     record {
@@ -65,7 +64,7 @@ standing_none w barred version sheet begin head d hb hh =
       left = left_none w (headed_by barred w.number (records_of version (drop begin sheet))) head d (omega arith);
     }
 
-module _ (w : Writer) (barred : Bool) (version : ℕ) (sheet : List ℕ) (begin head : ℕ) (d₀ d : List ℕ) (at total number : ℕ) (fault : Verdict) (st : State)
+module _ (w : Writer) (barred : Bool) (version : ℕ) (sheet : List ℕ) (begin head : ℕ) (d₀ d : List ℕ) (at total number : ℕ) (fault : Answered Unit Refused) (st : State)
     (S : Standing w barred version sheet begin head d₀ d at total number fault st) where
   abbrev x₀ : Result
   x₀ = headed_by barred w.number (records_of version (drop begin sheet))
@@ -79,14 +78,14 @@ module _ (w : Writer) (barred : Bool) (version : ℕ) (sheet : List ℕ) (begin 
 
   module _ (h : at < length sheet) where
     -- no well-formed record is there
-    pub standing_flawed : EntryTold Flawed version (take (length sheet - at) (drop at sheet)) → refused 12 number ≡ rest_outcome w head x₀
+    pub standing_flawed : EntryTold None version (take (length sheet - at) (drop at sheet)) → refused 12 number ≡ rest_outcome w head x₀
     standing_flawed T =
         let e : headed_by barred w.number (records_from version S.place (drop at sheet) number) ≡ stop (Refusal 12 number)
         = rw (flawed_at version sheet at h T S.place number) (headed_stop barred w.number 12 number) in
         left_flawed w x₀ head d₀ d t st number (rw e at S.left)
 
     -- one is, and its codes are added
-    module _ (n : ℕ) (f : Fields) (k : ℕ) (T : EntryTold (Whole n f k) version (take (length sheet - at) (drop at sheet))) (d' : List ℕ) (size : ℕ) (fault' : Verdict)
+    module _ (n : ℕ) (f : Fields) (k : ℕ) (T : EntryTold (Some (record { size = n; fields = f; from = k })) version (take (length sheet - at) (drop at sheet))) (d' : List ℕ) (size : ℕ) (fault' : Answered Unit Refused)
         (A : Adds w st (record_of f (part sheet (at + k) (at + n))) d d' t (counted (bounded total size) (number + 1) fault')) where
       abbrev r : Record
       r = record_of f (part sheet (at + k) (at + n))

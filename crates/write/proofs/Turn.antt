@@ -1,6 +1,10 @@
 -- A turn of the loop over a sheet's records, on plain values. What the loop keeps (`Going`) is what a loop of any writer keeps (`Standing`), with
 -- the state in a hand and a position: it holds at first, at the end it gives the answer, a record that is not well-formed gives refusal 12, and it
 -- goes on over a record that is read the general way (`going_told`) and over one that goes on from the last (`going_plain`). Assumes nothing.
+use Rattle.std.specs.Prelude.{Option, Some, None, Result as Answered, Ok}
+use Rattle.format.specs.declared.Refusal.{Refusal as Refused}
+use Rattle.format.specs.Answers.{verdict_of}
+use Rattle.format.specs.declared.Point.{Point}
 use Prim.Native.Nat.{ℕ, ◌+◌, ◌-◌, ◌≤◌, ◌<◌}
 use mathlib.Core.Path.{◌≡◌, refl, sym, ap, ◌∙◌}
 use mathlib.Core.Bool.{false}
@@ -9,26 +13,21 @@ use native.Mathlib.Omega.{arith}
 use lib.ListN.{length, take, drop, length-append, length-take, length-drop}
 use Rattle.format.specs.State.{State, start_setting, Record}
 use Rattle.format.specs.Sheet.{records_from, records_of}
-use Rattle.format.specs.Refusals.{or_else, Result, stop, refused}
-use Rattle.format.specs.declared.Verdict.TheVariants.{Good, Refusal}
+use Rattle.format.specs.Refusals.{or_else, Result, stop, refused, Good, Refusal, Verdict}
 use Rattle.format.specs.Codes.{codes_limit, codes, after, setting_after, unsayable}
 use Rattle.format.specs.Writing.{v8}
 use Rattle.format.specs.Header.{file_limit}
 use Rattle.format.specs.Bytes.{pick, over}
 use Rattle.format.specs.Fields.{record_of}
-use Rattle.format.specs.declared.Position.{Position}
-use Rattle.format.specs.declared.Position.TheVariants.{Unset}
 use Rattle.format.specs.declared.Setting.{Setting}
 use Rattle.format.specs.declared.Fields.{Fields}
 use Rattle.format.specs.declared.Fields.TheVariants.{Leg, Station, Section, Error}
-use Rattle.format.specs.declared.Verdict.{Verdict}
 use Rattle.format.proofs.Basics.{pick_false}
 use Rattle.plain.specs.Plainly.{label_at, position_after, Goes, Plainly, plain_codes}
 use Rattle.plain.specs.declared.Item.{Item}
 use Rattle.plain.proofs.Finds.{plain_item}
 use Rattle.plain.proofs.InSheet.{last_long, name_is}
 use Rattle.sheet.specs.Seen.{EntryTold}
-use Rattle.sheet.specs.declared.Entry.TheVariants.{Flawed, Whole}
 use Rattle.sheet.proofs.EntryAt.{part, found_formed}
 use Rattle.part.specs.Lays.{Puts}
 use Rattle.counts.specs.Tallies.{bounded, Adds, rest_outcome}
@@ -41,8 +40,8 @@ use Rattle.write.proofs.Standing.{counted, Standing, standing_end, standing_flaw
 
 -- ---- where in the sheet the loop stands
 
-pub record Going (version : ℕ) (sheet : List ℕ) (begin head : ℕ) (d₀ d : List ℕ) (at total number : ℕ) (fault : Verdict) (hand : Hand)
-    (position : Position) : Type 0 where
+pub record Going (version : ℕ) (sheet : List ℕ) (begin head : ℕ) (d₀ d : List ℕ) (at total number : ℕ) (fault : Answered Unit Refused) (hand : Hand)
+    (position : Option Point) : Type 0 where
   pub place : ℕ
   pub inside : at ≤ length sheet
   pub few_records : number ≤ at
@@ -57,7 +56,7 @@ pub named_short : (sheet : List ℕ) (hand : Hand) → Named sheet hand → leng
 named_short sheet hand n = simp (length-take, length-drop) (omega (arith, n.short))
 
 pub going_none : (version : ℕ) (sheet : List ℕ) (begin head : ℕ) (d : List ℕ) → begin ≤ length sheet → head ≤ 8192
-    → Going version sheet begin head d d begin head 0 Good (hand_of start_setting 0 0) Unset
+    → Going version sheet begin head d d begin head 0 (Ok tt) (hand_of start_setting 0 0) None
 unfolding records_of
 going_none version sheet begin head d hb hh =
     record {
@@ -71,7 +70,7 @@ going_none version sheet begin head d hb hh =
     }
 
 -- what a record leaves
-state_after : (sheet : List ℕ) (hand : Hand) (position : Position) (f : Fields) (a b : ℕ) → let x = setting_after (setting_in hand position) (record_of f []) in
+state_after : (sheet : List ℕ) (hand : Hand) (position : Option Point) (f : Fields) (a b : ℕ) → let x = setting_after (setting_in hand position) (record_of f []) in
     after (state_in sheet hand (setting_in hand position)) (record_of f (part sheet a b)) ≡ state_in sheet (hand_after hand x f a b)
     (setting_in (hand_after hand x f a b) x.position)
 state_after sheet hand position (Leg flags style date from to) a b = refl
@@ -79,7 +78,7 @@ state_after sheet hand position (Station s) a b = refl
 state_after sheet hand position (Section last unused date size) a b = refl
 state_after sheet hand position (Error traverse) a b = refl
 
-named_after : (sheet : List ℕ) (hand : Hand) (position : Position) (f : Fields) (a b : ℕ) → Named sheet hand → a ≤ b → b ≤ length sheet → b ≤ a + 4096
+named_after : (sheet : List ℕ) (hand : Hand) (position : Option Point) (f : Fields) (a b : ℕ) → Named sheet hand → a ≤ b → b ≤ length sheet → b ≤ a + 4096
     → WellFormed (record_of f (part sheet a b)) → Named sheet (hand_after hand (setting_after (setting_in hand position) (record_of f [])) f a b)
 named_after sheet hand position (Leg flags style date from to) a b n h i j w =
     record { ordered = h; inside = i; short = j; style_fits = w.style_fits; date_fits = w.date_fits; marked = refl }
@@ -98,7 +97,7 @@ or_good : (v : Verdict) → v ≡ or_else v Good
 or_good Good = refl
 or_good (Refusal n p) = refl
 
-module _ (version : ℕ) (sheet : List ℕ) (begin head : ℕ) (d₀ d : List ℕ) (at total number : ℕ) (fault : Verdict) (hand : Hand) (position : Position)
+module _ (version : ℕ) (sheet : List ℕ) (begin head : ℕ) (d₀ d : List ℕ) (at total number : ℕ) (fault : Answered Unit Refused) (hand : Hand) (position : Option Point)
     (G : Going version sheet begin head d₀ d at total number fault hand position) where
   abbrev x₀ : Result
   x₀ = records_of version (drop begin sheet)
@@ -118,15 +117,15 @@ module _ (version : ℕ) (sheet : List ℕ) (begin head : ℕ) (d₀ d : List �
 
   module _ (h : at < length sheet) where
     -- no well-formed record is there
-    pub going_flawed : EntryTold Flawed version (take (length sheet - at) (drop at sheet)) → refused 12 number ≡ rest_outcome v8 head x₀
+    pub going_flawed : EntryTold None version (take (length sheet - at) (drop at sheet)) → refused 12 number ≡ rest_outcome v8 head x₀
     going_flawed T = standing_flawed v8 false version sheet begin head d₀ d at total number fault st standing h T
 
     -- the codes of the one that is are written into the part of d from `from` on
-    module _ (n : ℕ) (f : Fields) (k : ℕ) (T : EntryTold (Whole n f k) version (take (length sheet - at) (drop at sheet))) (from : ℕ) (y : List ℕ)
-        (size : ℕ) (fault' : Verdict)
+    module _ (n : ℕ) (f : Fields) (k : ℕ) (T : EntryTold (Some (record { size = n; fields = f; from = k })) version (take (length sheet - at) (drop at sheet))) (from : ℕ) (y : List ℕ)
+        (size : ℕ) (fault' : Answered Unit Refused)
         (inside : from ≤ length d) (q : total ≤ length d → from ≡ total)
         (P : Puts (take (length d - from) (drop from d)) y (codes st (record_of f (part sheet (at + k) (at + n)))) codes_limit size)
-        (e : fault' ≡ or_else fault (pick (unsayable hand.style (record_of f [])) (Refusal 13 number) Good)) where
+        (e : verdict_of fault' ≡ or_else (verdict_of fault) (pick (unsayable hand.style (record_of f [])) (Refusal 13 number) Good)) where
       abbrev d' : List ℕ
       d' = take from d ++ (y ++ drop (length d - from) (drop from d))
 
@@ -160,7 +159,7 @@ module _ (version : ℕ) (sheet : List ℕ) (begin head : ℕ) (d₀ d : List �
           }
 
       -- the same where what it leaves is told
-      pub going_told : (hand' : Hand) (position' : Position) → hand' ≡ hand_after hand x f (at + k) (at + n) → position' ≡ x.position
+      pub going_told : (hand' : Hand) (position' : Option Point) → hand' ≡ hand_after hand x f (at + k) (at + n) → position' ≡ x.position
           → Going version sheet begin head d₀ d' (at + n) (bounded total size) (number + 1) fault' hand' position'
       going_told hand' position' l p = rw (l, p) going_more
 
@@ -195,8 +194,8 @@ module _ (version : ℕ) (sheet : List ℕ) (begin head : ℕ) (d₀ d : List �
       abbrev d'' : List ℕ
       d'' = take from d ++ (y ++ drop (length d - from) (drop from d))
 
-      no_fault : fault ≡ or_else fault (pick (unsayable hand.style (record_of f [])) (Refusal 13 number) Good)
-      no_fault = rw (pick_false (Refusal 13 number) Good (G'.sayable [])) (or_good fault)
+      no_fault : verdict_of fault ≡ or_else (verdict_of fault) (pick (unsayable hand.style (record_of f [])) (Refusal 13 number) Good)
+      no_fault = rw (pick_false (Refusal 13 number) Good (G'.sayable [])) (or_good (verdict_of fault))
 
       plain_adds : Adds v8 st (record_of f (part sheet a b)) d d'' t (counted (bounded total bytes) (number + 1) fault)
       plain_adds =

@@ -6,11 +6,11 @@ use mathlib.Core.List.{List}
 use native.Mathlib.Omega.{arith}
 use lib.ListN.{take, drop}
 use Rattle.format.specs.Sheet.{records_of, good_front, front_header, behind_front, version_result, version_of, sheet_result}
-use Rattle.format.specs.Refusals.{stop, refused}
-use Rattle.format.specs.declared.Verdict.TheVariants.{Refusal}
+use Rattle.format.specs.Refusals.{stop, refused, Refusal}
 use Rattle.format.specs.Writing.{Writer, filed_outcome, written_outcome, headed}
-use Rattle.format.specs.declared.Answer.{Answer}
-use Rattle.format.specs.declared.Answer.TheVariants.{Refused}
+use Rattle.std.specs.Prelude.{Result as Answered, Err}
+use Rattle.format.specs.declared.Refusal.{Refusal as Refused}
+use Rattle.format.specs.declared.Done.{Done}
 use Rattle.format.proofs.Basics.{pick_true, pick_false}
 use Rattle.sheet.specs.Seen.{Fronted}
 use Rattle.part.specs.Lays.{Puts}
@@ -21,7 +21,7 @@ use Rattle.write.proofs.Standing.{headed_stop}
 
 -- the front is not good
 pub pass_flawed : (w : Writer) (version : ℕ) (sheet d : List ℕ) → version ≡ version_of sheet → good_front version sheet ≡ false
-    → Passed w (front_header sheet) (headed w (front_header sheet) (sheet_result sheet)) d d (Refused 12 0)
+    → Passed w (front_header sheet) (headed w (front_header sheet) (sheet_result sheet)) d d (Err (record { number = 12; place = 0 }))
 unfolding written_outcome filed_outcome sheet_result version_result
 pass_flawed w version sheet d v e =
     let h = front_header sheet in
@@ -39,7 +39,7 @@ header_cut version sheet x k m F =
     rw (y, z) F.header
 
 -- it is, and the records stand behind it
-pub pass_sheet : (w : Writer) (version : ℕ) (sheet d e f : List ℕ) (x k m most head : ℕ) (r : Answer) → version ≡ version_of sheet → Fronted version sheet x k m
+pub pass_sheet : (w : Writer) (version : ℕ) (sheet d e f : List ℕ) (x k m most head : ℕ) (r : Answered Done Refused) → version ≡ version_of sheet → Fronted version sheet x k m
     → Puts d e (w.head (record { extended = x; title = take (7 + k - 7) (drop 7 sheet); time = take (7 + k + m - (7 + k)) (drop (7 + k) sheet) })) most head
     → Rest w (headed w (front_header sheet) (records_of version (drop (7 + k + m) sheet))) head e f r
     → Passed w (front_header sheet) (headed w (front_header sheet) (sheet_result sheet)) d f r

@@ -8,7 +8,9 @@ use Rattle.format.specs.Header.{Header}
 use Rattle.format.specs.Sheet.{records_of, front_header, version_of, sheet_result}
 use Rattle.format.specs.V7Codes.{v7_header_codes}
 use Rattle.format.specs.Writing.{v7, headed_by, headed}
-use Rattle.format.specs.declared.Answer.{Answer}
+use Rattle.std.specs.Prelude.{Result as Answered}
+use Rattle.format.specs.declared.Refusal.{Refusal}
+use Rattle.format.specs.declared.Done.{Done}
 use Rattle.sheet.specs.Seen.{Fronted}
 use Rattle.part.specs.Lays.{Puts}
 use Rattle.counts.specs.Tallies.{Rest, Passed}
@@ -19,7 +21,7 @@ unmarked : (x : ℕ) (title time : List ℕ)
 unfolding v7_header_codes
 unmarked x title time = refl
 
-pub pass_v7 : (version : ℕ) (sheet d e f : List ℕ) (x k m most head : ℕ) (r : Answer) → version ≡ version_of sheet → Fronted version sheet x k m
+pub pass_v7 : (version : ℕ) (sheet d e f : List ℕ) (x k m most head : ℕ) (r : Answered Done Refusal) → version ≡ version_of sheet → Fronted version sheet x k m
     → Puts d e
     (v7_header_codes (record { extended = 0; title = take (7 + k - 7) (drop 7 sheet); time = take (7 + k + m - (7 + k)) (drop (7 + k) sheet) })) most head
     → Rest v7 (headed_by (eqb x 1) 23 (records_of version (drop (7 + k + m) sheet))) head e f r

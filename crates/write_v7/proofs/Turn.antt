@@ -1,4 +1,7 @@
 -- A turn of the loop over a sheet's records for v7: what any writer's turn says, where the state's label stands in the sheet. Assumes nothing.
+use Rattle.std.specs.Prelude.{Some, None, Result as Answered, Ok}
+use Rattle.format.specs.declared.Refusal.{Refusal as Refused}
+use Rattle.format.specs.Answers.{verdict_of}
 use Prim.Native.Nat.{ℕ, ◌+◌, ◌-◌, ◌≤◌, ◌<◌}
 use mathlib.Core.Path.{◌≡◌, refl, sym, ap, ◌∙◌}
 use mathlib.Core.Bool.{Bool, true, false, ◌&&◌}
@@ -8,9 +11,7 @@ use lib.Dec.{ltb}
 use lib.ListN.{length, take, drop, length-take, length-drop}
 use Rattle.format.specs.State.{not_said, State, start_setting, Record}
 use Rattle.format.specs.Sheet.{records_of}
-use Rattle.format.specs.Refusals.{or_else, Result, stop, refused}
-use Rattle.format.specs.declared.Verdict.{Verdict}
-use Rattle.format.specs.declared.Verdict.TheVariants.{Good, Refusal}
+use Rattle.format.specs.Refusals.{or_else, Result, stop, refused, Good, Refusal}
 use Rattle.format.specs.V7Codes.{shorten_codes, v7_codes, v7_after, v7_codes_limit, v7_unable}
 use Rattle.format.specs.WellFormed.{WellFormed}
 use Rattle.format.specs.Writing.{v7, headed_by}
@@ -21,14 +22,15 @@ use Rattle.format.specs.declared.Fields.{Fields}
 use Rattle.format.specs.declared.Fields.TheVariants.{Leg, Station, Section, Error}
 use Rattle.format.proofs.Basics.{pick_case}
 use Rattle.sheet.specs.Seen.{EntryTold}
-use Rattle.sheet.specs.declared.Entry.TheVariants.{Flawed, Whole}
 use Rattle.sheet.proofs.EntryAt.{part, found_formed, found_size}
 use Rattle.part.specs.Lays.{Lays, Puts}
 use Rattle.part.proofs.Laying.{lays_as, lays_within, lays_then, puts_front}
 use Rattle.plain.specs.Plainly.{label_at, tail_of, v7_code, unsaid, Goes, Plainly}
+use Rattle.plain.specs.Placed.{FoundPlaced}
 use Rattle.plain.specs.declared.Form.{Form}
+use Rattle.plain.specs.declared.Item.{Item}
 use Rattle.plain.proofs.Placing.{plain_v7_codes}
-use Rattle.plain.proofs.InSheet.{last_long, name_is, added_is, added_long}
+use Rattle.plain.proofs.InSheet.{Sizes, plain_sizes, last_long, name_is, added_is, added_long}
 use Rattle.counts.specs.Tallies.{bounded, Adds, rest_outcome}
 use Rattle.counts.proofs.Left.{Left, written_length, written_there, adds_one, left_stopped}
 use Rattle.write.proofs.Standing.{counted, Standing, standing_none, standing_end, standing_flawed, standing_more}
@@ -97,7 +99,7 @@ unable_at (Error traverse) l = refl
 
 module _ (version : ℕ) (sheet : List ℕ) (at : ℕ) (hand : Hand) (h : at < length sheet) (N : Named sheet hand) where
   -- a record that is taken apart
-  pub entry_turns : (n : ℕ) (f : Fields) (k : ℕ) → EntryTold (Whole n f k) version (take (length sheet - at) (drop at sheet))
+  pub entry_turns : (n : ℕ) (f : Fields) (k : ℕ) → EntryTold (Some (record { size = n; fields = f; from = k })) version (take (length sheet - at) (drop at sheet))
       → (d d' : List ℕ) (bytes : ℕ)
       → Puts d d' (v7_codes (state_of hand.setting (part sheet hand.from hand.to)) (record_of f (part sheet (at + k) (at + n)))) v7_codes_limit bytes
       → (bad : Bool) → bad ≡ v7_unable (record_of f []) → (next : Hand) → next ≡ hand_after hand f (at + k) (at + n)
@@ -169,6 +171,13 @@ module _ (version : ℕ) (sheet : List ℕ) (at : ℕ) (hand : Hand) (h : at < l
               };
         }
 
+-- where the one that is found ends in the sheet, and what of its label is kept, dropped and added
+pub placed_sizes : (sheet : List ℕ) (at : ℕ) (hand : Hand) (item : Item) (label : ℕ) → at < length sheet → Named sheet hand
+    → FoundPlaced (Some item) (take (length sheet - at) (drop at sheet)) hand.mark hand.setting.position (part sheet hand.from hand.to)
+    → label ≡ label_at item.form → Sizes sheet at hand.from hand.to item.size item.kept label
+placed_sizes sheet at hand item label h N F e =
+    rw e (plain_sizes 0 sheet at hand.mark hand.setting.position hand.from hand.to item.size item.kept item.code item.form h N.inside (F.3 0))
+
 -- a piece that is written into the part of d from `from` on
 pub lays_part : (d X y : List ℕ) (at from m n : ℕ) → from ≤ length d → (at ≤ length d → from ≡ at) → Puts (take (length d - from) (drop from d)) y X m n
     → Lays d (take from d ++ (y ++ drop (length d - from) (drop from d))) at X m (at + n)
@@ -182,13 +191,13 @@ lays_part d X y at from m n i q P =
 
 -- ---- where in the sheet the loop stands
 
-pub record Going (barred : Bool) (version : ℕ) (sheet : List ℕ) (begin head : ℕ) (d₀ d : List ℕ) (at total number : ℕ) (fault : Verdict)
+pub record Going (barred : Bool) (version : ℕ) (sheet : List ℕ) (begin head : ℕ) (d₀ d : List ℕ) (at total number : ℕ) (fault : Answered Unit Refused)
     (hand : Hand) : Type 0 where
   pub stands : Standing v7 barred version sheet begin head d₀ d at total number fault (state_in sheet hand)
   pub named : Named sheet hand
 
 pub going_none : (barred : Bool) (version : ℕ) (sheet : List ℕ) (begin head : ℕ) (d : List ℕ) → begin ≤ length sheet → head ≤ 8192
-    → Going barred version sheet begin head d d begin head 0 Good (hand_of start_setting 0 0)
+    → Going barred version sheet begin head d d begin head 0 (Ok tt) (hand_of start_setting 0 0)
 going_none barred version sheet begin head d hb hh =
     record {
       stands = standing_none v7 barred version sheet begin head d hb hh;
@@ -204,7 +213,7 @@ going_none barred version sheet begin head d hb hh =
           };
     }
 
-module _ (barred : Bool) (version : ℕ) (sheet : List ℕ) (begin head : ℕ) (d₀ d : List ℕ) (at total number : ℕ) (fault : Verdict) (hand : Hand)
+module _ (barred : Bool) (version : ℕ) (sheet : List ℕ) (begin head : ℕ) (d₀ d : List ℕ) (at total number : ℕ) (fault : Answered Unit Refused) (hand : Hand)
     (G : Going barred version sheet begin head d₀ d at total number fault hand) where
   abbrev x₀ : Result
   x₀ = headed_by barred 23 (records_of version (drop begin sheet))
@@ -226,26 +235,24 @@ module _ (barred : Bool) (version : ℕ) (sheet : List ℕ) (begin head : ℕ) (
 
   module _ (h : at < length sheet) where
     -- no well-formed record is there
-    pub going_flawed : EntryTold Flawed version (take (length sheet - at) (drop at sheet)) → refused 12 number ≡ rest_outcome v7 head x₀
+    pub going_flawed : EntryTold None version (take (length sheet - at) (drop at sheet)) → refused 12 number ≡ rest_outcome v7 head x₀
     going_flawed T = standing_flawed v7 barred version sheet begin head d₀ d at total number fault st G.stands h T
 
     -- the codes of the one that is are written into the part of d from `from` on
     module _ (n bytes : ℕ) (bad : Bool) (next : Hand) (from : ℕ) (y : List ℕ)
         (inside : from ≤ length d) (q : total ≤ length d → from ≡ total)
-        (T : Turns version sheet at hand (take (length d - from) (drop from d)) y n bytes bad next) where
+        (T : Turns version sheet at hand (take (length d - from) (drop from d)) y n bytes bad next) (fault' : Answered Unit Refused)
+        (F : verdict_of fault' ≡ or_else (verdict_of fault) (pick bad (Refusal 23 number) Good)) where
       abbrev d' : List ℕ
       d' = take from d ++ (y ++ drop (length d - from) (drop from d))
 
       abbrev r : Record
       r = record_of T.fields (part sheet (at + T.from) (at + n))
 
-      abbrev fault' : Verdict
-      fault' = or_else fault (pick bad (Refusal 23 number) Good)
-
       adds : Adds v7 st r d d' (counted total number fault) (counted (bounded total bytes) (number + 1) fault')
       adds =
           adds_one v7 d (counted total number fault) st r from y bytes (bounded total bytes) fault' inside q T.puts refl
-          (ap (λ (b : Bool). or_else fault (pick b (Refusal 23 number) Good)) (T.bad_is ∙ unable_at T.fields (part sheet (at + T.from) (at + n))))
+          (F ∙ ap (λ (b : Bool). or_else (verdict_of fault) (pick b (Refusal 23 number) Good)) (T.bad_is ∙ unable_at T.fields (part sheet (at + T.from) (at + n))))
 
       pub going_more : Going barred version sheet begin head d₀ d' (at + n) (bounded total bytes) (number + 1) fault' next
       going_more =

@@ -17,7 +17,7 @@ returns-in-Undated c =
 pub returns-in-Day : goal.returns-in-Day
 unfolding to_le16
 returns-in-Day c =
-    let e = c.le16_bytes-d.ensures ∙ ap to_le16 c.wide_day.ensures in
+    let e = c.le16_bytes-d.ensures ∙ ap to_le16 c.from.ensures in
     rw c.in-Day.is
     (lays_within (simp e at c.put-in-Day.ensures) 5 (omega arith))
 

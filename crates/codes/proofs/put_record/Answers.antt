@@ -6,7 +6,7 @@ use Rattle.codes.proofs.put_record.Goals as goal
 
 pub put_leg-requires : goal.put_leg-requires
 put_leg-requires c =
-    rw c.leg_of-leg.ensures (rw c.in-Leg.is at c.requires)
+    rw c.in-Leg.is at c.requires
 
 pub put_station-requires : goal.put_station-requires
 put_station-requires c =
@@ -19,7 +19,7 @@ put_section-requires c =
 pub returns-in-Leg : goal.returns-in-Leg
 returns-in-Leg c =
     rw c.in-Leg.is
-    (puts_front (rw c.leg_of-leg.ensures at c.put_leg.ensures))
+    (puts_front c.put_leg.ensures)
 
 pub returns-in-Station : goal.returns-in-Station
 returns-in-Station c =

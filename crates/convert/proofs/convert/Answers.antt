@@ -1,5 +1,6 @@
 -- `convert::convert` meets its contract. Assumes nothing.
 use native.Mathlib.Omega.{arith}
+use Rattle.std.proofs.Common.{rules, Err, ◌≡◌}
 use mathlib.Core.Path.{sym, ◌∙◌}
 use lib.Seq.{length-take-le}
 use Rattle.read.proofs.Room.{read_room}
@@ -8,30 +9,31 @@ use Rattle.convert.proofs.convert.Goals as goal
 
 pub slice_bounds-write-end : goal.slice_bounds-write-end
 slice_bounds-write-end c =
-    let h = read_room _ _ _ _ _ (rw c.in-Done.is at c.read-a.ensures.answer) in
-    let k = c.read-a.auto.sheet in
+    let h = read_room _ _ _ _ _ (rw c.in_ok-made.was at c.read.ensures.answer) in
+    let k = c.read.auto.sheet in
     omega arith
 
-pub slice_bounds-write-end-in-Done : goal.slice_bounds-write-end-in-Done
-slice_bounds-write-end-in-Done c =
-    let h = read_room _ _ _ _ _ (rw c.in-Done.is at c.read-a.ensures.answer) in
-    let k = c.read-a.auto.sheet in
+pub slice_bounds-write-end-2 : goal.slice_bounds-write-end-2
+slice_bounds-write-end-2 c =
+    let h = read_room _ _ _ _ _ (rw c.in_ok-made.was at c.read.ensures.answer) in
+    let k = c.read.auto.sheet in
     sym (length-take-le _ _ (omega arith))
 
 -- clause by clause, so that a refusal that is not the reader's is refused at the answer
-pub returns-in-Refused-clause-answer : goal.returns-in-Refused-clause-answer
-returns-in-Refused-clause-answer c =
-    let e = rw c.in-Refused.is at c.read-a.ensures.answer in
-    sym (convert_refused c.args.file.now c.args.sheet.now _ _ (sym e) c.args.out.now).0
+pub returns-in_err-made-clause-answer : goal.returns-in_err-made-clause-answer
+returns-in_err-made-clause-answer c =
+    let q : c.from_residual.result ≡ Err c.in_err-made.field-0.0 = search rules in
+    let e = rw c.in_err-made.was at c.read.ensures.answer in
+    rw q (sym (convert_refused c.args.file.now c.args.sheet.now _ _ (sym e) c.args.out.now).0)
 
-pub returns-in-Refused-clause-file : goal.returns-in-Refused-clause-file
-returns-in-Refused-clause-file c =
-    let e = rw c.in-Refused.is at c.read-a.ensures.answer in
+pub returns-in_err-made-clause-file : goal.returns-in_err-made-clause-file
+returns-in_err-made-clause-file c =
+    let e = rw c.in_err-made.was at c.read.ensures.answer in
     sym (convert_refused c.args.file.now c.args.sheet.now _ _ (sym e) c.args.out.now).1
 
-pub returns-in-Done : goal.returns-in-Done
-returns-in-Done c =
-    let R = c.read-a.ensures in
-    let e = rw c.in-Done.is at R.answer in
-    let r = convert_written c.args.file.now c.args.sheet.now (λ i. (c.shared_slice_known-1.given i).fits) _ _ _ (sym e) c.args.out.now in
+pub returns : goal.returns
+returns c =
+    let R = c.read.ensures in
+    let e = rw c.in_ok-made.was at R.answer in
+    let r = convert_written c.args.file.now c.args.sheet.now (λ i. (c.type_inv.file i).fits) _ _ _ (sym e) c.args.out.now in
     let W = c.write.ensures in record { answer = rw R.sheet at W.answer ∙ sym r.0; sheet = R.sheet; file = rw R.sheet at W.file ∙ sym r.1 }

@@ -17,17 +17,17 @@ returns-then-n-gt-INPUT_LIMIT c =
     let W = c.list.ensures in
     (omega (arith, W.1), wrote_front _ _ _ _ W.0 (omega (arith, W.1, c.requires.3)) ∙ output_long (take c.args.n c.args.input.now) (omega (arith, l, c.if-n-gt-INPUT_LIMIT.true)))
 
-pub returns-in-Refused : goal.returns-in-Refused
-returns-in-Refused c =
+pub returns-in-Err : goal.returns-in-Err
+returns-in-Err c =
     let l = length-take-le c.args.n c.args.input.now c.requires.1 in
-    let W = c.list-in-Refused.ensures in
-    let k = c.convert-a.auto.out in
-    let e = rw c.in-Refused.is at c.convert-a.ensures.answer in
+    let W = c.list-in-Err.ensures in
+    let k = c.convert.auto.out in
+    let e = c.in-Err.ensures.answer in
     (omega (arith, W.1), wrote_front _ _ _ _ W.0 (omega (arith, W.1, k, c.requires.3)) ∙ output_refused (take c.args.n c.args.input.now) c.args.sheet.now c.args.out.now c.requires.2 c.requires.3 (omega (arith, l, c.if-n-gt-INPUT_LIMIT.false)) _ _ e)
 
-pub returns-in-Done : goal.returns-in-Done
-returns-in-Done c =
+pub returns-in-Ok : goal.returns-in-Ok
+returns-in-Ok c =
     let l = length-take-le c.args.n c.args.input.now c.requires.1 in
-    let e = rw c.in-Done.is at c.convert-a.ensures.answer in
-    let O = output_file (take c.args.n c.args.input.now) c.args.sheet.now c.args.out.now c.requires.2 c.requires.3 (omega (arith, l, c.if-n-gt-INPUT_LIMIT.false)) _ _ _ _ e c.convert-a.ensures.file in
+    let e = c.in-Ok.ensures.answer in
+    let O = output_file (take c.args.n c.args.input.now) c.args.sheet.now c.args.out.now c.requires.2 c.requires.3 (omega (arith, l, c.if-n-gt-INPUT_LIMIT.false)) _ _ _ _ e c.convert.ensures.file in
     (omega (arith, O.room, c.requires.3), O.text)

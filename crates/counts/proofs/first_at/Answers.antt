@@ -4,8 +4,8 @@ use Rattle.counts.proofs.first_at.Goals as goal
 
 pub returns-then-bad : goal.returns-then-bad
 unfolding pick
-returns-then-bad c = rw (c.in-Good.is, c.if-bad.true)
+returns-then-bad c = rw (c.in_ok-fault.was, c.if-bad.true)
 
 pub returns : goal.returns
 unfolding pick
-returns c = rw (c.in-Good.is, c.if-bad.false)
+returns c = rw (c.in_ok-fault.was, c.if-bad.false)

@@ -12,12 +12,12 @@ close-requires c =
     let B = c.put_changed-met.ensures.went.behind in
     record { few_bytes = B.few_bytes; few_records = omega (arith, B.few_records) }
 
-pub returns-then-left-eq0 : goal.returns-then-left-eq0
-returns-then-left-eq0 c =
+pub returns-then-met-eq0 : goal.returns-then-met-eq0
+returns-then-met-eq0 c =
     ends_closed c.requires.0.at
     (λ i. omega (arith, c.type_inv.file i))
     c.args.new.now c.args.out.now c.requires.1 c.put_changed-met.ensures
-    c.if-left-eq0.true c.close.ensures
+    c.if-met-eq0.true c.close.ensures
 
 pub put_tail-requires : goal.put_tail-requires
 put_tail-requires c =
@@ -29,4 +29,4 @@ returns c =
     ends_copied c.requires.0.at
     (λ i. omega (arith, c.type_inv.file i))
     c.args.new.now c.args.out.now c.requires.1 c.put_changed-met.ensures
-    c.if-left-eq0.false c.put_tail.ensures
+    c.if-met-eq0.false c.put_tail.ensures

@@ -9,7 +9,7 @@ ruleset cases = (lt-ltb, le-ltb, le-leb, lt-leb, eq-eqb, ne_eqb)
 
 pub returns-then-file-place : goal.returns-then-file-place
 unfolding extended_byte pick
-returns-then-file-place c = record { same = search cases; room = tt }
+returns-then-file-place c = rw c.at.ensures (record { same = search cases; room = tt })
 
 pub returns-then-flags-eq0 : goal.returns-then-flags-eq0
 unfolding extended_byte pick
@@ -29,4 +29,4 @@ returns-then-flags c =
 
 pub returns : goal.returns
 unfolding extended_byte pick
-returns c = record { same = search cases; room = tt }
+returns c = rw c.at-2.ensures (record { same = search cases; room = tt })

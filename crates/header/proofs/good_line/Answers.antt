@@ -1,7 +1,7 @@
 -- `good_line` meets its contract, test by test. Assumes nothing.
 use mathlib.Core.Path.{ap, ◌∙◌}
 use native.Mathlib.Omega.{arith}
-use Rattle.header.specs.declared.TextLine.TheVariants.{Ends}
+use Rattle.std.specs.Prelude.{Some}
 use Rattle.header.proofs.Lines.{line_unended, line_long, line_empty, line_returned, line_ends}
 use Rattle.header.proofs.good_line.Goals as goal
 
@@ -24,6 +24,6 @@ returns-then-s-end-eq13 c =
 
 pub returns : goal.returns
 returns c =
-    ap Ends c.line_end-end.ensures
+    ap Some c.line_end-end.ensures
     ∙ line_ends c.args.limit c.args.s.now (omega arith) (omega arith) (omega arith)
     (rw c.line_end-end.ensures at c.if-s-end-eq13.false)

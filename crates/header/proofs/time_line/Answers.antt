@@ -9,24 +9,16 @@ use Rattle.header.proofs.time_line.Goals as goal
 
 pub closed_header-requires : goal.closed_header-requires
 closed_header-requires c =
-    let l = (let it : Line 64 (drop (25 + c.args.title)
-    c.args.file.now) c.in-Ends.length = line_found 64 _ _ (simp part_to_end at (sym c.in-Ends.is ∙ c.good_line-line.ensures)) in it) in
-    let h : c.in-Ends.length < length c.args.file.now - (25 + c.args.title) = rw length-drop at l.ended in
+    let l : Line 64 (drop (25 + c.args.title) c.args.file.now) c.in-Some.time = line_found 64 _ _ (simp part_to_end at (sym c.in-Some.is ∙ c.good_line-line.ensures)) in
+    let h : c.in-Some.time < length c.args.file.now - (25 + c.args.title) = rw length-drop at l.ended in
     (omega arith, omega arith, omega arith, l.short, omega arith, omega arith)
 
-pub returns-in-Broken : goal.returns-in-Broken
-returns-in-Broken c =
-    record {
-      same = time_broken c.args.version c.args.file.now c.args.title
-          (simp part_to_end at (sym c.in-Broken.is ∙ c.good_line-line.ensures));
-      room = tt;
-    }
+pub returns-in_default : goal.returns-in_default
+returns-in_default c =
+    rw c.at.ensures (record { same = time_broken c.args.version c.args.file.now c.args.title (simp part_to_end at (sym c.in_default.is ∙ c.good_line-line.ensures)); room = tt })
 
-pub returns-in-Ends : goal.returns-in-Ends
-returns-in-Ends c =
+pub returns : goal.returns
+returns c =
     let d = c.closed_header.ensures in
-    record {
-      same = d.same ∙ time_found c.args.version c.args.file.now c.args.title _ ((let it : Line 64 (drop (25 + c.args.title)
-          c.args.file.now) c.in-Ends.length = line_found 64 _ _ (simp part_to_end at (sym c.in-Ends.is ∙ c.good_line-line.ensures)) in it));
-      room = d.room;
-    }
+    let l : Line 64 (drop (25 + c.args.title) c.args.file.now) c.in-Some.time = line_found 64 _ _ (simp part_to_end at (sym c.in-Some.is ∙ c.good_line-line.ensures)) in
+    record { same = d.same ∙ time_found c.args.version c.args.file.now c.args.title _ l; room = d.room }

@@ -1,6 +1,6 @@
 -- `title_line` meets its contract: the line that it finds leads to what follows. Assumes nothing.
 use native.Mathlib.Omega.{arith}
-use Prim.Native.Nat.{◌-◌, ◌<◌}
+use Prim.Native.Nat.{◌+◌, ◌-◌, ◌<◌}
 use mathlib.Core.Path.{sym, ◌∙◌}
 use lib.ListN.{length, drop, length-drop}
 use borrow.Author.Rules.{part_to_end}
@@ -9,18 +9,16 @@ use Rattle.header.proofs.title_line.Goals as goal
 
 pub time_line-requires : goal.time_line-requires
 time_line-requires c =
-    let l = (let it : Line 4096 (drop 24 c.args.file.now) c.in-Ends.length = line_found 4096 _ _ (simp part_to_end at (sym c.in-Ends.is ∙ c.good_line-line.ensures)) in it) in
-    let h : c.in-Ends.length < length c.args.file.now - 24 = rw length-drop at l.ended in
+    let l : Line 4096 (drop 24 c.args.file.now) c.in-Some.title = line_found 4096 _ _ (simp part_to_end at (sym c.in-Some.is ∙ c.good_line-line.ensures)) in
+    let h : c.in-Some.title < length c.args.file.now - 24 = rw length-drop at l.ended in
     (omega arith, omega arith, l.short, omega arith, omega arith)
 
-pub returns-in-Broken : goal.returns-in-Broken
-returns-in-Broken c =
-    record {
-      same = title_broken c.args.version c.args.file.now (simp part_to_end at (sym c.in-Broken.is ∙ c.good_line-line.ensures));
-      room = tt;
-    }
+pub returns-in_default : goal.returns-in_default
+returns-in_default c =
+    rw c.at.ensures (record { same = title_broken c.args.version c.args.file.now (simp part_to_end at (sym c.in_default.is ∙ c.good_line-line.ensures)); room = tt })
 
-pub returns-in-Ends : goal.returns-in-Ends
-returns-in-Ends c =
+pub returns : goal.returns
+returns c =
     let d = c.time_line.ensures in
-    record { same = d.same ∙ title_found c.args.version c.args.file.now _ ((let it : Line 4096 (drop 24 c.args.file.now) c.in-Ends.length = line_found 4096 _ _ (simp part_to_end at (sym c.in-Ends.is ∙ c.good_line-line.ensures)) in it)); room = d.room }
+    let l : Line 4096 (drop 24 c.args.file.now) c.in-Some.title = line_found 4096 _ _ (simp part_to_end at (sym c.in-Some.is ∙ c.good_line-line.ensures)) in
+    record { same = d.same ∙ title_found c.args.version c.args.file.now _ l; room = d.room }

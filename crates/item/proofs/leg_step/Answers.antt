@@ -3,10 +3,10 @@ use mathlib.Core.Path.{refl}
 use Rattle.item.proofs.Steps.{leg_unset, leg_made}
 use Rattle.item.proofs.leg_step.Goals as goal
 
-pub returns-in-Unset : goal.returns-in-Unset
-returns-in-Unset c =
-    (leg_unset _ _ 0 _ c.args.setting _ _ c.in-Unset.is, tt)
+pub returns-in_default : goal.returns-in_default
+returns-in_default c =
+    (leg_unset _ _ 0 _ c.args.setting _ _ c.in_default.is, tt)
 
-pub returns-in-Stands : goal.returns-in-Stands
-returns-in-Stands c =
-    (leg_made _ _ _ _ _ _ _ _ c.in-Stands.is c.with_position.ensures, refl)
+pub returns : goal.returns
+returns c =
+    (leg_made _ _ _ _ _ _ _ _ c.in-Some.is c.with_position.ensures, refl)

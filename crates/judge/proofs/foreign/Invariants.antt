@@ -4,9 +4,9 @@ use lib.ListN.{length}
 use Rattle.judge.proofs.Whole.{Reading}
 use Rattle.judge.proofs.foreign.Given as goal
 
-abbrev pub invariant-loop-number : goal.invariant-loop-number
-invariant-loop-number l =
+abbrev pub invariant-loop-found : goal.invariant-loop-found
+invariant-loop-found l =
     Reading l.file l.old l.place l.name.bytes
 
-abbrev pub decreases-loop-number : goal.decreases-loop-number
-decreases-loop-number l = length l.file - l.place.at
+abbrev pub decreases-loop-found : goal.decreases-loop-found
+decreases-loop-found l = length l.file - l.place.at

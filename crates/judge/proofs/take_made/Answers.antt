@@ -33,8 +33,8 @@ returns-then-not-stands c =
     let e = sym c.stands.ensures ∙ c.if-not-stands.true in
     (foreign_codes c.args.file.now c.args.from c.args.label.now c.requires.0 _ c.requires.1 (rw f at e), P.kept ∙ c.requires.3)
 
-pub keep_label-m-requires : goal.keep_label-m-requires
-keep_label-m-requires c =
+pub keep_label-requires : goal.keep_label-requires
+keep_label-requires c =
     (c.requires.0.inside.label_short, c.requires.0.inside.label_whole, c.requires.2)
 
 pub overflow_add-place : goal.overflow_add-place
@@ -53,6 +53,6 @@ returns c =
     let f = front_of_lem P (omega (arith, P.most, c.requires.3)) in
     let e = sym c.stands.ensures ∙ c.if-not-stands.false in (
       rw c.setting_after.ensures (takes_made c.args.file.now c.args.from c.args.label.now c.requires.0 c.args.name.now c.args.fields c.requires.1 (rw f at e) _ _ _ P.size
-          c.keep_label-m.ensures),
+          c.keep_label.ensures),
       P.kept ∙ c.requires.3,
     )

@@ -17,14 +17,14 @@ pub loop-i-preserved : goal.loop-i-preserved
 loop-i-preserved c =
     passed_other c.args.bytes.now c.args.len c.args.n (omega (arith, c.requires)) c.loop-i.i c.loop-i.dots (omega arith) c.loop-i.invariant c.if-bytes-i-eq46.false
 
-pub returns-then-i-eq0 : goal.returns-then-i-eq0
-returns-then-i-eq0 c =
-    let z : c.loop-i.i ≡ 0 = omega arith in
-    (passed_none c.args.bytes.now c.args.len c.args.n (omega (arith, c.requires)) c.loop-i.dots (rw z at c.loop-i.invariant), tt)
-
 pub returns-then-dots-n : goal.returns-then-dots-n
 returns-then-dots-n c = (
   passed_found c.args.bytes.now c.args.len c.args.n (omega (arith, c.requires)) c.loop-i.i c.loop-i.dots (omega arith) c.loop-i.invariant
       c.if-bytes-i-eq46.true c.if-dots-n.true,
   omega arith,
 )
+
+pub returns : goal.returns
+returns c =
+    let z : c.loop-i.i ≡ 0 = omega arith in
+    (passed_none c.args.bytes.now c.args.len c.args.n (omega (arith, c.requires)) c.loop-i.dots (rw z at c.loop-i.invariant), tt)

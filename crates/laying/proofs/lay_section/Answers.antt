@@ -6,4 +6,4 @@ use Rattle.laying.proofs.lay_section.Goals as goal
 
 pub returns : goal.returns
 returns c =
-    record { label = search (rules, extends); sheet = rw two_off at c.lay_short_section.ensures; answer = refl }
+    record { label = search (rules, extends); sheet = rw two_off at c.lay_short.ensures; answer = refl }

@@ -13,8 +13,8 @@ pub returns : goal.returns
 returns c =
     let head = c.front_head-head.result in
     let n : length head ≡ 7 = search rules in
-    let e = c.put_at-2.ensures ∙ ap (λ (x : List ℕ). laid x (7 + length c.args.title.now) c.args.time.now)
-    (c.put_at.ensures ∙ ap (λ (x : List ℕ). laid x 7 c.args.title.now)
+    let e = c.lay-2.ensures ∙ ap (λ (x : List ℕ). laid x (7 + length c.args.title.now) c.args.time.now)
+    (c.lay.ensures ∙ ap (λ (x : List ℕ). laid x 7 c.args.title.now)
     c.copy.ensures) in
     let h : length head + length c.args.title.now + length c.args.time.now ≤ length c.args.sheet.now = omega (arith, c.requires) in
     e ∙ (rw n at (front_laid c.args.sheet.now head c.args.title.now c.args.time.now h)) ∙ rw

@@ -5,10 +5,10 @@ use lib.ListN.{length-take}
 use lib.Seq.{length-take-le}
 use Rattle.layout.proofs.put_label.Goals as goal
 
-pub slice_bounds-put_at-end : goal.slice_bounds-put_at-end
-slice_bounds-put_at-end c =
+pub slice_bounds-lay-end : goal.slice_bounds-lay-end
+slice_bounds-lay-end c =
     sym (length-take-le c.args.len c.args.bytes.now (omega (arith, c.requires)))
 
-pub put_at-requires : goal.put_at-requires
-put_at-requires c =
+pub lay-requires : goal.lay-requires
+lay-requires c =
     simp length-take (omega (arith, c.requires))

@@ -11,7 +11,8 @@ use Rattle.format.specs.Fields.{record_of, record_size}
 use Rattle.format.specs.declared.Fields.{Fields}
 use Rattle.format.proofs.SheetLaws.{layout_size}
 use Rattle.wire.specs.Laid.{laid}
-use Rattle.layout.proofs.Laws.{front_of, front_size, label_of, layout_length, record_over, error_parts}
+use Rattle.layout.proofs.Laws.{layout_length, record_over, error_parts}
+use Rattle.layout.specs.Fronts.{front_of, front_size, label_of}
 use borrow.Author.Rules.{rules}
 use Rattle.layout.proofs.put_record.Goals as goal
 

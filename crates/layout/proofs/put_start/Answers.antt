@@ -4,11 +4,12 @@ use mathlib.Core.List.{List}
 use Prim.Native.Nat.{ℕ}
 use Rattle.format.specs.Bytes.{over}
 use Rattle.layout.proofs.Laws.{start_word}
+use borrow.Author.Rules.{rules}
 use Rattle.layout.proofs.put_start.Goals as goal
 
 pub returns : goal.returns
 returns c =
-    let k = c.wide-k.ensures in
-    let b = c.wide-b.ensures in
+    let k = c.from-k.ensures in
+    let b = c.from-b.ensures in
     c.put_be32.ensures ∙ ap (λ (x : List ℕ). over x c.args.out.now)
-    (rw (k.0, b.0) (start_word _ _ _ c.requires.0 (rw k.0 at k.1) (rw b.0 at b.1)))
+    (rw (k, b) (start_word _ _ _ c.requires.0 (search rules) (search rules)))

@@ -8,26 +8,23 @@ use Rattle.listing.proofs.Stores.{put_none, put_length, put_as}
 use Rattle.listing.proofs.Escapes.{escape_next}
 use Rattle.listing.proofs.escape.Goals as goal
 
-pub loop-i-init : goal.loop-i-init
+pub loop-b-init : goal.loop-b-init
 unfolding escaped
-loop-i-init c = (omega arith, put_none _ _)
+loop-b-init c = put_none _ _
 
-pub loop-i-preserved : goal.loop-i-preserved
-loop-i-preserved c =
-    let l = c.loop-i in (
-      omega arith,
-      escape_next c.args.s.now (omega arith) l.invariant.1
-          c.text_byte-k.ensures,
-    )
+pub loop-b-preserved : goal.loop-b-preserved
+loop-b-preserved c =
+    escape_next c.args.s.now (omega arith) c.loop-b.invariant
+    c.text_byte-k.ensures
 
 pub shape_of-out : goal.shape_of-out
-shape_of-out c = put_length c.loop-i.invariant.1
+shape_of-out c = put_length c.loop-b.invariant
 
 pub returns : goal.returns
 returns c =
-    let e : c.loop-i.i ≡ length c.args.s.now = omega arith in
-    put_as c.loop-i.invariant.1 (omega arith) (rw (e, take-length))
+    let e : c.loop-b.b-index ≡ length c.args.s.now = omega arith in
+    put_as c.loop-b.invariant (omega arith) (rw (e, take-length))
 
 pub text_byte-k-requires : goal.text_byte-k-requires
 text_byte-k-requires c =
-    omega (arith, c.loop-i.invariant.1.few, c.requires)
+    omega (arith, c.loop-b.invariant.few, c.requires)

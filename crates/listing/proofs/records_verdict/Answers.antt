@@ -1,21 +1,18 @@
 -- `listing::records_verdict` meets its contract: the verdict on what is left is that on all. Assumes nothing.
 use native.Mathlib.Omega.{arith}
 use borrow.Author.Rules.{rules}
-use Rattle.sheet.specs.declared.Entry.TheVariants.{Whole}
-use Rattle.listing.proofs.Sheets.{EntryAt, EntryPlace, entry_none, entry_at, entry_place, judged_none, judged_more, judged_good, judged_bad}
+use Rattle.listing.proofs.Sheets.{entry_none, entry_at, entry_place, judged_none, judged_more, judged_good, judged_bad}
 use Rattle.listing.proofs.records_verdict.Goals as goal
 
 pub loop-at-init : goal.loop-at-init
 loop-at-init c = judged_none _ _ _ c.requires
 
-pub returns-then-at-sheet : goal.returns-then-at-sheet
-returns-then-at-sheet c = judged_good c.loop-at.invariant c.if-at-sheet.true
+pub returns : goal.returns
+returns c = judged_good c.loop-at.invariant c.loop-at-test.false
 
-pub returns-in-Flawed : goal.returns-in-Flawed
-returns-in-Flawed c =
-    let T = rw c.in-Flawed.is at c.read_entry-found.ensures in
-    judged_bad c.loop-at.invariant c.if-at-sheet.false
-    (entry_none _ c.args.sheet.now c.loop-at.at T)
+pub returns-in_default : goal.returns-in_default
+returns-in_default c =
+    rw c.at.ensures (judged_bad c.loop-at.invariant c.loop-at-test.true (entry_none _ c.args.sheet.now c.loop-at.at c.in_default.ensures))
 
 pub overflow_add-record : goal.overflow_add-record
 overflow_add-record c =
@@ -25,11 +22,7 @@ overflow_add-record c =
 pub loop-at-preserved : goal.loop-at-preserved
 loop-at-preserved c =
     judged_more c.loop-at.invariant
-    (entry_at _ c.args.sheet.now
-    c.loop-at.at _ _ _
-    ((let it : EntryAt c.args.layout
-    c.args.sheet.now c.loop-at.at
-    (Whole c.in-Whole.size c.in-Whole.fields c.in-Whole.from) = rw c.in-Whole.is at c.read_entry-found.ensures in it)))
+    (entry_at _ c.args.sheet.now c.loop-at.at _ c.in-Some.ensures)
 
 pub slice_bounds-read_entry-count : goal.slice_bounds-read_entry-count
 slice_bounds-read_entry-count c =
@@ -47,10 +40,7 @@ pub overflow_add-at : goal.overflow_add-at
 overflow_add-at c =
     omega (
       arith,
-      (let it : EntryPlace c.args.sheet.now c.loop-at.at
-          c.in-Whole.size c.in-Whole.from = entry_place _ _ _ _ _ _ ((let it : EntryAt c.args.layout
-          c.args.sheet.now c.loop-at.at
-          (Whole c.in-Whole.size c.in-Whole.fields c.in-Whole.from) = rw c.in-Whole.is at c.read_entry-found.ensures in it)) c.loop-at.invariant.inside in it),
+      entry_place _ _ _ _ c.in-Some.ensures c.loop-at.invariant.inside,
       c.well_formed,
     )
 
@@ -58,9 +48,6 @@ pub loop-at-smaller : goal.loop-at-smaller
 loop-at-smaller c =
     omega (
       arith,
-      (let it : EntryPlace c.args.sheet.now c.loop-at.at
-          c.in-Whole.size c.in-Whole.from = entry_place _ _ _ _ _ _ ((let it : EntryAt c.args.layout
-          c.args.sheet.now c.loop-at.at
-          (Whole c.in-Whole.size c.in-Whole.fields c.in-Whole.from) = rw c.in-Whole.is at c.read_entry-found.ensures in it)) c.loop-at.invariant.inside in it),
+      entry_place _ _ _ _ c.in-Some.ensures c.loop-at.invariant.inside,
       c.well_formed,
     )

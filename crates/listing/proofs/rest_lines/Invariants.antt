@@ -4,8 +4,8 @@ use lib.ListN.{length}
 use Rattle.listing.proofs.Sheets.{Listed}
 use Rattle.listing.proofs.rest_lines.Given as goal
 
-abbrev pub invariant-loop-out : goal.invariant-loop-out
-invariant-loop-out l = Listed l.layout l.sheet l.from l.initial.out l.begin l.out l.at l.k l.records
+abbrev pub invariant-loop-entry : goal.invariant-loop-entry
+invariant-loop-entry l = Listed l.layout l.sheet l.from l.initial.out l.begin l.out l.at l.k l.records
 
-abbrev pub decreases-loop-out : goal.decreases-loop-out
-decreases-loop-out l = length l.sheet - l.at
+abbrev pub decreases-loop-entry : goal.decreases-loop-entry
+decreases-loop-entry l = length l.sheet - l.at

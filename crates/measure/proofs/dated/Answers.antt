@@ -1,13 +1,11 @@
 -- `measure::dated` meets its contract. Assumes nothing.
+use mathlib.Core.Logic.{inl, inr}
 use Rattle.measure.proofs.Items.{date_before, date_late, date_on}
 use Rattle.measure.proofs.dated.Goals as goal
 
 pub returns-then-last-first : goal.returns-then-last-first
-returns-then-last-first c = (tt, date_before _ _ _ c.if-last-first.true)
-
-pub returns-then-last-gt65535 : goal.returns-then-last-gt65535
-returns-then-last-gt65535 c =
-    (tt, date_late _ _ _ c.if-last-first.false c.if-last-gt65535.true)
+returns-then-last-first c =
+    (tt, elim c.then-last-first.either [ inl x ↦ date_before _ _ _ x | inr x ↦ date_late _ _ _ x.0 x.1 ])
 
 pub returns : goal.returns
 returns c =

@@ -1,16 +1,13 @@
 -- `measure::ended` meets its contract. Assumes nothing.
 use borrow.Author.Tests.{lt-ltb, le-ltb}
-use mathlib.Core.Path.{◌∙◌}
 use Rattle.format.specs.Bytes.{pick}
 use Rattle.format.specs.Reading.{ended}
 use Rattle.measure.proofs.ended.Goals as goal
 
 pub returns-then-rest-gt1 : goal.returns-then-rest-gt1
 unfolding ended pick
-returns-then-rest-gt1 c =
-    c.stopped.ensures ∙ simp (lt-ltb _ _ c.if-rest-gt1.true)
+returns-then-rest-gt1 c = simp (c.at.ensures, lt-ltb _ _ c.if-rest-gt1.true)
 
 pub returns : goal.returns
 unfolding ended pick
-returns c =
-    c.stopped-2.ensures ∙ simp (le-ltb _ _ c.if-rest-gt1.false)
+returns c = simp (le-ltb _ _ c.if-rest-gt1.false)

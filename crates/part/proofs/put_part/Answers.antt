@@ -5,8 +5,8 @@ use Rattle.part.proofs.Laying.{lays_as, lays_within, lays_then}
 use Rattle.part.proofs.Labels.{part_short, part_long, part_byte}
 use Rattle.part.proofs.put_part.Goals as goal
 
-pub overflow_cast-code : goal.overflow_cast-code
-overflow_cast-code c =
+pub overflow_cast-d : goal.overflow_cast-d
+overflow_cast-d c =
     omega (arith, part_byte c.args.d c.args.a (sym c.if-one_byte.true ∙ c.one_byte.ensures))
 
 pub returns-then-one_byte : goal.returns-then-one_byte

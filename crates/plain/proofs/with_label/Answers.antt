@@ -9,15 +9,13 @@ use Rattle.plain.proofs.with_label.Goals as goal
 pub slice_bounds-name-count : goal.slice_bounds-name-count
 slice_bounds-name-count c = omega (
   arith,
-  (let it : c.label_at.result ≤ c.args.size = let h = rw c.in-Known.is at c.requires.1 in
-      omega (arith, c.label_at.ensures, h) in it),
+  (let it : c.label_at.result ≤ c.args.size = omega (arith, c.label_at.ensures, c.requires.1) in it),
 )
 
 pub slice_bounds-name-start : goal.slice_bounds-name-start
 slice_bounds-name-start c = omega (
   arith,
-  (let it : c.label_at.result ≤ c.args.size = let h = rw c.in-Known.is at c.requires.1 in
-      omega (arith, c.label_at.ensures, h) in it),
+  (let it : c.label_at.result ≤ c.args.size = omega (arith, c.label_at.ensures, c.requires.1) in it),
 )
 
 pub overflow_sub-last : goal.overflow_sub-last
@@ -35,4 +33,4 @@ returns c =
     let l = c.label_at.ensures in
     let k = rw l at c.common_start-kept.ensures in
     let q = rw l at (sym c.one_byte.ensures ∙ c.if-not-one_byte.false) in
-    (refl, c.in-Known.is, k, q)
+    (refl, refl, k, q)

@@ -5,7 +5,7 @@ use Rattle.reach.proofs.Turn.{none_taken, some_taken}
 use Rattle.reach.proofs.answer.Goals as goal
 
 pub returns-then-legs-eq0 : goal.returns-then-legs-eq0
-returns-then-legs-eq0 c = none_taken _ c.args.b c.if-legs-eq0.true
+returns-then-legs-eq0 c = rw c.at.ensures (none_taken _ c.args.b c.if-legs-eq0.true)
 
 pub returns : goal.returns
 returns c =

@@ -35,66 +35,66 @@ short_turn-turn-requires c =
       whole = G.whole;
     }
 
-pub loop-next-smaller-in-Went : goal.loop-next-smaller-in-Went
-loop-next-smaller-in-Went c =
-    let S = rw (c.in-Went.is, c.is_on-strict.ensures) at c.short_turn-turn.ensures in
+pub loop-next-smaller-in-Some-Went : goal.loop-next-smaller-in-Some-Went
+loop-next-smaller-in-Some-Went c =
+    let S = rw (c.in-Some-Went.is, (rw c.in-Some-Went.is at c.in-Some-Went.field-0-is), c.is_some-strict.ensures) at c.short_turn-turn.ensures in
     let z = on_went _ _ _ _ _ _ _ _ c.loop-next.invariant _ _ _ S in omega (arith, z.0, z.1)
 
-pub loop-next-preserved-in-Went : goal.loop-next-preserved-in-Went
-loop-next-preserved-in-Went c =
-    let S = rw (c.in-Went.is, c.is_on-strict.ensures) at c.short_turn-turn.ensures in
+pub loop-next-preserved-in-Some-Went : goal.loop-next-preserved-in-Some-Went
+loop-next-preserved-in-Some-Went c =
+    let S = rw (c.in-Some-Went.is, (rw c.in-Some-Went.is at c.in-Some-Went.field-0-is), c.is_some-strict.ensures) at c.short_turn-turn.ensures in
     (on_went _ _ _ _ _ _ _ _ c.loop-next.invariant _ _ _ S).2
 
 pub passed-here-requires : goal.passed-here-requires
 passed-here-requires c =
     omega (arith, (on_stood _ _ _ _ _ _ _ _ c.loop-next.invariant).inside, c.requires.0.fits)
 
-pub loop-next-smaller-in-Trim : goal.loop-next-smaller-in-Trim
-loop-next-smaller-in-Trim c =
-    let S = rw (c.in-Trim.is, c.is_on-strict.ensures) at c.short_turn-turn.ensures in
+pub loop-next-smaller-in-Some-Trim : goal.loop-next-smaller-in-Some-Trim
+loop-next-smaller-in-Some-Trim c =
+    let S = rw (c.in-Some-Trim.is, (rw c.in-Some-Trim.is at c.in-Some-Trim.field-0-is), c.is_some-strict.ensures) at c.short_turn-turn.ensures in
     let z = on_trim _ _ _ _ _ _ _ _ c.loop-next.invariant _ _ _ S in rw c.passed-here.ensures (omega (arith, z.0))
 
-pub loop-next-preserved-in-Trim : goal.loop-next-preserved-in-Trim
-loop-next-preserved-in-Trim c =
-    let S = rw (c.in-Trim.is, c.is_on-strict.ensures) at c.short_turn-turn.ensures in
+pub loop-next-preserved-in-Some-Trim : goal.loop-next-preserved-in-Some-Trim
+loop-next-preserved-in-Some-Trim c =
+    let S = rw (c.in-Some-Trim.is, (rw c.in-Some-Trim.is at c.in-Some-Trim.field-0-is), c.is_some-strict.ensures) at c.short_turn-turn.ensures in
     rw c.passed-here.ensures (on_trim _ _ _ _ _ _ _ _ c.loop-next.invariant _ _ _ S).1
 
 pub any_item-it-requires : goal.any_item-it-requires
 any_item-it-requires c =
     let H = c.loop-next.invariant in
     let G = on_stood _ _ _ _ _ _ _ _ H in
-    let S = rw (c.in-Other.is, c.is_on-strict.ensures) at c.short_turn-turn.ensures in
+    let S = rw (c.in-None.is, c.is_some-strict.ensures) at c.short_turn-turn.ensures in
     let E = on_other _ _ _ _ _ _ _ _ c.loop-next.invariant _ _ S in
     let p = c.requires.0 in
     let o = rw c.outset-stand.ensures at G.out_few in
-    rw (c.before_item-before.ensures, E.1)
+    rw E.1
     (record { short = G.short; whole = ap length E.0 ∙ G.whole; out_few = omega (arith, G.inside, o, p.fits, p.front_few) }, on_ready _ _ _ _ _ _ _ _ H p.fits)
 
-pub returns-in-Bad : goal.returns-in-Bad
-returns-in-Bad c =
-    let S = rw (c.in-Other.is, c.is_on-strict.ensures) at c.short_turn-turn.ensures in
+pub returns-in-Err : goal.returns-in-Err
+returns-in-Err c =
+    let S = rw (c.in-None.is, c.is_some-strict.ensures) at c.short_turn-turn.ensures in
     let E = on_other _ _ _ _ _ _ _ _ c.loop-next.invariant _ _ S in
-    let T = rw (c.in-Bad.is, c.before_item-before.ensures, E.0, E.1) at c.any_item-it.ensures in
-    let z = rw c.outset-stand.ensures at (on_bad _ _ _ _ _ _ _ _ c.loop-next.invariant _ _ _ T) in record { answer = c.refused_at.ensures ∙ z.0; lent = z.1 }
+    let T = rw (c.in-Err.is, E.0, E.1) at c.any_item-it.ensures in
+    let z = rw c.outset-stand.ensures at (on_bad _ _ _ _ _ _ _ _ c.loop-next.invariant _ _ _ T) in record { answer = rw c.at.ensures z.0; lent = z.1 }
 
 pub ended-requires : goal.ended-requires
 ended-requires c =
     omega (arith, (on_stood _ _ _ _ _ _ _ _ c.loop-next.invariant).inside, c.requires.0.fits)
 
-pub returns-in-End : goal.returns-in-End
-returns-in-End c =
-    let S = rw (c.in-Other.is, c.is_on-strict.ensures) at c.short_turn-turn.ensures in
+pub returns-in-Ok-End : goal.returns-in-Ok-End
+returns-in-Ok-End c =
+    let S = rw (c.in-None.is, c.is_some-strict.ensures) at c.short_turn-turn.ensures in
     let E = on_other _ _ _ _ _ _ _ _ c.loop-next.invariant _ _ S in
-    let T = rw (c.in-End.is, c.before_item-before.ensures, E.0, E.1) at c.any_item-it.ensures in
+    let T = rw (c.in-Ok-End.is, (rw c.in-Ok-End.is at c.in-Ok-End.field-0-is), E.0, E.1) at c.any_item-it.ensures in
     let z = rw c.outset-stand.ensures at (on_end _ _ _ _ _ _ _ _ c.loop-next.invariant _ _ T) in record { answer = c.ended.ensures ∙ z.0; lent = z.1 }
 
 pub ahead-here-requires : goal.ahead-here-requires
 ahead-here-requires c =
     let H = c.loop-next.invariant in
     let G = on_stood _ _ _ _ _ _ _ _ H in
-    let S = rw (c.in-Other.is, c.is_on-strict.ensures) at c.short_turn-turn.ensures in
+    let S = rw (c.in-None.is, c.is_some-strict.ensures) at c.short_turn-turn.ensures in
     let E = on_other _ _ _ _ _ _ _ _ c.loop-next.invariant _ _ S in
-    let T = rw (c.in-Went-it.is, c.before_item-before.ensures, E.0, E.1) at c.any_item-it.ensures in
+    let T = rw (c.in-Ok-Went.is, (rw c.in-Ok-Went.is at c.in-Ok-Went.field-0-is), E.0, E.1) at c.any_item-it.ensures in
     let z = on_item _ _ _ _ _ _ _ _ H _ _ _ _ _ T in
     let p = c.requires.0 in
     let o = rw c.outset-stand.ensures at G.out_few in
@@ -102,15 +102,15 @@ ahead-here-requires c =
 
 pub loop-next-smaller : goal.loop-next-smaller
 loop-next-smaller c =
-    let S = rw (c.in-Other.is, c.is_on-strict.ensures) at c.short_turn-turn.ensures in
+    let S = rw (c.in-None.is, c.is_some-strict.ensures) at c.short_turn-turn.ensures in
     let E = on_other _ _ _ _ _ _ _ _ c.loop-next.invariant _ _ S in
-    let T = rw (c.in-Went-it.is, c.before_item-before.ensures, E.0, E.1) at c.any_item-it.ensures in
+    let T = rw (c.in-Ok-Went.is, (rw c.in-Ok-Went.is at c.in-Ok-Went.field-0-is), E.0, E.1) at c.any_item-it.ensures in
     let z = on_item _ _ _ _ _ _ _ _ c.loop-next.invariant _ _ _ _ _ T in
     rw c.ahead-here.ensures (omega (arith, z.0, z.1))
 
 pub loop-next-preserved : goal.loop-next-preserved
 loop-next-preserved c =
-    let S = rw (c.in-Other.is, c.is_on-strict.ensures) at c.short_turn-turn.ensures in
+    let S = rw (c.in-None.is, c.is_some-strict.ensures) at c.short_turn-turn.ensures in
     let E = on_other _ _ _ _ _ _ _ _ c.loop-next.invariant _ _ S in
-    let T = rw (c.in-Went-it.is, c.before_item-before.ensures, E.0, E.1) at c.any_item-it.ensures in
+    let T = rw (c.in-Ok-Went.is, (rw c.in-Ok-Went.is at c.in-Ok-Went.field-0-is), E.0, E.1) at c.any_item-it.ensures in
     rw c.ahead-here.ensures (on_item _ _ _ _ _ _ _ _ c.loop-next.invariant _ _ _ _ _ T).4

@@ -1,15 +1,16 @@
 -- `read::read` meets its contract. Assumes nothing.
-use mathlib.Core.Path.{sym}
+use mathlib.Core.Path.{◌≡◌, sym}
+use Rattle.std.specs.Prelude.{Err}
+use borrow.Author.Rules.{rules}
 use Rattle.read.proofs.Whole.{read_shut}
 use Rattle.read.proofs.read.Goals as goal
 
 pub read_items-requires : goal.read_items-requires
 read_items-requires c =
-    let T = c.opening-head.ensures in
-    let e = c.in-Whole.is in
-    record { due = sym (rw e at T.same); room = rw e at T.room }
+    let T = rw c.in_ok-head.was at c.opening.ensures in record { due = sym T.same; room = T.room }
 
-pub returns-in-Shut : goal.returns-in-Shut
-returns-in-Shut c =
-    let T = c.opening-head.ensures in
-    let r = read_shut _ _ _ _ (rw c.in-Shut.is at T.same) in record { answer = r.answer; sheet = r.buffer }
+pub returns-in_err-head : goal.returns-in_err-head
+returns-in_err-head c =
+    let T = rw c.in_err-head.was at c.opening.ensures in
+    let e : c.from_residual.result ≡ Err c.in_err-head.field-0.0 = search rules in
+    let r = read_shut _ _ _ T.same in rw e (record { answer = r.answer; sheet = r.buffer })

@@ -1,11 +1,7 @@
 -- `sha256::compress` meets its contract. Assumes nothing.
-use Rattle.std.proofs.Common.{◌+◌, ◌≤◌, length, refl, ap, ◌∙◌, arith}
-use Rattle.sha256.proofs.Rounds.{constants_length, going_first, going_on, rounds_done}
+use Rattle.std.proofs.Common.{◌+◌, ◌≤◌, refl, arith}
+use Rattle.sha256.proofs.Rounds.{going_first, going_on, rounds_done}
 use Rattle.sha256.proofs.compress.Goals as goal
-
-pub early_rounds-s-requires : goal.early_rounds-s-requires
-early_rounds-s-requires c =
-    (ap length c.requires.0 ∙ constants_length, c.spread-w.ensures.0)
 
 pub loop-t-init : goal.loop-t-init
 loop-t-init c =

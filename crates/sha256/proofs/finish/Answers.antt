@@ -6,7 +6,7 @@ pub close-last-requires : goal.close-last-requires
 close-last-requires c = (
   c.table-k.ensures,
   rest_length c.args.block.now
-      c.waiting-held.result _ c.full_block.ensures.1
+      c.waiting-held.result _ c.told-block
       c.waiting-held.ensures.0,
 )
 

@@ -8,4 +8,4 @@ returns c =
     c.args.n _ _
     c.requires
     c.high_bits.ensures c.low_bits.ensures
-    c.lay_word.ensures c.lay_word-2.ensures
+    c.lay_be32.ensures c.lay_be32-2.ensures

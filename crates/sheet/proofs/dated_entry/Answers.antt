@@ -1,9 +1,8 @@
 -- `sheet::dated_entry` meets its contract. Assumes nothing.
 use borrow.Author.Tests.{le-leb, lt-leb}
-use native.Mathlib.Omega.{arith}
 use mathlib.Core.Path.{◌≡◌, sym, ◌∙◌}
 use borrow.Author.Rules.{part_to_end}
-use lib.ListN.{drop, length-drop}
+use lib.ListN.{drop}
 use Rattle.format.specs.Bytes.{be16}
 use Rattle.sheet.proofs.Entries.{Fitting, fitted, too_long_lem, spoilt, whole, section_is}
 use Rattle.sheet.proofs.dated_entry.Goals as goal
@@ -31,55 +30,6 @@ pub returns-then-not-label_fits : goal.returns-then-not-label_fits
 returns-then-not-label_fits c =
     too_long_lem (section_is _ _) (sym c.label_fits.ensures ∙ c.if-not-label_fits.true)
 
-pub bounds-s-3 : goal.bounds-s-3
-bounds-s-3 c =
-    omega (arith, (let it : Fitting c.args.s.now c.args.n 23 = fitted c.label_fits.ensures c.if-not-label_fits.false c.requires in it))
-
 pub returns-then-last-gt1 : goal.returns-then-last-gt1
 returns-then-last-gt1 c =
     spoilt (section_is _ _) ((let it : Fitting c.args.s.now c.args.n 23 = fitted c.label_fits.ensures c.if-not-label_fits.false c.requires in it)) (simp (lt-leb _ _ c.if-last-gt1.true))
-
-pub slice_bounds-get_be16-count : goal.slice_bounds-get_be16-count
-slice_bounds-get_be16-count c =
-    omega (arith, (let it : Fitting c.args.s.now c.args.n 23 = fitted c.label_fits.ensures c.if-not-label_fits.false c.requires in it))
-
-pub slice_bounds-get_be16-start : goal.slice_bounds-get_be16-start
-slice_bounds-get_be16-start c =
-    omega (arith, (let it : Fitting c.args.s.now c.args.n 23 = fitted c.label_fits.ensures c.if-not-label_fits.false c.requires in it))
-
-pub get_be16-requires : goal.get_be16-requires
-get_be16-requires c =
-    simp (part_to_end, length-drop) (omega (arith, (let it : Fitting c.args.s.now c.args.n 23 = fitted c.label_fits.ensures c.if-not-label_fits.false c.requires in it)))
-
-pub slice_bounds-get_be16-count-2 : goal.slice_bounds-get_be16-count-2
-slice_bounds-get_be16-count-2 c =
-    omega (arith, (let it : Fitting c.args.s.now c.args.n 23 = fitted c.label_fits.ensures c.if-not-label_fits.false c.requires in it))
-
-pub slice_bounds-get_be16-start-2 : goal.slice_bounds-get_be16-start-2
-slice_bounds-get_be16-start-2 c =
-    omega (arith, (let it : Fitting c.args.s.now c.args.n 23 = fitted c.label_fits.ensures c.if-not-label_fits.false c.requires in it))
-
-pub get_be16-requires-2 : goal.get_be16-requires-2
-get_be16-requires-2 c =
-    simp (part_to_end, length-drop) (omega (arith, (let it : Fitting c.args.s.now c.args.n 23 = fitted c.label_fits.ensures c.if-not-label_fits.false c.requires in it)))
-
-pub bounds-s-4 : goal.bounds-s-4
-bounds-s-4 c =
-    omega (arith, (let it : Fitting c.args.s.now c.args.n 23 = fitted c.label_fits.ensures c.if-not-label_fits.false c.requires in it))
-
-pub bounds-s-4-2 : goal.bounds-s-4-2
-bounds-s-4-2 c =
-    omega (arith, (let it : Fitting c.args.s.now c.args.n 23 = fitted c.label_fits.ensures c.if-not-label_fits.false c.requires in it))
-
-pub slice_bounds-dimensions-count : goal.slice_bounds-dimensions-count
-slice_bounds-dimensions-count c =
-    omega (arith, (let it : Fitting c.args.s.now c.args.n 23 = fitted c.label_fits.ensures c.if-not-label_fits.false c.requires in it))
-
-pub slice_bounds-dimensions-start : goal.slice_bounds-dimensions-start
-slice_bounds-dimensions-start c =
-    omega (arith, (let it : Fitting c.args.s.now c.args.n 23 = fitted c.label_fits.ensures c.if-not-label_fits.false c.requires in it))
-
-pub dimensions-size-requires : goal.dimensions-size-requires
-dimensions-size-requires c =
-    simp (part_to_end, length-drop) (omega
-    (arith, (let it : Fitting c.args.s.now c.args.n 23 = fitted c.label_fits.ensures c.if-not-label_fits.false c.requires in it)))

@@ -1,20 +1,19 @@
 -- `sheet::read_entry` meets its contract: each arm hands on what the function of its kind tells. Assumes nothing.
 use Rattle.sheet.proofs.Entries.{unframed, kind_leg, kind_station, kind_section, kind_error, kind_other, entry_told}
-use native.Mathlib.Omega.{arith}
-use Prim.Native.Nat.{ℕ, ◌+◌, ◌≤◌}
+use Prim.Native.Nat.{ℕ}
 use mathlib.Core.Path.{◌≡◌, sym, ◌∙◌}
 use mathlib.Core.Bool.{true}
 use mathlib.Core.List.{List}
-use lib.ListN.{length, drop}
+use Rattle.std.specs.Prelude.{Option}
+use lib.ListN.{drop}
 use Rattle.format.specs.Bytes.{be16, Bytes}
 use Rattle.format.specs.Sheet.{Entry, framed, leg_entry, station_entry, section_in, error_entry, entry_of}
-use Rattle.format.proofs.SheetLaws.{frame}
 use Rattle.sheet.specs.Seen.{Told, EntryTold}
 use Rattle.sheet.specs.declared.Entry.{Entry as Found}
 use Rattle.sheet.proofs.read_entry.Goals as goal
 
 -- what is told of a body of n bytes of its kind is told of the record
-told_at : (version : ℕ) (s : List ℕ) → Bytes s → (n : ℕ) → n ≡ be16 s → (r : Found) (f : ℕ → Entry) → Told r s (f n)
+told_at : (version : ℕ) (s : List ℕ) → Bytes s → (n : ℕ) → n ≡ be16 s → (r : Option Found) (f : ℕ → Entry) → Told r s (f n)
     → f (be16 s) ≡ entry_of version s → EntryTold r version s
 told_at version s b n size r f T e = entry_told version s b r (rw (size, e) at T)
 
@@ -27,17 +26,11 @@ returns-then-not-is_framed c =
       formed = tt;
     }
 
-pub leg_entry-requires : goal.leg_entry-requires
-leg_entry-requires c = (let it : 2 + c.size_of-n.result ≤ length c.args.s.now = omega (arith, (let it : c.size_of-n.result ≡ be16 c.args.s.now = c.size_of-n.ensures ∙ c.get_be16.ensures.0 in it), frame _ ((let it : framed c.args.s.now ≡ true = sym c.is_framed.ensures ∙ c.if-not-is_framed.false in it))) in it)
-
 pub returns-then-kind-eq1 : goal.returns-then-kind-eq1
 returns-then-kind-eq1 c =
     told_at _ _ (λ i. (c.type_inv.s i).fits) _ (c.size_of-n.ensures ∙ c.get_be16.ensures.0) c.leg_entry.result
     (λ n. leg_entry n (drop 2 c.args.s.now)) c.leg_entry.ensures
     (kind_leg _ _ ((let it : framed c.args.s.now ≡ true = sym c.is_framed.ensures ∙ c.if-not-is_framed.false in it)) c.if-kind-eq1.true)
-
-pub station_entry-requires : goal.station_entry-requires
-station_entry-requires c = (let it : 2 + c.size_of-n.result ≤ length c.args.s.now = omega (arith, (let it : c.size_of-n.result ≡ be16 c.args.s.now = c.size_of-n.ensures ∙ c.get_be16.ensures.0 in it), frame _ ((let it : framed c.args.s.now ≡ true = sym c.is_framed.ensures ∙ c.if-not-is_framed.false in it))) in it)
 
 pub returns-then-kind-eq2 : goal.returns-then-kind-eq2
 returns-then-kind-eq2 c =
@@ -45,18 +38,12 @@ returns-then-kind-eq2 c =
     (λ n. station_entry n (drop 2 c.args.s.now)) c.station_entry.ensures
     (kind_station _ _ ((let it : framed c.args.s.now ≡ true = sym c.is_framed.ensures ∙ c.if-not-is_framed.false in it)) c.if-kind-eq2.true)
 
-pub section_entry-requires : goal.section_entry-requires
-section_entry-requires c = (let it : 2 + c.size_of-n.result ≤ length c.args.s.now = omega (arith, (let it : c.size_of-n.result ≡ be16 c.args.s.now = c.size_of-n.ensures ∙ c.get_be16.ensures.0 in it), frame _ ((let it : framed c.args.s.now ≡ true = sym c.is_framed.ensures ∙ c.if-not-is_framed.false in it))) in it)
-
 pub returns-then-kind-eq3 : goal.returns-then-kind-eq3
 returns-then-kind-eq3 c =
     told_at _ _ (λ i. (c.type_inv.s i).fits) _ (c.size_of-n.ensures ∙ c.get_be16.ensures.0) c.section_entry.result
     (λ n. section_in c.args.version n
     (drop 2 c.args.s.now)) c.section_entry.ensures
     (kind_section _ _ ((let it : framed c.args.s.now ≡ true = sym c.is_framed.ensures ∙ c.if-not-is_framed.false in it)) c.if-kind-eq3.true)
-
-pub error_entry-requires : goal.error_entry-requires
-error_entry-requires c = (let it : 2 + c.size_of-n.result ≤ length c.args.s.now = omega (arith, (let it : c.size_of-n.result ≡ be16 c.args.s.now = c.size_of-n.ensures ∙ c.get_be16.ensures.0 in it), frame _ ((let it : framed c.args.s.now ≡ true = sym c.is_framed.ensures ∙ c.if-not-is_framed.false in it))) in it)
 
 pub returns-then-kind-eq4 : goal.returns-then-kind-eq4
 returns-then-kind-eq4 c =
@@ -72,11 +59,3 @@ returns c =
       inside = tt;
       formed = tt;
     }
-
-pub get_be16-requires : goal.get_be16-requires
-get_be16-requires c =
-    omega (arith, frame _ ((let it : framed c.args.s.now ≡ true = sym c.is_framed.ensures ∙ c.if-not-is_framed.false in it)))
-
-pub bounds-s-2 : goal.bounds-s-2
-bounds-s-2 c =
-    omega (arith, frame _ ((let it : framed c.args.s.now ≡ true = sym c.is_framed.ensures ∙ c.if-not-is_framed.false in it)))

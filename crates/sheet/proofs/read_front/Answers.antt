@@ -30,21 +30,6 @@ returns-then-n-lt4 c =
     (rw ((let it : c.size_of-n.result ≡ be16
     (drop 1 c.args.sheet.now) = c.size_of-n.ensures ∙ simp part_to_end at c.get_be16.ensures.0 in it)) at c.if-n-lt4.true)
 
-pub header-requires : goal.header-requires
-header-requires c =
-    simp (part_to_end, length-drop) (
-      c.if-n-lt4.false,
-      omega (
-        arith,
-        (let it : (3 ≤ length (drop 1 c.args.sheet.now))
-            × (3 + be16 (drop 1 c.args.sheet.now) ≤ length
-            c.args.sheet.now) = let f = frame _ ((let it : framed (drop 1 c.args.sheet.now) ≡ true = simp part_to_end at (sym c.is_framed.ensures ∙ c.if-not-is_framed.false) in it)) in let l = length-drop 1 c.args.sheet.now in
-            (f.length_there, omega arith) in it),
-        (let it : c.size_of-n.result ≡ be16
-            (drop 1 c.args.sheet.now) = c.size_of-n.ensures ∙ simp part_to_end at c.get_be16.ensures.0 in it),
-      ),
-    )
-
 pub returns : goal.returns
 returns c =
     let e = (let it : c.size_of-n.result ≡ be16
@@ -56,33 +41,3 @@ returns c =
     c.args.sheet.now) = let f = frame _ ((let it : framed (drop 1 c.args.sheet.now) ≡ true = simp part_to_end at (sym c.is_framed.ensures ∙ c.if-not-is_framed.false) in it)) in let l = length-drop 1 c.args.sheet.now in
     (f.length_there, omega arith) in it)).1 c.header.result
     (rw e at (simp part_to_end at c.header.ensures))
-
-pub get_be16-requires : goal.get_be16-requires
-get_be16-requires c =
-    simp part_to_end (omega (
-      arith,
-      (let it : (3 ≤ length (drop 1 c.args.sheet.now))
-          × (3 + be16 (drop 1 c.args.sheet.now) ≤ length
-          c.args.sheet.now) = let f = frame _ ((let it : framed (drop 1 c.args.sheet.now) ≡ true = simp part_to_end at (sym c.is_framed.ensures ∙ c.if-not-is_framed.false) in it)) in let l = length-drop 1 c.args.sheet.now in
-          (f.length_there, omega arith) in it),
-    ))
-
-pub slice_bounds-header-count : goal.slice_bounds-header-count
-slice_bounds-header-count c =
-    omega (
-      arith,
-      (let it : (3 ≤ length (drop 1 c.args.sheet.now))
-          × (3 + be16 (drop 1 c.args.sheet.now) ≤ length
-          c.args.sheet.now) = let f = frame _ ((let it : framed (drop 1 c.args.sheet.now) ≡ true = simp part_to_end at (sym c.is_framed.ensures ∙ c.if-not-is_framed.false) in it)) in let l = length-drop 1 c.args.sheet.now in
-          (f.length_there, omega arith) in it),
-    )
-
-pub slice_bounds-header-start : goal.slice_bounds-header-start
-slice_bounds-header-start c =
-    omega (
-      arith,
-      (let it : (3 ≤ length (drop 1 c.args.sheet.now))
-          × (3 + be16 (drop 1 c.args.sheet.now) ≤ length
-          c.args.sheet.now) = let f = frame _ ((let it : framed (drop 1 c.args.sheet.now) ≡ true = simp part_to_end at (sym c.is_framed.ensures ∙ c.if-not-is_framed.false) in it)) in let l = length-drop 1 c.args.sheet.now in
-          (f.length_there, omega arith) in it),
-    )

@@ -1,9 +1,7 @@
 -- `sheet::undated_entry` meets its contract. Assumes nothing.
 use borrow.Author.Tests.{le-leb, lt-leb}
-use native.Mathlib.Omega.{arith}
 use mathlib.Core.Path.{sym, ◌∙◌}
 use borrow.Author.Rules.{part_to_end}
-use lib.ListN.{length-drop}
 use Rattle.sheet.proofs.Entries.{Fitting, fitted, too_long_lem, spoilt, whole, undated_is}
 use Rattle.sheet.proofs.undated_entry.Goals as goal
 
@@ -11,25 +9,9 @@ pub returns-then-not-label_fits : goal.returns-then-not-label_fits
 returns-then-not-label_fits c =
     too_long_lem (undated_is _ _) (sym c.label_fits.ensures ∙ c.if-not-label_fits.true)
 
-pub bounds-s-3 : goal.bounds-s-3
-bounds-s-3 c =
-    omega (arith, (let it : Fitting c.args.s.now c.args.n 18 = fitted c.label_fits.ensures c.if-not-label_fits.false c.requires in it))
-
 pub returns-then-last-gt1 : goal.returns-then-last-gt1
 returns-then-last-gt1 c =
     spoilt (undated_is _ _) ((let it : Fitting c.args.s.now c.args.n 18 = fitted c.label_fits.ensures c.if-not-label_fits.false c.requires in it)) (lt-leb _ _ c.if-last-gt1.true)
-
-pub slice_bounds-dimensions-count : goal.slice_bounds-dimensions-count
-slice_bounds-dimensions-count c =
-    omega (arith, (let it : Fitting c.args.s.now c.args.n 18 = fitted c.label_fits.ensures c.if-not-label_fits.false c.requires in it))
-
-pub slice_bounds-dimensions-start : goal.slice_bounds-dimensions-start
-slice_bounds-dimensions-start c =
-    omega (arith, (let it : Fitting c.args.s.now c.args.n 18 = fitted c.label_fits.ensures c.if-not-label_fits.false c.requires in it))
-
-pub dimensions-size-requires : goal.dimensions-size-requires
-dimensions-size-requires c =
-    simp (part_to_end, length-drop) (omega (arith, (let it : Fitting c.args.s.now c.args.n 18 = fitted c.label_fits.ensures c.if-not-label_fits.false c.requires in it)))
 
 pub returns : goal.returns
 returns c =

@@ -13,15 +13,15 @@ returns-then-code-gt95 c =
 
 pub returns-then-code-lt52 : goal.returns-then-code-lt52
 returns-then-code-lt52 c =
-    let L = rw c.in-Brief.is at c.new_part-p.ensures in
+    let L = rw c.in-Some.is at c.new_part-p.ensures in
     λ version v. new_section_lem version c.args.s.now c.args.len _ _ (omega (arith, c.if-s-lt33.false)) v L (omega (arith, c.if-code-lt48.false)) (omega (arith, c.if-code-lt52.true))
 
 pub returns-then-code-lt72 : goal.returns-then-code-lt72
 returns-then-code-lt72 c =
-    let L = rw c.in-Brief.is at c.new_part-p.ensures in
+    let L = rw c.in-Some.is at c.new_part-p.ensures in
     λ version v. new_line version c.args.s.now c.args.len _ _ (omega (arith, c.if-s-lt33.false)) v L (omega (arith, c.if-code-lt64.false)) (omega (arith, c.if-code-lt72.true))
 
 pub returns : goal.returns
 returns c =
-    let L = rw c.in-Brief.is at c.new_part-p.ensures in
+    let L = rw c.in-Some.is at c.new_part-p.ensures in
     λ version v. new_station_lem version c.args.s.now c.args.len _ _ (omega (arith, c.if-s-lt33.false)) v L (omega (arith, c.if-code-lt128-2.false))

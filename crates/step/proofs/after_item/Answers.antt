@@ -19,11 +19,6 @@ record_step-requires c =
     let W = rw c.in-Made.is at c.requires.0 in
     rw c.behind-next-in-Made.ensures (W.1, c.requires.1)
 
-pub returns-in-Bad : goal.returns-in-Bad
-returns-in-Bad c =
-    let S = c.last_step.ensures in
-    rw c.in-Bad.is (S.0, S.1, refl)
-
 pub returns-in-End : goal.returns-in-End
 returns-in-End c =
     rw c.in-End.is (c.end_step.ensures, refl)

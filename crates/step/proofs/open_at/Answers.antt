@@ -4,14 +4,10 @@ use Rattle.format.specs.Stepping.{open_stand}
 use Rattle.step.proofs.Laws.{opens_shut, opens_at}
 use Rattle.step.proofs.open_at.Goals as goal
 
-pub returns-in-Refused : goal.returns-in-Refused
+pub returns-in-Err : goal.returns-in-Err
 unfolding open_stand
-returns-in-Refused c =
-    let O = (rw c.in-Refused.is at c.opened-o.ensures) in
-    opens_shut _ _ (opening_of c.args.file.now) _ _ _ O c.fresh.ensures
+returns-in-Err c = opens_shut _ (opening_of c.args.file.now) _ _ _ c.in-Err.ensures c.fresh.ensures
 
-pub returns-in-At : goal.returns-in-At
+pub returns-in-Ok : goal.returns-in-Ok
 unfolding open_stand
-returns-in-At c =
-    let O = (rw c.in-At.is at c.opened-o.ensures) in
-    opens_at _ _ (opening_of c.args.file.now) _ O c.fresh-in-At.ensures
+returns-in-Ok c = opens_at _ _ (opening_of c.args.file.now) _ c.in-Ok.ensures c.fresh-in-Ok.ensures

@@ -12,4 +12,4 @@ returns-in-Ended c =
 
 pub returns-in-Refused : goal.returns-in-Refused
 returns-in-Refused c =
-    stands_refused c.args.stand _ _ _ _ _ c.in-Refused.is
+    stands_refused c.args.stand _ _ _ _ c.in-Refused.is

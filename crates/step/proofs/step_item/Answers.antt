@@ -2,7 +2,7 @@
 use native.Mathlib.Omega.{arith}
 use mathlib.Core.Path.{ap}
 use lib.ListN.{length}
-use Rattle.step.proofs.Laws.{lesser_most, rest_is, step_lacks, step_within, step_after_lem}
+use Rattle.step.proofs.Laws.{lesser_most, rest_is, step_lacks, step_within, step_refused, step_after_lem}
 use Rattle.step.proofs.step_item.Goals as goal
 
 pub slice_bounds-rest-count : goal.slice_bounds-rest-count
@@ -17,23 +17,28 @@ pub room_for-room-requires : goal.room_for-room-requires
 room_for-room-requires c =
     (omega (arith, c.lesser-old.ensures, lesser_most c.args.stand.len 4096), c.requires.1)
 
-pub returns-in-Lacks : goal.returns-in-Lacks
-returns-in-Lacks c =
-    let q = rw (c.in-Lacks.is, c.lesser-at.ensures, c.lesser-old.ensures) at c.room_for-room.ensures in
-    step_lacks c.args.stand _ _ _ c.requires.0 c.requires.1 _ q
+pub returns-in-Err : goal.returns-in-Err
+returns-in-Err c =
+    let q = rw (c.in-Err.is, c.lesser-at.ensures, c.lesser-old.ensures) at c.room_for-room.ensures in
+    rw c.at.ensures (step_lacks c.args.stand _ _ _ c.requires.0 c.requires.1 _ q)
 
-pub take_item-it-requires : goal.take_item-it-requires
-take_item-it-requires c =
+pub take_item-requires : goal.take_item-requires
+take_item-requires c =
     (omega (arith, c.lesser-old.ensures, lesser_most c.args.stand.len 4096), c.requires.1)
 
 pub after_item-requires : goal.after_item-requires
 after_item-requires c =
-    let T = rw (c.lesser-at.ensures, c.lesser-old.ensures) at c.take_item-it.ensures.0 in
+    let T = rw (c.lesser-at.ensures, c.lesser-old.ensures) at c.in-Ok.ensures.0 in
     (step_within c.args.stand _ c.args.file.now c.args.out.now c.requires.0 c.requires.1 _ _ T (omega (arith, c.well_formed)), T.whole)
 
-pub returns : goal.returns
-returns c =
-    let T = rw (c.lesser-at.ensures, c.lesser-old.ensures) at c.take_item-it.ensures.0 in
-    let K = rw (c.lesser-at.ensures, c.lesser-old.ensures) at c.take_item-it.ensures.1 in
+pub returns-in-Err-take_item : goal.returns-in-Err-take_item
+returns-in-Err-take_item c =
+    let T = rw (c.lesser-at.ensures, c.lesser-old.ensures) at c.in-Err-take_item.ensures.0 in
+    step_refused c.args.stand _ _ _ c.requires.0 c.requires.1 _ _ T _ (rw c.at-in-Err-take_item.ensures at c.refused_step.ensures)
+
+pub returns-in-Ok : goal.returns-in-Ok
+returns-in-Ok c =
+    let T = rw (c.lesser-at.ensures, c.lesser-old.ensures) at c.in-Ok.ensures.0 in
+    let K = rw (c.lesser-at.ensures, c.lesser-old.ensures) at c.in-Ok.ensures.1 in
     let q = rw (c.in_default.is, c.lesser-at.ensures, c.lesser-old.ensures) at c.room_for-room.ensures in
     step_after_lem c.args.stand _ _ _ c.requires.0 c.requires.1 _ _ T K q _ (rw c.lesser-at.ensures (ap length (rest_is c.args.stand c.args.bytes.now c.args.file.now c.args.out.now c.requires.0 c.requires.1))) _ _ c.after_item.ensures

@@ -8,10 +8,10 @@ use Rattle.steplister.proofs.Onward.{bytes_left}
 use Rattle.steplister.proofs.Turn.{Going}
 use Rattle.steplister.proofs.gather.Given as goal
 
-abbrev pub invariant-loop-size : goal.invariant-loop-size
-invariant-loop-size l =
+abbrev pub invariant-loop-answer : goal.invariant-loop-answer
+invariant-loop-answer l =
     Going l.file l.initial.sheet l.front (stand_seen l.stand l.label.bytes) l.bytes l.sheet × (length l.held ≡ length l.initial.held) × (record_limit ≤ length l.held)
 
-abbrev pub decreases-loop-size : goal.decreases-loop-size
-decreases-loop-size l =
+abbrev pub decreases-loop-answer : goal.decreases-loop-answer
+decreases-loop-answer l =
     bytes_left (stand_seen l.stand l.label.bytes) l.file

@@ -14,31 +14,31 @@ slice_bounds-other_size-count c = omega (arith, c.loop-at.invariant.inside)
 pub slice_bounds-other_size-start : goal.slice_bounds-other_size-start
 slice_bounds-other_size-start c = omega (arith, c.loop-at.invariant.inside)
 
-pub returns-then-size-eq0 : goal.returns-then-size-eq0
-returns-then-size-eq0 c =
-    walked_flawed c.loop-at.invariant c.loop-at-test.true _ (simp part_to_end at c.other_size-size.ensures) c.if-size-eq0.true
+pub returns-in_default : goal.returns-in_default
+returns-in_default c =
+    rw c.at.ensures (walked_flawed c.loop-at.invariant c.loop-at-test.true (simp part_to_end at c.in_default.ensures))
 
 pub overflow_add-number : goal.overflow_add-number
 overflow_add-number c =
     let W = c.loop-at.invariant in
-    let z = walked_size W _ ((let it : There c.args.version (drop c.loop-at.at c.args.s.now) c.other_size-size.result = there _ _ _ (simp part_to_end at c.other_size-size.ensures) c.if-size-eq0.false in it)) in
+    let z = walked_size W _ ((let it : There c.args.version (drop c.loop-at.at c.args.s.now) c.in-Some.size = there _ _ _ (simp part_to_end at c.in-Some.ensures) in it)) in
     omega (arith, W.early, W.inside, z.0, z.1, c.well_formed)
 
 pub overflow_add-at : goal.overflow_add-at
 overflow_add-at c =
     let W = c.loop-at.invariant in
-    let z = walked_size W _ ((let it : There c.args.version (drop c.loop-at.at c.args.s.now) c.other_size-size.result = there _ _ _ (simp part_to_end at c.other_size-size.ensures) c.if-size-eq0.false in it)) in
+    let z = walked_size W _ ((let it : There c.args.version (drop c.loop-at.at c.args.s.now) c.in-Some.size = there _ _ _ (simp part_to_end at c.in-Some.ensures) in it)) in
     omega (arith, W.early, W.inside, z.0, z.1, c.well_formed)
 
 pub loop-at-smaller : goal.loop-at-smaller
 loop-at-smaller c =
     let W = c.loop-at.invariant in
-    let z = walked_size W _ ((let it : There c.args.version (drop c.loop-at.at c.args.s.now) c.other_size-size.result = there _ _ _ (simp part_to_end at c.other_size-size.ensures) c.if-size-eq0.false in it)) in
+    let z = walked_size W _ ((let it : There c.args.version (drop c.loop-at.at c.args.s.now) c.in-Some.size = there _ _ _ (simp part_to_end at c.in-Some.ensures) in it)) in
     omega (arith, W.early, W.inside, z.0, z.1, c.well_formed)
 
 pub loop-at-preserved : goal.loop-at-preserved
 loop-at-preserved c =
-    walked_next c.loop-at.invariant _ ((let it : There c.args.version (drop c.loop-at.at c.args.s.now) c.other_size-size.result = there _ _ _ (simp part_to_end at c.other_size-size.ensures) c.if-size-eq0.false in it))
+    walked_next c.loop-at.invariant _ ((let it : There c.args.version (drop c.loop-at.at c.args.s.now) c.in-Some.size = there _ _ _ (simp part_to_end at c.in-Some.ensures) in it))
 
 pub returns : goal.returns
 returns c = walked_end c.loop-at.invariant c.loop-at-test.false

@@ -1,5 +1,5 @@
 -- `summary::mark_of` meets its contract. Assumes nothing.
-use Rattle.std.proofs.Common.{sym, arith, eq-eqb, ne_eqb}
+use Rattle.std.proofs.Common.{sym, ◌∙◌, arith, eq-eqb, ne_eqb}
 use Rattle.format.proofs.SummaryWords.{is_one}
 use Rattle.summary.proofs.mark_of.Goals as goal
 
@@ -12,4 +12,4 @@ bounds-s-3 c =
 
 pub returns : goal.returns
 returns c =
-    simp (eq-eqb _ _ c.if-s-ne2.false) (sym (is_one _ (omega arith)))
+    c.from.ensures ∙ simp (eq-eqb _ _ c.if-s-ne2.false) (sym (is_one _ (omega arith)))

@@ -1,8 +1,8 @@
 -- `summary::put_marks` meets its contract. Assumes nothing.
+use Rattle.format.specs.Refusals.{Good}
 use Rattle.std.proofs.Common.{◌≡◌, ℕ, ◌-◌, false, length, get_or, drop}
 use Rattle.format.specs.Sheet.{records_of}
 use Rattle.format.specs.Summary.{one, marks_in}
-use Rattle.format.specs.declared.Verdict.TheVariants.{Good}
 use Rattle.summary.specs.Bits.{Put}
 use Rattle.summary.proofs.Walk.{Walked}
 use Rattle.summary.proofs.put_marks.Given as goal

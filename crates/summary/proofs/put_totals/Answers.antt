@@ -2,13 +2,12 @@
 use Rattle.std.proofs.Common.{◌≡◌, ℕ, ◌+◌, ◌*◌, ◌<◌, ◌≤◌, length, refl, ◌∙◌, subst, arith, length-set, lt-length-set}
 use Rattle.summary.proofs.Sums.{totalled_none, totalled_next, totalled_sum}
 use Rattle.summary.specs.Bits.{sum_to, Totalled}
-use Rattle.summary.proofs.Sums.{totalled_none, totalled_next}
 use Rattle.summary.proofs.put_totals.Goals as goal
 
 pub loop-j-init : goal.loop-j-init
 unfolding sum_to
 loop-j-init c =
-    (omega arith, refl, refl, omega arith, totalled_none c.args.words.now c.args.w)
+    (refl, refl, omega arith, totalled_none c.args.words.now c.args.w)
 
 pub bounds-words-j : goal.bounds-words-j
 bounds-words-j c =
@@ -21,14 +20,13 @@ loop-j-preserved c =
     let h : l.j < w = c.loop-j-test.true in
     let p : w + l.j < length l.words = omega (arith) in
     let g : l.sum + c.ones_of-sum.result ≤ 64 * (l.j + 1) = omega (arith, c.ones_of-sum.ensures.1) in (
-      omega arith,
-      length-set l.words (w + l.j) l.sum ∙ l.invariant.1,
-      totalled_sum l.j l.sum c.ones_of-sum.result h l.invariant.2 l.invariant.4 c.ones_of-sum.ensures.0,
+      length-set l.words (w + l.j) l.sum ∙ l.invariant.0,
+      totalled_sum l.j l.sum c.ones_of-sum.result h l.invariant.1 l.invariant.3 c.ones_of-sum.ensures.0,
       g,
-      totalled_next l.j l.sum h p l.invariant.2 l.invariant.4,
+      totalled_next l.j l.sum h p l.invariant.1 l.invariant.3,
     )
 
 pub returns : goal.returns
 returns c =
     let e : c.loop-j.j ≡ c.args.w = omega (arith, c.loop-j-test.false) in
-    subst (λ (k : ℕ). Totalled c.args.words.now c.loop-j.words c.args.w k) e c.loop-j.invariant.4
+    subst (λ (k : ℕ). Totalled c.args.words.now c.loop-j.words c.args.w k) e c.loop-j.invariant.3

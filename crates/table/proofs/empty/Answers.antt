@@ -1,6 +1,6 @@
 -- `table::empty` meets its contract. Assumes nothing.
 use mathlib.Core.Path.{refl}
-use Rattle.table.proofs.Taking.{good_empty, none_empty}
+use Rattle.table.proofs.NoNames.{good_empty, none_empty}
 use Rattle.table.proofs.empty.Goals as goal
 
 pub returns : goal.returns

@@ -1,39 +1,50 @@
 -- `table::hash_from` meets its contract. Assumes nothing.
-use Prim.Native.Nat.{◌≤◌}
-use mathlib.Core.Path.{refl, sym, ap, ◌∙◌}
+use Prim.Native.Nat.{◌+◌, ◌-◌, ◌*◌, ◌/◌, ◌≤◌, ◌<◌}
+use mathlib.Core.Path.{◌≡◌, refl, sym, ap, ◌∙◌}
 use native.Mathlib.Omega.{arith}
-use borrow.Author.Rules.{part_to_end}
-use lib.ListN.{length, drop_of_length-le}
+use lib.ListN.{length, get_or, drop_of_length-le}
+use lib.Seq.{get_or-drop}
 use Rattle.table.specs.Hash.{mix_of, hash_from}
-use Rattle.table.proofs.Hashing.{hash_four, hash_one}
+use Rattle.table.proofs.Hashing.{hash_word, hash_one}
 use Rattle.table.proofs.hash_from.Goals as goal
 
-pub loop-i-init : goal.loop-i-init
-loop-i-init c = (omega arith, refl)
+pub loop-word-init : goal.loop-word-init
+loop-word-init c = refl
 
-pub loop-i-preserved : goal.loop-i-preserved
-loop-i-preserved c =
-    let l = c.loop-i in
+pub loop-word-preserved : goal.loop-word-preserved
+loop-word-preserved c =
+    let l = c.loop-word in
     let k = c.args.k in
     let s = c.args.name.now in
-    let e = c.mix-h.ensures ∙ ap (mix_of k l.h) (simp part_to_end at c.get_le32.ensures.0) in
-    (omega arith, rw e (sym (hash_four k l.h s l.i (omega arith)) ∙ l.invariant.1))
+    let C = c.as_chunks.ensures in
+    let n : l.word-index < length s / 4 = omega (arith, c.loop-word-test.true, C.front_len) in
+    let e = c.mix-h.ensures ∙ ap (mix_of k l.h) c.get_le32.ensures.0 in
+    rw e (sym (hash_word k l.h s l.word-index _ C.front n) ∙ l.invariant)
 
-pub loop-i-2-init : goal.loop-i-2-init
-loop-i-2-init c = (omega arith, omega arith, c.loop-i.invariant.1)
+pub loop-b-init : goal.loop-b-init
+loop-b-init c =
+    let l = c.loop-word in
+    let s = c.args.name.now in
+    let z : 4 * l.word-index ≡ length s / 4 * 4 + 0 = omega (arith, c.loop-word-test.false, l.auto.word-index-end, c.as_chunks.ensures.front_len) in
+    rw z at l.invariant
 
-pub loop-i-2-preserved : goal.loop-i-2-preserved
-loop-i-2-preserved c =
-    let l = c.loop-i-2 in
+pub loop-b-preserved : goal.loop-b-preserved
+loop-b-preserved c =
+    let l = c.loop-b in
     let k = c.args.k in
     let s = c.args.name.now in
-    let e = c.mix-h-in-loop-i-2.ensures ∙ ap (mix_of k l.h) c.wide.ensures.0 in
-    (omega arith, omega arith, rw e (sym (hash_one k l.h s l.i (omega arith) l.invariant.1) ∙ l.invariant.2))
+    let C = c.as_chunks.ensures in
+    let i = length s / 4 * 4 in
+    let n : l.b-index < length s - i = omega (arith, c.loop-b-test.true, C.back_len) in
+    let g : get_or c.as_chunks.result.1.now l.b-index 0 ≡ get_or s (i + l.b-index) 0 = rw C.back (get_or-drop i s l.b-index 0) in
+    let e = c.mix-h-in-loop-b.ensures ∙ ap (mix_of k l.h) (c.wide.ensures.0 ∙ g) in
+    let d : i + l.b-index + 1 ≡ i + (l.b-index + 1) = omega arith in
+    rw e (sym (hash_one k l.h s (i + l.b-index) (omega arith) (omega arith) ∙ rw d) ∙ l.invariant)
 
 pub returns : goal.returns
 unfolding hash_from
 returns c =
-    let l = c.loop-i-2 in
+    let l = c.loop-b in
     let s = c.args.name.now in
-    let z : length s ≤ l.i = omega arith in
-    rw (drop_of_length-le s z) at l.invariant.2
+    let z : length s ≤ length s / 4 * 4 + l.b-index = omega (arith, c.loop-b-test.false, c.as_chunks.ensures.back_len) in
+    rw (drop_of_length-le s z) at l.invariant

@@ -1,10 +1,6 @@
 -- `table::wipe_all` meets its contract. Assumes nothing.
-use Prim.Native.Nat.{◌-◌, ◌≤◌}
 use Rattle.table.specs.Good.{Blank}
 use Rattle.table.proofs.wipe_all.Given as goal
 
 abbrev pub invariant-loop-i : goal.invariant-loop-i
-invariant-loop-i l = (l.i ≤ l.n) × Blank l.initial.room l.room l.n l.i
-
-abbrev pub decreases-loop-i : goal.decreases-loop-i
-decreases-loop-i l = l.n - l.i
+invariant-loop-i l = Blank l.initial.room l.room l.n l.i

@@ -6,4 +6,4 @@ use Rattle.timeline.proofs.compare.Goals as goal
 pub returns : goal.returns
 unfolding compare_of
 returns c =
-    c.judge.ensures ∙ ap₂ judged c.stamp-one.ensures.0 c.stamp-other.ensures.0
+    c.judge.ensures ∙ ap₂ judged c.stamp.ensures.0 c.stamp-2.ensures.0

@@ -3,25 +3,16 @@ use borrow.Author.Tests.{lt-ltb, le-ltb}
 use Rattle.format.specs.Bytes.{pick}
 use Rattle.timeline.proofs.judge.Goals as goal
 
-pub returns-then-u-t : goal.returns-then-u-t
+pub returns-then-other-one : goal.returns-then-other-one
 unfolding pick
-returns-then-u-t c =
-    rw (c.in-Stamped.is, c.in-Stamped-second.is) (simp (lt-ltb _ _ c.if-u-t.true))
+returns-then-other-one c = rw (c.in-Ok.is, c.in-Ok-second.is) (simp (lt-ltb _ _ c.if-other-one.true))
 
-pub returns-then-t-u : goal.returns-then-t-u
+pub returns-then-one-other : goal.returns-then-one-other
 unfolding pick
-returns-then-t-u c =
-    rw (c.in-Stamped.is, c.in-Stamped-second.is)
-    (simp (le-ltb _ _ c.if-u-t.false, lt-ltb _ _ c.if-t-u.true))
+returns-then-one-other c =
+    rw (c.in-Ok.is, c.in-Ok-second.is) (simp (le-ltb _ _ c.if-other-one.false, lt-ltb _ _ c.if-one-other.true))
 
-pub returns-in-Unstamped : goal.returns-in-Unstamped
-returns-in-Unstamped c = rw c.in-Unstamped.is
-
-pub returns-in-Unstamped-second : goal.returns-in-Unstamped-second
-returns-in-Unstamped-second c = rw (c.in-Stamped.is, c.in-Unstamped-second.is)
-
-pub returns-else-t-u : goal.returns-else-t-u
+pub returns : goal.returns
 unfolding pick
-returns-else-t-u c =
-    rw (c.in-Stamped.is, c.in-Stamped-second.is)
-    (simp (le-ltb _ _ c.if-u-t.false, le-ltb _ _ c.if-t-u.false))
+returns c =
+    rw (c.in-Ok.is, c.in-Ok-second.is) (simp (le-ltb _ _ c.if-other-one.false, le-ltb _ _ c.if-one-other.false))

@@ -1,34 +1,19 @@
 -- `stamp` meets its contract: the header, then the time line. Assumes nothing.
-use native.Mathlib.Omega.{arith}
+use Rattle.std.proofs.lemmas.Result.{err_from_is_err_and}
 use mathlib.Core.Path.{ap, ◌∙◌}
 use Rattle.format.specs.Times.{stamp_opened, stamp_of}
-use Rattle.header.specs.Head.{Room}
-use Rattle.timeline.proofs.Stamps.{told_at, stamp_whole}
+use Rattle.timeline.proofs.Stamps.{stamp_whole}
 use Rattle.timeline.proofs.stamp.Goals as goal
 
-pub overflow_add-title : goal.overflow_add-title
-overflow_add-title c =
-    let r = (let it : Room c.in-Whole.version c.in-Whole.place c.in-Whole.extended c.in-Whole.title
-    c.in-Whole.time c.args.file.now = (told_at c.in-Whole.is c.opening-head.ensures).room in it) in
-    omega arith
-
-pub line_stamp-requires : goal.line_stamp-requires
-line_stamp-requires c =
-    let r = (let it : Room c.in-Whole.version c.in-Whole.place c.in-Whole.extended c.in-Whole.title
-    c.in-Whole.time c.args.file.now = (told_at c.in-Whole.is c.opening-head.ensures).room in it) in
-    omega arith
-
-pub returns-in-Shut : goal.returns-in-Shut
+pub returns-in_err-head : goal.returns-in_err-head
 unfolding stamp_of
-returns-in-Shut c =
-    (ap stamp_opened (told_at c.in-Shut.is c.opening-head.ensures).same, tt)
+returns-in_err-head c =
+    let p = err_from_is_err_and c.from_residual.result c.from_residual.ensures.1 in
+    rw (p.1, p.2) (ap stamp_opened c.in_err-head.ensures.same, tt)
 
-pub returns-in-Whole : goal.returns-in-Whole
+pub returns : goal.returns
 unfolding stamp_of
-returns-in-Whole c =
-    let l = c.line_stamp.ensures in (
-      l.same ∙ (stamp_whole _ _ _ _ _ _ ((let it : Room c.in-Whole.version c.in-Whole.place c.in-Whole.extended c.in-Whole.title
-          c.in-Whole.time c.args.file.now = (told_at c.in-Whole.is c.opening-head.ensures).room in it))
-          ∙ ap stamp_opened (told_at c.in-Whole.is c.opening-head.ensures).same),
-      l.room,
-    )
+returns c =
+    let l = c.line_stamp.ensures in
+    let h = c.in_ok-head.ensures in
+    (l.same ∙ (stamp_whole _ _ _ _ _ _ h.room ∙ ap stamp_opened h.same), l.room)

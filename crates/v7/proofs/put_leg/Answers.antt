@@ -6,7 +6,6 @@ use Rattle.v7.proofs.put_leg.Goals as goal
 pub returns : goal.returns
 unfolding to_le32
 returns c =
-    let e = c.v7_dates-dates.ensures in
     let p = c.point_bytes-bytes.ensures in
-    lays_then (rw e at c.put_date_if-a.ensures) (lays_then c.put_move_if-b.ensures (rw p at
+    lays_then c.put_date_if-a.ensures (lays_then c.put_move_if-b.ensures (rw p at
     c.put_labelled.ensures))

@@ -6,6 +6,5 @@ use Rattle.v7.proofs.put_section.Goals as goal
 
 pub returns : goal.returns
 returns c =
-    let e = c.v7_dates-dates.ensures in
-    lays_within (lays_then (rw e at c.put_date_if-at.ensures)
+    lays_within (lays_then c.put_date_if-at.ensures
     c.put_xsect.ensures) v7_codes_limit (omega arith)

@@ -1,28 +1,32 @@
 -- `v7::put_sixteens` meets its contract. Assumes nothing.
+use Prim.Native.Nat.{◌+◌, ◌-◌}
+use mathlib.Core.Path.{◌≡◌}
 use native.Mathlib.Omega.{arith}
 use Rattle.v7.proofs.Labels.{going_first, going_next, going_last}
 use Rattle.part.proofs.Laying.{lays_within}
 use Rattle.v7.proofs.put_sixteens.Goals as goal
 
-pub loop-left-init : goal.loop-left-init
-loop-left-init c = going_first
+pub loop-code-init : goal.loop-code-init
+loop-code-init c =
+    let z : c.args.n - 0 ≡ c.args.n = omega arith in
+    rw z going_first
 
 pub put-next-requires : goal.put-next-requires
 put-next-requires c = (
   omega (
     arith,
-    c.loop-left.invariant.few,
-    c.loop-left.invariant.laid.most,
+    c.loop-code.invariant.few,
+    c.loop-code.invariant.laid.most,
     c.requires,
   ),
   omega arith,
 )
 
-pub loop-left-preserved : goal.loop-left-preserved
-loop-left-preserved c =
-    going_next c.loop-left.invariant c.loop-left-test.true
-    c.put-next.ensures
+pub loop-code-preserved : goal.loop-code-preserved
+loop-code-preserved c =
+    let z : c.args.n - (c.loop-code._code + 1) ≡ c.args.n - c.loop-code._code - 1 = omega arith in
+    rw z (going_next c.loop-code.invariant (omega arith) c.put-next.ensures)
 
 pub returns : goal.returns
 returns c =
-    lays_within (going_last c.loop-left.invariant c.loop-left-test.false) 256 (omega (arith, c.requires))
+    lays_within (going_last c.loop-code.invariant (omega arith)) 256 (omega (arith, c.requires))

@@ -27,7 +27,7 @@ far_record-requires c = simp part_to_end (seeking_needs c.loop-at.invariant c.lo
 
 pub returns-then-far_record : goal.returns-then-far_record
 returns-then-far_record c =
-    seeking_far c.loop-at.invariant c.loop-at-test.true (bytes_drop c.args.sheet.now (λ i. (c.type_inv.sheet i).fits) c.loop-at.at) (sym ((let it : c.far_record.result ≡ far_at c.args.origin (drop c.loop-at.at c.args.sheet.now) = simp part_to_end at c.far_record.ensures in it)) ∙ c.if-far_record.true)
+    rw c.at.ensures (seeking_far c.loop-at.invariant c.loop-at-test.true (bytes_drop c.args.sheet.now (λ i. (c.type_inv.sheet i).fits) c.loop-at.at) (sym ((let it : c.far_record.result ≡ far_at c.args.origin (drop c.loop-at.at c.args.sheet.now) = simp part_to_end at c.far_record.ensures in it)) ∙ c.if-far_record.true))
 
 pub overflow_add-number : goal.overflow_add-number
 overflow_add-number c =

@@ -11,7 +11,7 @@ overflow_mul-needed c =
 pub returns-then-out-needed : goal.returns-then-out-needed
 returns-then-out-needed c =
     let z = short_due c.args.sheet.now c.args.origin c.args.out.now c.args.legs c.requires c.if-out-needed.true in
-    record { answer = z.0; numbers = z.1 }
+    record { answer = rw c.at.ensures z.0; numbers = z.1 }
 
 pub fill-requires : goal.fill-requires
 fill-requires c =

@@ -1,10 +1,6 @@
 -- `wire::common_start` meets its contract. Assumes nothing.
-use Prim.Native.Nat.{◌-◌}
 use Rattle.wire.specs.Begun.{Begun}
 use Rattle.wire.proofs.common_start.Given as goal
 
 abbrev pub invariant-loop-i : goal.invariant-loop-i
 invariant-loop-i l = Begun l.l l.m l.i
-
-abbrev pub decreases-loop-i : goal.decreases-loop-i
-decreases-loop-i l = l.n - l.i

@@ -1,4 +1,4 @@
--- `copy` meets its contract. So far dst holds i bytes of src and then its own. Assumes nothing.
+-- `wire::copy` meets its contract. So far dst holds i bytes of src and then its own. Assumes nothing.
 use Prim.Native.Nat.{ℕ}
 use mathlib.Core.Path.{◌≡◌, refl, ap, ◌∙◌}
 use mathlib.Core.List.{List}
@@ -9,15 +9,11 @@ use Rattle.format.specs.Bytes.{over}
 use Rattle.wire.proofs.Laws.{copy_step}
 use Rattle.wire.proofs.copy.Goals as goal
 
-pub loop-i-init : goal.loop-i-init
-loop-i-init c = (omega arith, refl, refl)
-
 pub loop-i-preserved : goal.loop-i-preserved
 loop-i-preserved c =
     let l = c.loop-i in (
-      omega arith,
-      simp length-set l.invariant.1,
-      ap (λ (x : List ℕ). set x l.i (get_or c.args.src.now l.i 0)) l.invariant.2
+      simp length-set l.invariant.0,
+      ap (λ (x : List ℕ). set x l.i (get_or c.args.src.now l.i 0)) l.invariant.1
           ∙ copy_step c.args.src.now c.args.dst.now l.i (omega arith) (omega arith),
     )
 
@@ -25,4 +21,4 @@ pub returns : goal.returns
 unfolding over
 returns c =
     let e : c.loop-i.i ≡ length c.args.src.now = omega arith in
-    c.loop-i.invariant.2 ∙ rw (e, take-length)
+    c.loop-i.invariant.1 ∙ rw (e, take-length)

@@ -1,11 +1,8 @@
-use Prim.Native.Nat.{◌-◌, ◌≤◌}
 use mathlib.Core.Path.{◌≡◌}
 use lib.ListN.{length, take}
+use Prim.Native.Nat.{◌*◌}
 use Rattle.format.specs.Bytes.{over}
 use Rattle.wire.proofs.copy_long.Given as goal
 
-abbrev pub invariant-loop-i : goal.invariant-loop-i
-invariant-loop-i l = (l.i ≤ length l.src) × (length l.dst ≡ length l.initial.dst) × (l.dst ≡ over (take l.i l.src) l.initial.dst)
-
-abbrev pub decreases-loop-i : goal.decreases-loop-i
-decreases-loop-i l = length l.src - l.i
+abbrev pub invariant-loop-turn : goal.invariant-loop-turn
+invariant-loop-turn l = (length l.dst ≡ length l.initial.dst) × (l.dst ≡ over (take (16 * l.turn) l.src) l.initial.dst)

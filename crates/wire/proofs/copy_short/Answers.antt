@@ -1,9 +1,7 @@
+-- `wire::copy_short` meets its contract. Assumes nothing.
 use native.Mathlib.Omega.{arith}
-use Rattle.wire.proofs.Laws.{laps_ends}
+use Rattle.wire.proofs.Laws.{nothing_over}
 use Rattle.wire.proofs.copy_short.Goals as goal
 
-pub returns : goal.returns
-returns c =
-    let h = c.if-n-lt8.false in
-    laps_ends _ _ _ _ 8 c.copy_eight.ensures c.copy_eight-2.ensures
-    (omega arith) (omega arith) (omega arith)
+pub returns-else-n-eq1 : goal.returns-else-n-eq1
+returns-else-n-eq1 c = nothing_over c.args.src.now c.args.dst.now (omega arith)

@@ -5,13 +5,13 @@ use native.Mathlib.Omega.{arith}
 use Rattle.wire.proofs.Laws.{line_past, line_here, line_none}
 use Rattle.wire.proofs.line_end.Goals as goal
 
-pub returns-then-s-i-eq10 : goal.returns-then-s-i-eq10
-returns-then-s-i-eq10 c =
-    omega (arith, line_here c.args.s.now c.loop-i.i (omega arith) c.if-s-i-eq10.true)
+pub returns-then-b-eq10 : goal.returns-then-b-eq10
+returns-then-b-eq10 c =
+    omega (arith, line_here c.args.s.now c.loop-i.i (omega arith) c.if-b-eq10.true)
 
 pub loop-i-preserved : goal.loop-i-preserved
 loop-i-preserved c =
-    (omega arith, omega (arith, line_past c.args.s.now c.loop-i.i (omega arith) c.if-s-i-eq10.false))
+    omega (arith, line_past c.args.s.now c.loop-i.i (omega arith) c.if-b-eq10.false)
 
 pub returns : goal.returns
 returns c =

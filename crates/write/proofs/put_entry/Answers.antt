@@ -1,79 +1,19 @@
 -- `write::put_entry` meets its contract. Assumes nothing.
-use Prim.Native.Nat.{◌+◌, ◌≤◌}
-use mathlib.Core.Path.{refl}
-use native.Mathlib.Omega.{arith}
-use lib.ListN.{length}
-use Rattle.sheet.proofs.EntryAt.{found_formed, found_size}
+use Rattle.sheet.proofs.EntryAt.{found_formed}
 use Rattle.write.proofs.Turn.{named_short}
 use Rattle.write.proofs.put_entry.Goals as goal
 
-pub returns-in_default : goal.returns-in_default
-returns-in_default c = (rw c.in_default.is at c.read_entry-entry.ensures, refl)
-
 pub put_record-bytes-requires : goal.put_record-bytes-requires
 put_record-bytes-requires c =
-    let T = rw c.in-Whole.is at c.read_entry-entry.ensures in
-    (named_short _ _ c.requires.1, found_formed _ _ _ c.requires.0 _ _ _ T)
+    (named_short _ _ c.requires.1, found_formed _ _ _ c.requires.0 _ _ _ c.in_ok-size.ensures)
 
 pub returns : goal.returns
 returns c =
-    let T = rw c.in-Whole.is at c.read_entry-entry.ensures in
-    let o = c.setting_of-setting.ensures in
     let a = c.setting_after-after.ensures in
     record {
-      from = c.in-Whole.from;
-      told = T;
-      puts = rw o at c.put_record-bytes.ensures;
-      leaves = rw (c.hand_after-hand.ensures, a, o);
-      stands = rw (a, o);
+      from = c.in_ok-size.field-0.from;
+      told = c.in_ok-size.ensures;
+      puts = c.put_record-bytes.ensures;
+      leaves = rw (c.hand_after.ensures, a);
+      stands = rw a;
     }
-
-pub overflow_add-name : goal.overflow_add-name
-overflow_add-name c =
-    omega (
-      arith,
-      (let it : (3 ≤ c.in-Whole.size)
-          × (c.args.at + c.in-Whole.size ≤ length c.args.sheet.now) × (c.in-Whole.from ≤ c.in-Whole.size) = let T = rw c.in-Whole.is at c.read_entry-entry.ensures in
-          let w = found_size _ c.args.sheet.now c.args.at c.requires.0 _ _ _ T in
-          (w.0, w.1, T.inside.from_within) in it),
-    )
-
-pub overflow_add-end : goal.overflow_add-end
-overflow_add-end c =
-    omega (
-      arith,
-      (let it : (3 ≤ c.in-Whole.size)
-          × (c.args.at + c.in-Whole.size ≤ length c.args.sheet.now) × (c.in-Whole.from ≤ c.in-Whole.size) = let T = rw c.in-Whole.is at c.read_entry-entry.ensures in
-          let w = found_size _ c.args.sheet.now c.args.at c.requires.0 _ _ _ T in
-          (w.0, w.1, T.inside.from_within) in it),
-    )
-
-pub slice_bounds-put_record-count-2 : goal.slice_bounds-put_record-count-2
-slice_bounds-put_record-count-2 c =
-    omega (
-      arith,
-      (let it : (3 ≤ c.in-Whole.size)
-          × (c.args.at + c.in-Whole.size ≤ length c.args.sheet.now) × (c.in-Whole.from ≤ c.in-Whole.size) = let T = rw c.in-Whole.is at c.read_entry-entry.ensures in
-          let w = found_size _ c.args.sheet.now c.args.at c.requires.0 _ _ _ T in
-          (w.0, w.1, T.inside.from_within) in it),
-    )
-
-pub slice_bounds-put_record-start-2 : goal.slice_bounds-put_record-start-2
-slice_bounds-put_record-start-2 c =
-    omega (
-      arith,
-      (let it : (3 ≤ c.in-Whole.size)
-          × (c.args.at + c.in-Whole.size ≤ length c.args.sheet.now) × (c.in-Whole.from ≤ c.in-Whole.size) = let T = rw c.in-Whole.is at c.read_entry-entry.ensures in
-          let w = found_size _ c.args.sheet.now c.args.at c.requires.0 _ _ _ T in
-          (w.0, w.1, T.inside.from_within) in it),
-    )
-
-pub slice_bounds-put_record-end-2 : goal.slice_bounds-put_record-end-2
-slice_bounds-put_record-end-2 c =
-    omega (
-      arith,
-      (let it : (3 ≤ c.in-Whole.size)
-          × (c.args.at + c.in-Whole.size ≤ length c.args.sheet.now) × (c.in-Whole.from ≤ c.in-Whole.size) = let T = rw c.in-Whole.is at c.read_entry-entry.ensures in
-          let w = found_size _ c.args.sheet.now c.args.at c.requires.0 _ _ _ T in
-          (w.0, w.1, T.inside.from_within) in it),
-    )

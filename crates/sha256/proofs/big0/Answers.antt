@@ -1,7 +1,0 @@
--- `sha256::big0` meets its contract. Assumes nothing.
-use Rattle.sha256.specs.Words.{big_sigma0}
-use Rattle.sha256.proofs.big0.Goals as goal
-
-pub returns : goal.returns
-unfolding big_sigma0
-returns c = cc

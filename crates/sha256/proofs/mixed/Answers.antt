@@ -1,5 +1,0 @@
--- `sha256::mixed` meets its contract. Assumes nothing.
-use Rattle.sha256.proofs.mixed.Goals as goal
-
-pub returns : goal.returns
-returns c = cc

@@ -1,7 +1,0 @@
--- `sha256::next_word` meets its contract. Assumes nothing.
-use Rattle.sha256.specs.Digest.{next_word}
-use Rattle.sha256.proofs.next_word.Goals as goal
-
-pub returns : goal.returns
-unfolding next_word
-returns c = cc

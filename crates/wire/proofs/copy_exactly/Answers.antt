@@ -1,0 +1,11 @@
+-- `wire::copy_exactly` meets its contract. Assumes nothing.
+use mathlib.Core.Path.{refl}
+use lib.Seq.{length-take-le}
+use Rattle.format.specs.Bytes.{over}
+use Rattle.wire.proofs.copy_exactly.Goals as goal
+
+pub returns : goal.returns
+unfolding over
+returns g c =
+    let n = length-take-le g.row.N c.args.src.now c.requires.0 in
+    rw (c.copy_from_slice.ensures.after, n) refl
