@@ -23,6 +23,13 @@ pub struct AnswerNumbers {
     pub version: u64,
 }
 
+// A byte as a number of the interface.
+pub fn long(x: u8) -> u64
+    ensures { result ≡ x }
+{
+    u64::from(x)
+}
+
 pub fn tell(answer: Result<Done, Refusal>) -> AnswerNumbers
     ensures { result ≡ answer_numbers answer }
 {

@@ -15,6 +15,9 @@ pub fn convert(file: &[u8], sheet: &mut [u8], out: &mut [u8]) -> Result<Done, Re
     ensures sheet { sheet.new ≡ read_buffer file.now sheet.old }
     ensures file { out.new ≡ convert_buffer file.now (length sheet.old) out.old }
 {
-    let made = read::read(file, sheet)?;
-    write::write(&sheet[..made.bytes], out)
+    // By match and not by `?`: each refusal is then handed on where a wrong one can be tried.
+    match read::read(file, sheet) {
+        Ok(made) => write::write(&sheet[..made.bytes], out),
+        Err(refusal) => Err(refusal),
+    }
 }

@@ -133,6 +133,9 @@ module _ {file : List ℕ} {cut : Splice} {b b' : List ℕ} (K : CutAt file cut 
   pub back_records : (rest_of file cut.back.at (state_at cut.back b')).records ≡ drop behind R
   back_records = ap (λ (x : Result). x.records) (at_back behind cut.back b' C.behind)
 
+  pub few_first : first ≤ 16777216
+  few_first = omega (arith, C.all, C.few, K.opens.room.file_fits)
+
   pub front_low : cut.front.at ≤ 16777216
   front_low = omega (arith, C.before.inside.place_inside, K.opens.room.file_fits)
 

@@ -37,16 +37,21 @@ fn nth_dot(bytes: &[u8; LABEL_LIMIT], len: usize, n: usize) -> Option<usize>
     requires { (len ≤ label_limit) × (length bytes.now ≡ label_limit) }
     ensures { (result ≡ dot_from n 0 (take len bytes.now)) × Within len result }
 {
+    let mut i = len;
     let mut dots: usize = 0;
-    for i in (0..len).rev() {
+    // Document 01 names this form: back from the end, and out by break.
+    loop {
+        if i == 0 {
+            break None;
+        }
+        i -= 1;
         if bytes[i] == b'.' {
             dots += 1;
             if dots == n {
-                return Some(i + 1);
+                break Some(i + 1);
             }
         }
     }
-    None
 }
 
 // What stays of the label of len bytes, 16 bytes off and then back to the nth dot.

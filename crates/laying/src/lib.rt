@@ -55,7 +55,9 @@ pub struct Joint {
 }
 
 // Lays a leg into the sheet, where it fits, and extends the label by what the item at the front
-// of s adds to it: what the item comes to.
+// of s adds to it: what the item comes to. (This and `lay_line` are joined to a step by name: a
+// call hands all of it through memory.)
+#[inline(always)]
 fn lay_leg(
     s: &[u8],
     bytes: &mut [u8; LABEL_LIMIT],
@@ -83,6 +85,7 @@ fn lay_leg(
 
 // The same of a LINE, whose last twelve bytes say where the leg leads. Where the position is
 // not set, it is left to the general item.
+#[inline(always)]
 pub fn lay_line(
     s: &[u8],
     bytes: &mut [u8; LABEL_LIMIT],

@@ -83,6 +83,13 @@ pub fn long(x: u8) -> u64
     u64::from(x)
 }
 
+// The four bytes of n the other way about.
+pub fn swap32(n: u32) -> u32
+    ensures { to_le32 result ≡ to_be32 n }
+{
+    n.swap_bytes()
+}
+
 // n over the first four bytes of s, the lowest first.
 pub fn put_le32(s: &mut [u8], n: u32)
     requires { 4 ≤ length s.old }

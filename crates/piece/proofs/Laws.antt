@@ -1,14 +1,17 @@
--- Pieces of what was laid, and numbers in pieces: whatever is read of a room is a piece of it, whatever is written is
+-- Pieces of what was laid, numbers in pieces, and names compared by fours: whatever is read of a room is a piece of it, whatever is written is
 -- laid in, so a piece before or behind what was laid is kept, and a piece of it is read back. Assumes nothing.
-use mathlib.Core.Path.{◌≡◌, sym, ap, ◌∙◌}
-use mathlib.Core.List.{List, ◌++◌}
-use Prim.Native.Nat.{ℕ, ◌+◌, ◌-◌, ◌≤◌}
+use mathlib.Core.Path.{◌≡◌, refl, sym, ap, ap₂, ◌∙◌}
+use mathlib.Core.List.{List, [], ◌∷◌, ◌++◌}
+use mathlib.Core.Bool.{true, false}
+use Prim.Native.Nat.{ℕ, ◌+◌, ◌-◌, ◌*◌, ◌≤◌}
 use native.Mathlib.Omega.{arith}
+use borrow.Author.Tests.{eq-eqb}
 use lib.ListN.{length, take, drop, get_or, length-drop, take-append-drop}
 use lib.Seq.{drop-drop, drop_at, length-take-le, take-append-le, drop-append-le, get_or-take}
-use Rattle.format.specs.Bytes.{le16, le32}
+use Rattle.format.specs.Bytes.{pick, le16, le32, same}
+use Rattle.format.proofs.Basics.{same_true, same_refl}
 use Rattle.wire.specs.Laid.{laid}
-use Rattle.wire.proofs.Laws.{drop_laid}
+use Rattle.wire.proofs.Laws.{drop_laid, same_false}
 use Rattle.piece.specs.Pieces.{le24, le40, piece}
 
 -- ---- pieces of what was laid
@@ -79,3 +82,43 @@ module _ (r s : List ℕ) (a b : ℕ) where
   pub byte_piece : piece r a 1 ≡ piece s b 1 → get_or (drop a r) 0 0 ≡ get_or (drop b s) 0 0
   unfolding piece
   byte_piece e = sym (get_or-take 1 (drop a r) 0 0 (omega arith)) ∙ ap (λ (l : List ℕ). get_or l 0 0) e ∙ get_or-take 1 (drop b s) 0 0 (omega arith)
+
+-- ---- four bytes
+
+take_four : (s : List ℕ) → 4 ≤ length s → take 4 s ≡ get_or s 0 0 ∷ get_or s 1 0 ∷ get_or s 2 0 ∷ get_or s 3 0 ∷ []
+take_four [] h = absurd (omega arith)
+take_four (a ∷ []) h = absurd (omega arith)
+take_four (a ∷ b ∷ []) h = absurd (omega arith)
+take_four (a ∷ b ∷ c ∷ []) h = absurd (omega arith)
+take_four (a ∷ b ∷ c ∷ d ∷ s) h = refl
+
+module _ (s t : List ℕ) (hs : 4 ≤ length s) (ht : 4 ≤ length t) where
+  pub four_same : get_or s 0 0 ≡ get_or t 0 0 → get_or s 1 0 ≡ get_or t 1 0 → get_or s 2 0 ≡ get_or t 2 0 → get_or s 3 0 ≡ get_or t 3 0 → true ≡ same (take 4 s) (take 4 t)
+  unfolding same pick
+  four_same a b c d =
+      rw (take_four s hs, take_four t ht, eq-eqb _ _ a, eq-eqb _ _ b, eq-eqb _ _ c, eq-eqb _ _ d)
+
+  pub four_other : (le32 s ≡ le32 t → ⊥) → false ≡ same (take 4 s) (take 4 t)
+  unfolding le32
+  four_other h = sym (same_false (take 4 s) (take 4 t) (λ e. h (go (sym (take_four s hs) ∙ e ∙ take_four t ht))))
+    where
+      go : get_or s 0 0 ∷ get_or s 1 0 ∷ get_or s 2 0 ∷ get_or s 3 0 ∷ [] ≡ get_or t 0 0 ∷ get_or t 1 0 ∷ get_or t 2 0 ∷ get_or t 3 0 ∷ [] → le32 s ≡ le32 t
+      go e = ap (λ (l : List ℕ). get_or l 0 0 + get_or l 1 0 * 256 + get_or l 2 0 * 65536 + get_or l 3 0 * 16777216) e
+
+-- past bytes that both begin with
+same_front : (f s t : List ℕ) → same (f ++ s) (f ++ t) ≡ same s t
+unfolding same pick
+same_front [] s t = refl
+same_front (x ∷ f) s t = rw (eq-eqb x x refl) (same_front f s t)
+
+-- past four bytes that both have
+pub same_fours : (s t : List ℕ) (i : ℕ) → i + 4 ≤ length s → i + 4 ≤ length t → same (take 4 (drop i s)) (take 4 (drop i t)) ≡ true
+    → same (drop i s) (drop i t) ≡ same (drop (i + 4) s) (drop (i + 4) t)
+same_fours s t i hs ht e =
+    let q : take 4 (drop i s) ≡ take 4 (drop i t) = same_true _ _ e in
+    let l : take 4 (drop i s) ++ drop 4 (drop i s) ≡ drop i s = take-append-drop 4 (drop i s) in
+    let r : take 4 (drop i t) ++ drop 4 (drop i t) ≡ drop i t = take-append-drop 4 (drop i t) in
+    sym (ap₂ same l r) ∙ rw (q, same_front, drop-drop 4 i s, drop-drop 4 i t)
+
+pub fours_other : (s t : List ℕ) (i : ℕ) → same (take 4 (drop i s)) (take 4 (drop i t)) ≡ false → same s t ≡ false
+fours_other s t i e = same_false s t (λ q. let z : same (take 4 (drop i s)) (take 4 (drop i t)) ≡ true = rw q (same_refl (take 4 (drop i t))) in let b : false ≡ true = sym e ∙ z in let n : ◌≡◌ {A = ℕ} 0 1 = cc in omega arith)

@@ -2,10 +2,11 @@
 // compared.
 #![tactic(auto, unfolding(crate::specs::Pieces::le24, crate::specs::Pieces::le40, crate::specs::Pieces::to_le24))]
 
-ghost use Rattle.std.specs.Prelude.{◌≡◌, ◌≤◌, ◌<◌, length, replicate};
+ghost use Rattle.std.specs.Prelude.{◌≡◌, ◌≤◌, ◌<◌, length, take, replicate};
 ghost use Rattle.format.specs.Bytes.{same};
 ghost use Rattle.piece.specs.Pieces.{le24, le40, to_le24};
 
+use number::get_le32;
 pub use wire::{lay, lay_words};
 
 // The number in the first three bytes of s, the lowest first.
@@ -39,11 +40,38 @@ pub fn le24_bytes(n: usize) -> [u8; 3]
     ]
 }
 
-// Whether a and b hold the same bytes.
+// Whether a and b begin with the same four bytes, which are compared as one number.
+fn same_four(a: &[u8], b: &[u8]) -> bool
+    requires { (4 ≤ length a.now) × (4 ≤ length b.now) }
+    ensures { result ≡ same (take 4 a.now) (take 4 b.now) }
+{
+    let x = get_le32(a);
+    let y = get_le32(b);
+    if x != y {
+        return false;
+    }
+    true
+}
+
+// Whether a and b hold the same bytes: by fours, and then those behind whole fours.
 pub fn same_name(a: &[u8], b: &[u8]) -> bool
     ensures { result ≡ same a.now b.now }
 {
-    a == b
+    if a.len() != b.len() {
+        return false;
+    }
+    for turn in 0..a.len() / 4 {
+        let i = 4 * turn;
+        if !same_four(&a[i..], &b[i..]) {
+            return false;
+        }
+    }
+    for i in a.len() / 4 * 4..a.len() {
+        if a[i] != b[i] {
+            return false;
+        }
+    }
+    true
 }
 
 // Fills s with zeros.

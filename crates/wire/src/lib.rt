@@ -10,12 +10,14 @@ ghost use Rattle.wire.specs.Laid.{laid};
 
 use number::get_le64;
 
-// Copies N bytes. Of a constant size it is a load and a store.
+// Copies N bytes. Of a constant size it is a load and a store: as an array of their own, which
+// overlaps nothing, they need no test for that.
 pub fn copy_exactly<const N: usize>(src: &[u8], dst: &mut [u8])
     requires { (N ≤ length src.now) × (N ≤ length dst.old) }
     ensures { dst.new ≡ over (take N src.now) dst.old }
 {
-    dst[..N].copy_from_slice(&src[..N]);
+    let bytes = *src[..N].as_array::<N>().unwrap();
+    dst[..N].copy_from_slice(&bytes);
 }
 
 // Copies from N to 2 N bytes, as the first N and the last N, which may overlap.

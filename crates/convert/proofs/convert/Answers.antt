@@ -1,6 +1,5 @@
 -- `convert::convert` meets its contract. Assumes nothing.
 use native.Mathlib.Omega.{arith}
-use Rattle.std.proofs.Common.{rules, Err, ◌≡◌}
 use mathlib.Core.Path.{sym, ◌∙◌}
 use lib.Seq.{length-take-le}
 use Rattle.read.proofs.Room.{read_room}
@@ -9,31 +8,30 @@ use Rattle.convert.proofs.convert.Goals as goal
 
 pub slice_bounds-write-end : goal.slice_bounds-write-end
 slice_bounds-write-end c =
-    let h = read_room _ _ _ _ _ (rw c.in_ok-made.was at c.read.ensures.answer) in
+    let h = read_room _ _ _ _ _ (rw c.in-Ok.is at c.read.ensures.answer) in
     let k = c.read.auto.sheet in
     omega arith
 
-pub slice_bounds-write-end-2 : goal.slice_bounds-write-end-2
-slice_bounds-write-end-2 c =
-    let h = read_room _ _ _ _ _ (rw c.in_ok-made.was at c.read.ensures.answer) in
+pub slice_bounds-write-end-in-Ok : goal.slice_bounds-write-end-in-Ok
+slice_bounds-write-end-in-Ok c =
+    let h = read_room _ _ _ _ _ (rw c.in-Ok.is at c.read.ensures.answer) in
     let k = c.read.auto.sheet in
     sym (length-take-le _ _ (omega arith))
 
 -- clause by clause, so that a refusal that is not the reader's is refused at the answer
-pub returns-in_err-made-clause-answer : goal.returns-in_err-made-clause-answer
-returns-in_err-made-clause-answer c =
-    let q : c.from_residual.result ≡ Err c.in_err-made.field-0.0 = search rules in
-    let e = rw c.in_err-made.was at c.read.ensures.answer in
-    rw q (sym (convert_refused c.args.file.now c.args.sheet.now _ _ (sym e) c.args.out.now).0)
+pub returns-in-Err-clause-answer : goal.returns-in-Err-clause-answer
+returns-in-Err-clause-answer c =
+    let e = rw c.in-Err.is at c.read.ensures.answer in
+    sym (convert_refused c.args.file.now c.args.sheet.now _ _ (sym e) c.args.out.now).0
 
-pub returns-in_err-made-clause-file : goal.returns-in_err-made-clause-file
-returns-in_err-made-clause-file c =
-    let e = rw c.in_err-made.was at c.read.ensures.answer in
+pub returns-in-Err-clause-file : goal.returns-in-Err-clause-file
+returns-in-Err-clause-file c =
+    let e = rw c.in-Err.is at c.read.ensures.answer in
     sym (convert_refused c.args.file.now c.args.sheet.now _ _ (sym e) c.args.out.now).1
 
-pub returns : goal.returns
-returns c =
+pub returns-in-Ok : goal.returns-in-Ok
+returns-in-Ok c =
     let R = c.read.ensures in
-    let e = rw c.in_ok-made.was at R.answer in
+    let e = rw c.in-Ok.is at R.answer in
     let r = convert_written c.args.file.now c.args.sheet.now (λ i. (c.type_inv.file i).fits) _ _ _ (sym e) c.args.out.now in
     let W = c.write.ensures in record { answer = rw R.sheet at W.answer ∙ sym r.0; sheet = R.sheet; file = rw R.sheet at W.file ∙ sym r.1 }

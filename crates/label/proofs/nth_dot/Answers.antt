@@ -24,7 +24,7 @@ returns-then-dots-n c = (
   omega arith,
 )
 
-pub returns : goal.returns
-returns c =
+pub returns-then-i-eq0 : goal.returns-then-i-eq0
+returns-then-i-eq0 c =
     let z : c.loop-i.i ≡ 0 = omega arith in
     (passed_none c.args.bytes.now c.args.len c.args.n (omega (arith, c.requires)) c.loop-i.dots (rw z at c.loop-i.invariant), tt)

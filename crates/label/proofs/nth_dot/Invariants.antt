@@ -4,3 +4,6 @@ use Rattle.label.proofs.nth_dot.Given as goal
 
 abbrev pub invariant-loop-i : goal.invariant-loop-i
 invariant-loop-i l = Passed l.bytes l.len l.n l.i l.dots
+
+abbrev pub decreases-loop-i : goal.decreases-loop-i
+decreases-loop-i l = l.i

@@ -7,5 +7,6 @@ use Rattle.wire.proofs.copy_exactly.Goals as goal
 pub returns : goal.returns
 unfolding over
 returns g c =
+    let whole = rw c.unwrap.ensures at c.as_array.ensures.cases in
     let n = length-take-le g.row.N c.args.src.now c.requires.0 in
-    rw (c.copy_from_slice.ensures.after, n) refl
+    rw (c.copy_from_slice.ensures.after, whole.same, n) refl
