@@ -58,11 +58,8 @@ fn get_short(s: &[u8]) -> u32
     requires { 2 ≤ length s.now }
     ensures { result ≡ widened (le16 s.now) }
 {
-    let n = get_le16(s);
-    if n < 32768 {
-        return n;
-    }
-    n + 4294901760
+    let n = i16::from_le_bytes([s[0], s[1]]);
+    i32::from(n).cast_unsigned()
 }
 
 // x y z

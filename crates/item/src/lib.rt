@@ -160,6 +160,8 @@ pub fn made_step(
 // What the item at the front of s comes to, in the state of a setting and a label: its
 // answer, with how many bytes of the label it kept, and the label's bytes after it.
 // An item that changes the label is refused by 6 or 7 before all else.
+// (The kinds return by themselves: joined into one answer, which has a place for all that any of
+// them says, they take nearly twice as many instructions.)
 pub fn take_item(
     version: u8,
     s: &[u8],
@@ -182,28 +184,34 @@ pub fn take_item(
                 setting,
             })
         }
-        Item::Style { style } => Ok(style_step(style, len, setting)),
-        Item::Move { place } => Ok(Step::On {
-            size: 13,
-            len,
-            setting: with_position(setting, place),
-        }),
-        Item::NoDate => Ok(Step::On {
-            size: 1,
-            len,
-            setting: Setting {
-                date: Dated::Undated,
-                ..setting
-            },
-        }),
-        Item::Date { size, first, last } => date_step(size, first, last, len, setting),
-        Item::Error { traverse } => Ok(Step::Made {
-            size: 21,
-            len,
-            setting,
-            fields: Fields::Error { traverse },
-            kept: 0,
-        }),
+        Item::Style { style } => return Ok(style_step(style, len, setting)),
+        Item::Move { place } => {
+            return Ok(Step::On {
+                size: 13,
+                len,
+                setting: with_position(setting, place),
+            });
+        }
+        Item::NoDate => {
+            return Ok(Step::On {
+                size: 1,
+                len,
+                setting: Setting {
+                    date: Dated::Undated,
+                    ..setting
+                },
+            });
+        }
+        Item::Date { size, first, last } => return date_step(size, first, last, len, setting),
+        Item::Error { traverse } => {
+            return Ok(Step::Made {
+                size: 21,
+                len,
+                setting,
+                fields: Fields::Error { traverse },
+                kept: 0,
+            });
+        }
         Item::Relabel {
             size,
             cut,

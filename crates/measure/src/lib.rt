@@ -5,6 +5,8 @@
 ghost use Rattle.std.specs.Prelude.{◌≡◌, Bool, ℕ, ◌≤◌, length, drop, Ok, Some};
 ghost use Rattle.format.specs.Items.{Date as date_item, Style as style_item, move_item, day_item, span_item, days_item, error_item, new_part};
 ghost use Rattle.format.specs.State.{apply, next_of};
+ghost use Rattle.format.specs.Faults.{fault_number};
+ghost use Rattle.format.specs.Refusals.{Refusal as Refused};
 ghost use Rattle.format.specs.Reading.{next, ended, items_of};
 ghost use Rattle.kind.specs.Kinds.{labelled_by};
 ghost use Rattle.measure.specs.Measures.{Keeps, Comes, ComesIn, Small, Tailed};
@@ -261,19 +263,29 @@ fn measure_item(s: &[u8], len: usize, style: u8, placed: bool) -> Result<Measure
     any_item(s, len, style, placed)
 }
 
+// What the items come to at one that is refused. (This and `ended` stand by themselves: joined to a
+// loop, they let LLVM hold its bytes and records as one vector, which takes longer to add to.)
+#[inline(never)]
+pub fn refused_at(fault: Fault, at: usize, bytes: usize, records: usize) -> Passed
+    ensures { total_of result ≡ total_by (Refused (fault_number fault) at) bytes records }
+{
+    Passed {
+        verdict: Err(fault.at(at)),
+        bytes,
+        records,
+    }
+}
+
 // What the items come to at the end item, which the bytes from `at` on begin with: 10 where
 // others follow it.
+#[inline(never)]
 pub fn ended(at: usize, rest: &[u8], bytes: usize, records: usize) -> Passed
     requires { at ≤ file_limit }
     ensures { total_of result ≡ total_by (ended at rest.now) bytes records }
 {
     if 1 < rest.len() {
         let place = at + 1;
-        return Passed {
-            verdict: Err(Fault::BytesAfterEnd.at(place)),
-            bytes,
-            records,
-        };
+        return refused_at(Fault::BytesAfterEnd, place, bytes, records);
     }
     Passed {
         verdict: Ok(()),
@@ -299,13 +311,7 @@ pub fn measure(file: &[u8], place: usize, front: usize) -> Passed
         let rest = &file[at..];
         let item = match measure_item(rest, label, style, placed) {
             Ok(item) => item,
-            Err(fault) => {
-                return Passed {
-                    verdict: Err(fault.at(at)),
-                    bytes: out,
-                    records,
-                };
-            }
+            Err(fault) => return refused_at(fault, at, out, records),
         };
         match item {
             Measured::End => return ended(at, rest, out, records),

@@ -29,7 +29,7 @@ use format::{Done, Fault, LABEL_LIMIT, Point, Refusal, Setting};
 use header::Head;
 use item::{Step, leg_at, section_at, station_at, with_position};
 use laying::{Joint, lay_leg_freely, lay_same_freely, lay_section_freely, lay_station_freely};
-use measure::{Passed, ended};
+use measure::{Passed, ended, refused_at};
 use short::{Short, new_item, old_item, sides};
 use strict::take_next;
 use table::Index;
@@ -460,13 +460,7 @@ fn pass(file: &[u8], course: Course, lent: &mut [u8], first: Option<Index>) -> P
                 };
                 let it = any_item(before, rest, &mut label.bytes, setting, lent, ruling);
                 match it {
-                    Err(fault) => {
-                        return Passed {
-                            verdict: Err(fault.at(at)),
-                            bytes: here.out,
-                            records: here.records,
-                        };
-                    }
+                    Err(fault) => return refused_at(fault, at, here.out, here.records),
                     Ok(Turned::End) => return ended(at, rest, here.out, here.records),
                     Ok(Turned::Went { by, setting, rule }) => {
                         let here = ahead(here, by);

@@ -3,11 +3,9 @@ use native.Mathlib.Omega.{arith}
 use Prim.Native.Nat.{ℕ, ◌+◌, ◌-◌}
 use mathlib.Core.Path.{◌≡◌, refl}
 use lib.ListN.{take}
-use Rattle.std.specs.Prelude.{Ok, Err}
+use Rattle.std.specs.Prelude.{Ok}
 use Rattle.format.specs.Items.{item_of}
 use Rattle.format.specs.Outline.{drop_leaves}
-use Rattle.decode.specs.Seen.{Reads}
-use Rattle.decode.specs.declared.Item.{Item as Told}
 use Rattle.item.proofs.Steps.{comes_faulty, comes_end, comes_emptied, comes_does, comes_moved, comes_undated, comes_error, comes_relabelled}
 use Rattle.item.proofs.Steps.{style_kept, date_kept, error_kept, relabelled_kept, label_refused, label_fits_lem}
 use Rattle.std.proofs.lemmas.Result.{err_from_is_err_and}

@@ -1,4 +1,5 @@
 -- `measure::ended` meets its contract. Assumes nothing.
+use mathlib.Core.Path.{◌∙◌}
 use borrow.Author.Tests.{lt-ltb, le-ltb}
 use Rattle.format.specs.Bytes.{pick}
 use Rattle.format.specs.Reading.{ended}
@@ -6,7 +7,7 @@ use Rattle.measure.proofs.ended.Goals as goal
 
 pub returns-then-rest-gt1 : goal.returns-then-rest-gt1
 unfolding ended pick
-returns-then-rest-gt1 c = simp (c.at.ensures, lt-ltb _ _ c.if-rest-gt1.true)
+returns-then-rest-gt1 c = c.refused_at.ensures ∙ simp (lt-ltb _ _ c.if-rest-gt1.true)
 
 pub returns : goal.returns
 unfolding ended pick

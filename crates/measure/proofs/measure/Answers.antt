@@ -29,7 +29,7 @@ pub returns-in-Err : goal.returns-in-Err
 returns-in-Err c =
     let G = c.loop-item.invariant in
     let f = rw c.in-Err.is at c.measure_item.ensures in
-    rw c.at.ensures (ends_bad _ _ _ _ _ _ _ _ _ G _ f.1)
+    c.refused_at.ensures ∙ ends_bad _ _ _ _ _ _ _ _ _ G _ f.1
 
 pub ended-requires : goal.ended-requires
 ended-requires c = omega (arith, c.loop-item.invariant.inside, c.requires.0)

@@ -75,7 +75,7 @@ returns-in-Err c =
     let S = rw (c.in-None.is, c.is_some-strict.ensures) at c.short_turn-turn.ensures in
     let E = on_other _ _ _ _ _ _ _ _ c.loop-next.invariant _ _ S in
     let T = rw (c.in-Err.is, E.0, E.1) at c.any_item-it.ensures in
-    let z = rw c.outset-stand.ensures at (on_bad _ _ _ _ _ _ _ _ c.loop-next.invariant _ _ _ T) in record { answer = rw c.at.ensures z.0; lent = z.1 }
+    let z = rw c.outset-stand.ensures at (on_bad _ _ _ _ _ _ _ _ c.loop-next.invariant _ _ _ T) in record { answer = c.refused_at.ensures ∙ z.0; lent = z.1 }
 
 pub ended-requires : goal.ended-requires
 ended-requires c =
