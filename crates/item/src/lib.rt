@@ -160,8 +160,8 @@ pub fn made_step(
 // What the item at the front of s comes to, in the state of a setting and a label: its
 // answer, with how many bytes of the label it kept, and the label's bytes after it.
 // An item that changes the label is refused by 6 or 7 before all else.
-// (The kinds return by themselves: joined into one answer, which has a place for all that any of
-// them says, they take nearly twice as many instructions.)
+// (Each kind returns by itself: joined into one answer, which has a place for all that any of them
+// says, a date takes nearly twice as many instructions.)
 pub fn take_item(
     version: u8,
     s: &[u8],
@@ -178,11 +178,11 @@ pub fn take_item(
             if len == 0 {
                 return Ok(Step::End);
             }
-            Ok(Step::On {
+            return Ok(Step::On {
                 size: 1,
                 len: 0,
                 setting,
-            })
+            });
         }
         Item::Style { style } => return Ok(style_step(style, len, setting)),
         Item::Move { place } => {

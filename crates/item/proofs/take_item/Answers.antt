@@ -24,8 +24,8 @@ pub returns-then-len-eq0 : goal.returns-then-len-eq0
 returns-then-len-eq0 c =
     (comes_end _ _ _ c.args.len _ c.requires.1 c.requires.0 (rw c.in-Stop.is at c.in_ok-it.ensures) c.if-len-eq0.true, tt)
 
-pub returns-else-len-eq0 : goal.returns-else-len-eq0
-returns-else-len-eq0 c =
+pub returns-in-Stop : goal.returns-in-Stop
+returns-in-Stop c =
     (comes_emptied _ _ _ c.args.len _ c.requires.1 c.requires.0 (rw c.in-Stop.is at c.in_ok-it.ensures) c.if-len-eq0.false, tt)
 
 pub returns-in-Style : goal.returns-in-Style
@@ -66,8 +66,8 @@ returns-in_err-after-in-Relabel c =
     let L = rw (added c.in-Relabel.from c.in-Relabel.count) at c.in_err-after-in-Relabel.ensures in
     rw (p.1, p.2) (comes_relabelled c.args.version c.args.s.now c.args.setting _ _ _ _ _ _ _ _ R (label_refused _ _ _ _ L.0), tt)
 
-pub returns-in_ok-after-in-Relabel : goal.returns-in_ok-after-in-Relabel
-returns-in_ok-after-in-Relabel c =
+pub returns : goal.returns
+returns c =
     let R = rw c.in-Relabel.is at c.in_ok-it.ensures in
     let L = rw (added c.in-Relabel.from c.in-Relabel.count) at c.in_ok-after-in-Relabel.ensures in
     let M = c.made_step.ensures in
