@@ -1,5 +1,5 @@
 import re,sys
-doc='/tmp/h/R/docs/PERFORMANCE.md'
+doc='docs/PERFORMANCE.md'
 runs=[open(f).read() for f in sys.argv[1:]]
 def rows(t):
     out={}; call=of=None

@@ -1,7 +1,7 @@
 #!/bin/bash
 # hot.sh LIBDIR FILE SYMBOL: the instructions of SYMBOL that run about once a record or more
 P=$1/probe/release/probe
-valgrind --tool=callgrind --dump-instr=yes --compress-pos=no --compress-strings=no --callgrind-out-file=$1/cgi --toggle-collect="probe::ours" $P /tmp/w/files/$2.3d 1 >/dev/null 2>&1
+valgrind --tool=callgrind --dump-instr=yes --compress-pos=no --compress-strings=no --callgrind-out-file=$1/cgi --toggle-collect="probe::ours" $P ${W:?}/files/$2.3d 1 >/dev/null 2>&1
 python3 - "$1" "$3" <<'P'
 import re,sys,subprocess
 d,sym=sys.argv[1:3]
